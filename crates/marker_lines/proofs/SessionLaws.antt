@@ -1,0 +1,75 @@
+-- What a session of lines does: names, values, and what is served, told by the states that sessions stand for.
+use Rattle.std.proofs.Common.{◌≡◌, ◌≢◌, ℕ, ◌<◌, ◌+◌, List, [], ◌∷◌, ◌++◌, Option, take, length, get_or, suc, zero, sym, ap, ◌∙◌, subst, refl, inl, Ok, Err, rules, arith}
+use denote.Ref.{Bor}
+use Rattle.std.specs.Io.KnownBytes.{Appends, Consumes, IsAtEnd}
+use Rattle.std.proofs.lemmas.List.{take_more}
+use Rattle.std.proofs.lemmas.List.Elements.{All-nil}
+use Rattle.marker_words.specs.declared.key.TextVariable.{TextVariable}
+use Rattle.pep508_names.specs.Name.{NormalizesTo, IsName}
+use Rattle.marker_parts.specs.declared.environment.MarkerEnvironment.{MarkerEnvironment}
+use Rattle.marker_parts.specs.Environment.{text_of, SetsText}
+use Rattle.pep508_markers.specs.Machine as Machine
+use Rattle.pep508_markers.specs.Machine.{Cells, Answer, Step}
+use Rattle.marker_lines.specs.declared.line_session.LineSession.{LineSession}
+use Rattle.marker_lines.specs.Line.{Request, evaluate}
+use Rattle.marker_lines.specs.Reply.{reply_text}
+use Rattle.marker_lines.specs.Lines.{Lines, WholeLines, LinesSoFar}
+use Rattle.marker_lines.specs.LineStep.{State, start, Sets, Names, no_more, name, RequestStep, is_evaluated, LineStep}
+use Rattle.marker_lines.specs.LineView.{texts_of}
+use Rattle.marker_lines.specs.Serving.{Answers, AnswersBeginning}
+use Rattle.marker_lines.specs.SessionView.{state_of}
+use Rattle.marker_lines.proofs.LineLaws.{whole_none}
+use Rattle.marker_lines.proofs.PortLaws.{Appends-nil, Consumes-nil}
+use Rattle.marker_lines.proofs.ServingLaws.{StepSeen, answers_none, answers_seen, beginning_seen}
+use Rattle.marker_lines.proofs.WordLaws.{texts-push}
+
+-- one more name
+pub names_then : {words names : List (List ℕ)} {word normal : List ℕ} → Names words names → NormalizesTo word normal → Names (words ++ (word ∷ [])) (names ++ (normal ∷ []))
+names_then no_more p = name p no_more
+names_then (name q n) p = name q (names_then n p)
+
+-- the same for the first words of a list
+pub names_more : {names more : List (List ℕ)} {normal : List ℕ} (words : List (Bor (List ℕ))) (i : ℕ) (d : Bor (List ℕ)) → i < length words → Names (texts_of (take i words)) names → NormalizesTo (get_or words i d).now normal → more ≡ names ++ (normal ∷ []) → Names (texts_of (take (i + 1) words)) more
+names_more {names} {more} {normal} words i d below n p made =
+    subst (Names (texts_of (take (i + 1) words))) (sym made)
+    (subst (λ (x : List (List ℕ)). Names x (names ++ (normal ∷ []))) (sym (texts-push (take i words) (get_or words i d) (take_more words i d below))) (names_then n p))
+
+-- one of the words is no name
+pub names_refused : {names : List (List ℕ)} (words : List (Bor (List ℕ))) (i : ℕ) (d : Bor (List ℕ)) → i < length words → (IsName (get_or words i d).now → ⊥) → Names (texts_of words) names → ⊥
+names_refused [] i d below refused n = omega arith
+names_refused (word ∷ words) zero d below refused (name p n) = refused (_, p)
+names_refused (word ∷ words) (suc i) d below refused (name p n) = names_refused words i d (omega arith) refused n
+
+abbrev made_of : Cells → (TextVariable → List ℕ) → State
+made_of cells value_of = record { cells = cells; value_of = value_of }
+
+-- a state by its two parts
+pub state_from : {cells : Cells} {value_of : TextVariable → List ℕ} → cells ≡ [] → value_of ≡ (λ variable. []) → made_of cells value_of ≡ start
+state_from p q = λ i. made_of (p i) (q i)
+
+-- an environment with another value of a variable
+pub sets_text : {old same new : MarkerEnvironment} {variable : TextVariable} {value given : List ℕ} → same ≡ old → given ≡ value → SetsText same new variable given → Sets (text_of old) (text_of new) variable value
+sets_text p q s = record { changed = s.changed ∙ q; others = λ o n. s.others o n ∙ ap (λ (e : MarkerEnvironment). text_of e o) p }
+
+-- a request that is written in two ways
+pub for_request : {old new : State} {reply : List ℕ} {r s : Request} → r ≡ s → RequestStep old s reply new → RequestStep old r reply new
+for_request {old} {new} {reply} e step = subst (λ (x : Request). RequestStep old x reply new) (sym e) step
+
+-- an evaluation with the names of a list
+pub evaluated : {old new : State} {cell : ℕ} {words names extras : List (List ℕ)} (answer : Answer) → Names words names → extras ≡ names → Step old.cells (Machine.evaluate cell old.value_of extras) answer new.cells → new.value_of ≡ old.value_of → RequestStep old (evaluate cell words) (reply_text answer) new
+evaluated {old} {new} {cell} {words} {names} {extras} answer n e step same = is_evaluated answer (subst (Names words) (sym e) n) step same
+
+pub ok_is_no_err : {T E : Type 0} {x : T} {e : E} → Ok x ≡ Err e → ⊥
+ok_is_no_err p = cc
+
+-- what was served
+pub answered : {session end : LineSession} {lines : List (List ℕ)} {output : List ℕ} → state_of session ≡ start → Answers (StepSeen LineStep state_of) session lines output end → Answers LineStep start lines output (state_of end)
+answered {end = end} {lines = lines} {output = output} e p = subst (λ (s : State). Answers LineStep s lines output (state_of end)) e (answers_seen LineStep state_of p)
+
+-- a beginning of it
+pub answered_beginning : {session : LineSession} {lines : List (List ℕ)} {output : List ℕ} → state_of session ≡ start → AnswersBeginning (StepSeen LineStep state_of) session lines output → AnswersBeginning LineStep start lines output
+answered_beginning {lines = lines} {output = output} e p = subst (λ (s : State). AnswersBeginning LineStep s lines output) e (beginning_seen LineStep state_of p)
+
+-- nothing read and nothing written
+pub nothing_served : (r t : Option (List ℕ)) → (input : List ℕ) × (output : List ℕ) × (lines : List (List ℕ)) × Consumes r r input × Appends t t output × LinesSoFar r input lines × AnswersBeginning LineStep start lines output
+nothing_served r t = ([], [], [], Consumes-nil r, Appends-nil t, inl ([], whole_none (All-nil (λ b. b ≢ 10))), record { answered = []; others = []; more = []; new = start; joined = refl; answers = answers_none LineStep start })

@@ -1,0 +1,16 @@
+use Rattle.std.proofs.Common.{refl}
+use Rattle.std.proofs.lemmas.Result.{on_ok_weaker}
+use Rattle.pep508_markers.specs.Session.{answer_of}
+use Rattle.marker_lines.specs.LineStep.{no_name}
+use Rattle.marker_lines.proofs.SessionLaws.{evaluated}
+use Rattle.marker_lines.proofs.line_session.LineSession.evaluate.Goals as goal
+
+pub returns-in_default : goal.returns-in_default
+returns-in_default c =
+    let none = rw c.in_default.is at c.in_ok-extras.ensures in
+    on_ok_weaker c.put.result (λ w. (_, no_name none, w)) c.put.ensures
+
+pub returns : goal.returns
+returns c =
+    let names = rw c.in-Some.is at c.in_ok-extras.ensures in
+    on_ok_weaker c.put_reply.result (λ w. (_, evaluated (answer_of c.execute-reply.result) names c.deref.ensures.value c.execute-reply.ensures refl, w)) c.put_reply.ensures

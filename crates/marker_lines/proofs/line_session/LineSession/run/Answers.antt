@@ -1,0 +1,16 @@
+use Rattle.std.proofs.Common.{refl, ap, sym, ◌∙◌}
+use Rattle.std.proofs.lemmas.Result.{on_ok_weaker}
+use Rattle.pep508_markers.specs.Session.{answer_of}
+use Rattle.marker_lines.specs.Line.{evaluate}
+use Rattle.marker_lines.specs.LineView.{texts_of, request_of}
+use Rattle.marker_lines.specs.LineStep.{is_parsed}
+use Rattle.marker_lines.proofs.SessionLaws.{for_request}
+use Rattle.marker_lines.proofs.line_session.LineSession.run.Goals as goal
+
+pub returns-in-Parse : goal.returns-in-Parse
+returns-in-Parse c =
+    on_ok_weaker c.put_reply.result (λ w. (_, for_request (ap request_of c.in-Parse.is) (is_parsed (answer_of c.execute-reply.result) c.execute-reply.ensures refl), w)) c.put_reply.ensures
+
+pub returns-in-Evaluate : goal.returns-in-Evaluate
+returns-in-Evaluate c =
+    on_ok_weaker c.evaluate.result (λ w. (w.0, for_request (ap request_of c.in-Evaluate.is ∙ ap (λ x. evaluate c.in-Evaluate.cell (texts_of x)) (sym c.deref.ensures.value)) w.1, w.2)) c.evaluate.ensures

@@ -1,0 +1,9 @@
+pub mod Fault
+pub mod Ports
+pub mod Lines
+pub mod Serving
+pub mod Line
+pub mod LineView
+pub mod Reply
+pub mod LineStep
+pub mod SessionView

@@ -1,0 +1,47 @@
+-- The machine of a session, spoken to in lines (this project). A line and its reply are given without the line feed
+-- that ends them.
+use Rattle.std.specs.Prelude.{◌≡◌, ◌≢◌, ℕ, List, [], ◌∷◌, codes}
+use Rattle.std.specs.Str.{IsUtf8}
+use Rattle.marker_words.specs.declared.key.TextVariable.{TextVariable}
+use Rattle.marker_words.specs.Key.{variable_name}
+use Rattle.pep508_names.specs.Name.{NormalizesTo}
+use Rattle.pep508_markers.specs.Machine as Machine
+use Rattle.pep508_markers.specs.Machine.{Cells, Answer, Step}
+use Rattle.marker_lines.specs.Line.{Request, set, parse, evaluate, Asks}
+use Rattle.marker_lines.specs.Reply.{reply_text}
+
+-- the cells, and the values that they are evaluated at
+pub record State : Type 0 where
+  pub cells : Cells
+  pub value_of : TextVariable → List ℕ
+
+-- no cell, and each value empty
+abbrev pub start : State
+start = record { cells = []; value_of = λ variable. [] }
+
+-- one variable has the value, and all others keep theirs
+pub record Sets (old new : TextVariable → List ℕ) (variable : TextVariable) (value : List ℕ) : Type 0 where
+  pub changed : new variable ≡ value
+  pub others : (other : TextVariable) → other ≢ variable → new other ≡ old other
+
+-- each word is a name, and these are their normal forms (PEP 503)
+pub data Names : List (List ℕ) → List (List ℕ) → Type 0 where
+  no_more : Names [] []
+  name : {word normal : List ℕ} {words names : List (List ℕ)} → NormalizesTo word normal → Names words names → Names (word ∷ words) (normal ∷ names)
+
+-- From the state old the request may be answered by this reply, and the state is new then.
+pub data RequestStep : State → Request → List ℕ → State → Type 0 where
+  -- the key is the modern name of a text variable
+  is_set : {old new : State} {key value : List ℕ} (variable : TextVariable) → key ≡ variable_name variable → new.cells ≡ old.cells → Sets old.value_of new.value_of variable value → RequestStep old (set key value) (codes "ok") new
+  no_key : {state : State} {key value : List ℕ} → ((variable : TextVariable) → key ≢ variable_name variable) → RequestStep state (set key value) (codes "error key") state
+  -- the machine answers
+  is_parsed : {old new : State} {text : List ℕ} (answer : Answer) → Step old.cells (Machine.parse text) answer new.cells → new.value_of ≡ old.value_of → RequestStep old (parse text) (reply_text answer) new
+  is_evaluated : {old new : State} {cell : ℕ} {words names : List (List ℕ)} (answer : Answer) → Names words names → Step old.cells (Machine.evaluate cell old.value_of names) answer new.cells → new.value_of ≡ old.value_of → RequestStep old (evaluate cell words) (reply_text answer) new
+  -- names are judged before the cell
+  no_name : {state : State} {cell : ℕ} {words : List (List ℕ)} → ((names : List (List ℕ)) → Names words names → ⊥) → RequestStep state (evaluate cell words) (codes "error name") state
+
+-- From the state old the line may be answered by this reply, and the state is new then.
+pub data LineStep : State → List ℕ → List ℕ → State → Type 0 where
+  no_text : {state : State} {line : List ℕ} → (IsUtf8 line → ⊥) → LineStep state line (codes "error utf8") state
+  no_command : {state : State} {line : List ℕ} → IsUtf8 line → ((request : Request) → Asks line request → ⊥) → LineStep state line (codes "error command") state
+  asked : {old new : State} {line reply : List ℕ} (request : Request) → IsUtf8 line → Asks line request → RequestStep old request reply new → LineStep old line reply new

@@ -1,0 +1,15 @@
+-- The request that a value of the crate stands for.
+use Rattle.std.specs.Prelude.{ℕ, List, map}
+use denote.Ref.{Bor}
+use Rattle.marker_lines.specs.declared.line.LineCommand.{LineCommand}
+use Rattle.marker_lines.specs.declared.line.LineCommand.TheVariants.{Set, Parse, Evaluate}
+use Rattle.marker_lines.specs.Line.{Request, set, parse, evaluate}
+
+-- the texts that references point to
+abbrev pub texts_of : List (Bor (List ℕ)) → List (List ℕ)
+texts_of words = map (λ word. word.now) words
+
+abbrev pub request_of : LineCommand → Request
+request_of (Set key value) = set key.now value.now
+request_of (Parse text) = parse text.now
+request_of (Evaluate cell names) = evaluate cell (texts_of names.items)

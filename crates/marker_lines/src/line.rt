@@ -1,0 +1,153 @@
+//! What a line of the program `markers` asks.
+
+ghost use Rattle.std.specs.Prelude.{◌≡◌, ◌≢◌, ◌<◌, ◌↔◌, ℕ, List, ◌∷◌, Err, IsTrue, IfOk, OnErr, MatchOption, EachIndex, length, slice_index, codes};
+ghost use Rattle.std.specs.Int.{IsInRange};
+ghost use Rattle.std.specs.Str.{IsUtf8};
+ghost use Rattle.std.specs.Str.Parse.{IsNumeral};
+ghost use Rattle.marker_lines.specs.Line.{HasNoSpace, Words, Request, Asks, cell_number, spaced};
+ghost use Rattle.marker_lines.specs.LineView.{texts_of, request_of};
+
+use std::alloc::Global;
+
+/// Why a line asks nothing.
+#[derive(Clone, Copy, Debug, PartialEq, Eq, Hash)]
+pub enum LineFault {
+    /// The line's bytes are not UTF-8.
+    NotUtf8,
+    /// The line has none of the forms of [`LineCommand`].
+    Malformed,
+    /// Room for the line's words was refused.
+    OutOfMemory,
+}
+
+/// What a line asks. Words are parted by exactly one space. Keys, names and texts are as they
+/// stand in the line, and not judged.
+#[derive(Debug, Drop)]
+pub enum LineCommand<'a> {
+    /// `env KEY VALUE`, the value being the rest of the line as it is.
+    Set { key: &'a str, value: &'a str },
+    /// `parse TEXT`, the text being the rest of the line as it is.
+    Parse(&'a str),
+    /// `eval A NAME ..`, with any number of names. A is a number in ASCII digits; one beyond
+    /// `usize::MAX` is read as that.
+    Evaluate { cell: usize, names: Vec<&'a str> },
+}
+
+impl<'a> LineCommand<'a> {
+    /// Reads a line, which is given without its line feed.
+    ///
+    /// A line that is not UTF-8 is `NotUtf8`. Any other that has none of the forms above is
+    /// `Malformed`: another command word, a wrong number of words, two spaces in a row or a space
+    /// at the end outside of a value or a text, a cell that is no number.
+    pub fn read(alloc: Global, line: &'a [u8]) -> Result<LineCommand<'a>, LineFault>
+        ensures asks { IfOk result (λ command. Asks line.now (request_of command)) }
+        ensures only { IfOk result (λ command. (request : Request) → Asks line.now request → request ≡ request_of command) }
+        ensures utf8 { result ≢ Err LineFault.NotUtf8 → IsUtf8 line.now }
+
+        ensures not_utf8 { result ≡ Err LineFault.NotUtf8 → IsUtf8 line.now → ⊥ }
+        ensures malformed { result ≡ Err LineFault.Malformed → (request : Request) → Asks line.now request → ⊥ }
+    {
+        let Ok(text) = str::from_utf8(line) else {
+            return Err(LineFault::NotUtf8);
+        };
+        let Some((command, rest)) = split_word(text) else {
+            return Err(LineFault::Malformed);
+        };
+        match command {
+            "env" => read_set(rest),
+            "parse" => Ok(LineCommand::Parse(rest)),
+            "eval" => read_evaluate(alloc, rest),
+            _ => Err(LineFault::Malformed),
+        }
+    }
+}
+
+// What follows `env `.
+fn read_set<'a>(rest: &'a str) -> Result<LineCommand<'a>, LineFault>
+    ensures asks { IfOk result (λ command. Asks (spaced (codes "env") rest.now) (request_of command)) }
+    ensures err { OnErr result (result ≡ Err LineFault.Malformed) }
+    ensures malformed { OnErr result ((request : Request) → Asks (spaced (codes "env") rest.now) request → ⊥) }
+{
+    match split_word(rest) {
+        Some((key, value)) => Ok(LineCommand::Set { key, value }),
+        None => Err(LineFault::Malformed),
+    }
+}
+
+// What follows `eval `.
+fn read_evaluate<'a>(alloc: Global, rest: &'a str) -> Result<LineCommand<'a>, LineFault>
+    ensures asks { IfOk result (λ command. Asks (spaced (codes "eval") rest.now) (request_of command)) }
+    ensures text { result ≢ Err LineFault.NotUtf8 }
+    ensures malformed { result ≡ Err LineFault.Malformed → (request : Request) → Asks (spaced (codes "eval") rest.now) request → ⊥ }
+{
+    let (cell, names) = cell_and_names(alloc, rest)?;
+    Ok(LineCommand::Evaluate { cell, names })
+}
+
+// The number of a cell, and any number of names.
+fn cell_and_names<'a>(alloc: Global, rest: &'a str) -> Result<(usize, Vec<&'a str>), LineFault>
+    ensures read { IfOk result (λ pair. (cell : List ℕ) × Words rest.now (cell ∷ texts_of pair.1.items) × IsNumeral 10 cell × (pair.0 ≡ cell_number cell)) }
+    ensures malformed { result ≡ Err LineFault.Malformed → (cell : List ℕ) (names : List (List ℕ)) → Words rest.now (cell ∷ names) → IsNumeral 10 cell → ⊥ }
+    ensures text { result ≢ Err LineFault.NotUtf8 }
+{
+    let Some((number, names)) = split_word(rest) else {
+        let Some(cell) = read_cell(rest) else {
+            return Err(LineFault::Malformed);
+        };
+        return Ok((cell, Vec::new(alloc)));
+    };
+    let Some(cell) = read_cell(number) else {
+        return Err(LineFault::Malformed);
+    };
+    Ok((cell, words(alloc, names)?))
+}
+
+// The words of a text.
+fn words<'a>(alloc: Global, text: &'a str) -> Result<Vec<&'a str>, LineFault>
+    ensures words { IfOk result (λ words. Words text.now (texts_of words.items)) }
+    ensures malformed { result ≡ Err LineFault.Malformed → (words : List (List ℕ)) → Words text.now words → ⊥ }
+    ensures text { result ≢ Err LineFault.NotUtf8 }
+{
+    let mut words = Vec::new(alloc);
+    let mut rest = text;
+    while let Some((word, after)) = split_word(rest) {
+        if word.is_empty() {
+            return Err(LineFault::Malformed);
+        }
+        let Ok(()) = words.push(word) else {
+            return Err(LineFault::OutOfMemory);
+        };
+        rest = after;
+    }
+    if rest.is_empty() {
+        return Err(LineFault::Malformed);
+    }
+    match words.push(rest) {
+        Ok(()) => Ok(words),
+        Err(_) => Err(LineFault::OutOfMemory),
+    }
+}
+
+// What comes before the first space, and after it.
+fn split_word(text: &str) -> Option<(&str, &str)>
+    ensures { MatchOption result (HasNoSpace text.now) (λ parts. HasNoSpace parts.0.now × (text.now ≡ spaced parts.0.now parts.1.now)) }
+{
+    text.split_once(' ')
+}
+
+// The number of a cell.
+fn read_cell(word: &str) -> Option<usize>
+    ensures { MatchOption result (IsNumeral 10 word.now → ⊥) (λ cell. IsNumeral 10 word.now × (cell ≡ cell_number word.now)) }
+{
+    if !is_number(word.as_bytes()) {
+        return None;
+    }
+    Some(word.parse().unwrap_or(usize::MAX))
+}
+
+// One ASCII digit or more, and nothing else.
+fn is_number(word: &[u8]) -> bool
+    ensures { IsTrue result ↔ ((0 < length word.now) × EachIndex word.now (λ k. IsInRange 48 57 (slice_index word.now k))) }
+{
+    !word.is_empty() && word.iter().all(|b| b.is_ascii_digit())
+}

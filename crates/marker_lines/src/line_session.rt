@@ -1,0 +1,186 @@
+//! A session that is spoken to in lines.
+
+ghost use Rattle.std.specs.Prelude.{◌≡◌, ◌≢◌, ◌++◌, [], ℕ, List, Option, IsTrue, Err, IfOk, OnOk, OnErr, MatchOption};
+ghost use Rattle.marker_parts.specs.Environment.{text_of};
+ghost use Rattle.std.specs.Io.KnownBytes.{Appends, Consumes, IsAtEnd};
+ghost use Rattle.marker_words.specs.declared.key.TextVariable.{TextVariable};
+ghost use Rattle.marker_words.specs.Key.{variable_name};
+ghost use Rattle.marker_lines.specs.Line.{Request, set, evaluate};
+ghost use Rattle.marker_lines.specs.LineView.{texts_of, request_of};
+ghost use Rattle.marker_lines.specs.LineStep.{State, start, Names, RequestStep, LineStep};
+ghost use Rattle.marker_lines.specs.Lines.{WholeLines, Lines, LinesSoFar};
+ghost use Rattle.marker_lines.specs.Serving.{Answers, AnswersBeginning};
+ghost use Rattle.marker_lines.specs.SessionView.{state_of};
+
+use crate::fault::ServeFault;
+use crate::line::{LineCommand, LineFault};
+use crate::reply::{put, put_reply};
+use crate::serving::{Answer, serve_lines};
+use crate::sink::Sink;
+use crate::source::Source;
+use marker_parts::{MarkerEnvironment, MarkerEnvironmentBuilder, Refusal};
+use marker_words::TextVariable;
+use pep508_markers::{Command, Session};
+use pep508_names::ExtraName;
+use std::alloc::{AllocError, Global};
+use std::mem;
+
+// A session, and the environment in which its cells are evaluated.
+#[derive(Drop)]
+struct LineSession {
+    alloc: Global,
+    session: Session,
+    environment: MarkerEnvironment,
+}
+
+impl LineSession {
+    // A session with no cells, and an environment of empty texts.
+    fn new(alloc: Global) -> Result<LineSession, AllocError>
+        ensures { IfOk result (λ session. state_of session ≡ start) }
+    {
+        Ok(LineSession {
+            alloc,
+            session: Session::new(alloc),
+            environment: empty_environment(alloc)?,
+        })
+    }
+
+    // Does what a line asks, and adds the reply.
+    fn run(&mut self, command: LineCommand<'_>, replies: &mut Vec<u8>) -> Result<(), AllocError>
+        ensures { OnOk result ((reply : List ℕ) × RequestStep (state_of self.old) (request_of command.entry) reply (state_of self.new) × (replies.new.items ≡ replies.old.items ++ reply)) }
+    {
+        match command {
+            LineCommand::Set { key, value } => self.set(key, value, replies),
+            LineCommand::Parse(text) => {
+                let reply = self.session.execute(Command::Parse(text));
+                put_reply(self.alloc, replies, &reply)
+            }
+            LineCommand::Evaluate { cell, names } => self.evaluate(cell, &names, replies),
+        }
+    }
+
+    // Sets a value of the environment.
+    fn set(&mut self, key: &str, value: &str, replies: &mut Vec<u8>) -> Result<(), AllocError>
+        ensures { OnOk result ((reply : List ℕ) × RequestStep (state_of self.old) (set key.now value.now) reply (state_of self.new) × (replies.new.items ≡ replies.old.items ++ reply)) }
+    {
+        let Some(variable) = text_variable(key) else {
+            return put(replies, "error key");
+        };
+        let value = String::from_str(self.alloc, value)?;
+        let environment = mem::replace(&mut self.environment, empty_environment(self.alloc)?);
+        self.environment = environment.with_string(variable, value);
+        put(replies, "ok")
+    }
+
+    // Evaluates a cell with extras. Names are judged before the cell.
+    fn evaluate(
+        &mut self,
+        cell: usize,
+        words: &[&str],
+        replies: &mut Vec<u8>,
+    ) -> Result<(), AllocError>
+        ensures { OnOk result ((reply : List ℕ) × RequestStep (state_of self.old) (evaluate cell (texts_of words.now)) reply (state_of self.new) × (replies.new.items ≡ replies.old.items ++ reply)) }
+    {
+        let Some(extras) = read_names(self.alloc, words)? else {
+            return put(replies, "error name");
+        };
+        let reply = self
+            .session
+            .execute(Command::Evaluate(cell, &self.environment, &extras));
+        put_reply(self.alloc, replies, &reply)
+    }
+}
+
+impl Answer for LineSession {
+    ghost step = { λ old line reply new. LineStep (state_of old) line reply (state_of new) };
+
+    fn answer(&mut self, line: &[u8], replies: &mut Vec<u8>) -> Result<(), AllocError> {
+        match LineCommand::read(self.alloc, line) {
+            Ok(command) => self.run(command, replies),
+            Err(LineFault::NotUtf8) => put(replies, "error utf8"),
+            Err(LineFault::Malformed) => put(replies, "error command"),
+            Err(LineFault::OutOfMemory) => Err(AllocError),
+        }
+    }
+}
+
+// The environment in which each value is empty.
+fn empty_environment(alloc: Global) -> Result<MarkerEnvironment, AllocError>
+    ensures { IfOk result (λ environment. text_of environment ≡ (λ variable. [])) }
+{
+    MarkerEnvironment::try_from(
+        alloc,
+        MarkerEnvironmentBuilder {
+            implementation_name: "",
+            os_name: "",
+            platform_machine: "",
+            platform_python_implementation: "",
+            platform_release: "",
+            platform_system: "",
+            platform_version: "",
+            sys_platform: "",
+        },
+    )
+}
+
+// The text variable whose modern name this is.
+fn text_variable(key: &str) -> Option<TextVariable>
+    ensures { MatchOption result ((variable : TextVariable) → key.now ≢ variable_name variable) (λ variable. key.now ≡ variable_name variable) }
+{
+    match key {
+        "implementation_name" => Some(TextVariable::ImplementationName),
+        "os_name" => Some(TextVariable::OsName),
+        "platform_machine" => Some(TextVariable::PlatformMachine),
+        "platform_python_implementation" => Some(TextVariable::PlatformPythonImplementation),
+        "platform_release" => Some(TextVariable::PlatformRelease),
+        "platform_system" => Some(TextVariable::PlatformSystem),
+        "platform_version" => Some(TextVariable::PlatformVersion),
+        "sys_platform" => Some(TextVariable::SysPlatform),
+        _ => None,
+    }
+}
+
+// The names of extras, or nothing where a word is no name.
+fn read_names(alloc: Global, words: &[&str]) -> Result<Option<Vec<ExtraName>>, AllocError>
+    ensures { IfOk result (λ read. MatchOption read ((names : List (List ℕ)) → Names (texts_of words.now) names → ⊥) (λ names. Names (texts_of words.now) names.items)) }
+{
+    let mut names = Vec::new(alloc);
+    for word in words {
+        match ExtraName::parse(alloc, word) {
+            Ok(name) => names.push(name)?,
+            Err(Refusal::Fault(_)) => return Ok(None),
+            Err(Refusal::OutOfMemory | Refusal::SegmentAtEnd) => return Err(AllocError),
+        }
+    }
+    Ok(Some(names))
+}
+
+/// Answers each line that the reader gives with a line to the writer, in order, until no line is
+/// left: `env KEY VALUE`, `parse TEXT` and `eval A NAME ..`, beginning with no cells and an
+/// environment of empty texts. The replies to all whole lines read so far are written before the
+/// reader is asked again.
+///
+/// `Err` is `Input` where the reader failed, `Output` where the writer failed, and else `Memory`,
+/// where room for a line, its words or its reply was refused. After a failed read the replies to
+/// all whole lines that were read are written, after the other two a beginning of them.
+pub fn serve<R: Source, W: Sink>(
+    alloc: Global,
+    reader: &mut R,
+    writer: &mut W,
+) -> Result<(), ServeFault>
+    ensures ok { OnOk result (IsAtEnd (R.remaining reader.new) × ((input output : List ℕ) × (lines : List (List ℕ)) × (end : State) × Consumes (R.remaining reader.old) (R.remaining reader.new) input × Appends (W.contents writer.old) (W.contents writer.new) output × Lines input lines × Answers LineStep start lines output end)) }
+    ensures input { result ≡ Err ServeFault.Input → ((input output : List ℕ) × (lines : List (List ℕ)) × (rest : List ℕ) × (end : State) × Consumes (R.remaining reader.old) (R.remaining reader.new) input × Appends (W.contents writer.old) (W.contents writer.new) output × WholeLines input lines rest × Answers LineStep start lines output end) }
+    ensures err { OnErr result ((input output : List ℕ) × (lines : List (List ℕ)) × Consumes (R.remaining reader.old) (R.remaining reader.new) input × Appends (W.contents writer.old) (W.contents writer.new) output × LinesSoFar (R.remaining reader.new) input lines × AnswersBeginning LineStep start lines output) }
+
+    // Which fault it is.
+    ensures input_failed { result ≡ Err ServeFault.Input → IsTrue (R.has_failed reader.new) }
+    ensures input_sound { result ≢ Err ServeFault.Input → R.has_failed reader.new ≡ R.has_failed reader.old }
+    ensures output_failed { result ≡ Err ServeFault.Output → IsTrue (W.has_failed writer.new) }
+    ensures output_sound { result ≢ Err ServeFault.Output → W.has_failed writer.new ≡ W.has_failed writer.old }
+    ensures no_usage { result ≢ Err ServeFault.Usage }
+{
+    let Ok(mut session) = LineSession::new(alloc) else {
+        return Err(ServeFault::Memory);
+    };
+    serve_lines(alloc, &mut session, reader, writer)
+}

@@ -1,0 +1,3 @@
+pub mod ComparisonLaws
+mod MeaningLaws
+mod SubstringLaws

@@ -1,0 +1,80 @@
+-- One comparison of a marker: how it is written, what it asks, and which kinds of warnings it gives (PEP 508, and this
+-- project's rows of what is dropped). The comparison with a version key is not told yet.
+use Rattle.std.specs.Prelude.{◌≡◌, ℕ, List, [], ◌∷◌, ◌++◌, Option, Some, None, if◌then◌else◌}
+use Rattle.pep508_names.specs.Name.{NormalizesTo, IsName}
+use Rattle.marker_words.specs.declared.key.MarkerValueString.{MarkerValueString}
+use Rattle.marker_words.specs.declared.key.MarkerValueVersion.{MarkerValueVersion}
+use Rattle.marker_words.specs.declared.operator.MarkerOperator.{MarkerOperator}
+use Rattle.marker_words.specs.declared.operator.MarkerOperator.TheVariants.{Equal, NotEqual, TildeEqual}
+use Rattle.marker_words.specs.declared.operator.ExtraOperator.TheVariants as extra_operators
+use Rattle.marker_words.specs.Key.{is_deprecated}
+use Rattle.marker_words.specs.Operator.{turned}
+use Rattle.marker_words.specs.Lexical.{Value, version_key, text_key, quoted, Sides}
+use Rattle.marker_words.specs.Lexical as lexical
+use Rattle.marker_parts.specs.declared.warning.MarkerWarningKind.{MarkerWarningKind}
+use Rattle.marker_parts.specs.declared.warning.MarkerWarningKind.TheVariants.{DeprecatedMarkerName, ExtraInvalidComparison, LexicographicComparison, MarkerMarkerComparison, StringStringComparison}
+use Rattle.marker_parts.specs.Expression.{Extra, name, arbitrary, Test, text, extra}
+
+-- what a comparison asks, or nothing where it is dropped, and the kinds of its warnings in order
+pub record Meaning : Type 0 where
+  pub test : Option Test
+  pub kinds : List MarkerWarningKind
+
+abbrev pub dropped : List MarkerWarningKind → Meaning
+dropped kinds = record { test = None; kinds = kinds }
+
+abbrev pub kept : Test → List MarkerWarningKind → Meaning
+kept t kinds = record { test = Some t; kinds = kinds }
+
+-- a deprecated spelling is warned of where it stands
+abbrev pub key_kinds : MarkerValueString → List MarkerWarningKind
+key_kinds key = if is_deprecated key then DeprecatedMarkerName ∷ [] else []
+
+-- what a text that is no name is warned of
+abbrev pub extra_kinds : Extra → List MarkerWarningKind
+extra_kinds (name n) = []
+extra_kinds (arbitrary t) = ExtraInvalidComparison ∷ []
+
+-- a text key beside a quoted text: texts are not compared by `~=`
+abbrev pub text_meaning : MarkerValueString → MarkerOperator → List ℕ → Meaning
+text_meaning key TildeEqual value = dropped (key_kinds key ++ (LexicographicComparison ∷ []))
+text_meaning key operator value = kept (text key operator value) (key_kinds key)
+
+-- which extra a quoted text is, and the kinds of warnings of it: a text that is no name is an arbitrary extra
+pub data IsExtra : List ℕ → Extra → List MarkerWarningKind → Type 0 where
+  named : {t n : List ℕ} → NormalizesTo t n → IsExtra t (name n) []
+  unnamed : {t : List ℕ} → ¬ IsName t → IsExtra t (arbitrary t) (ExtraInvalidComparison ∷ [])
+
+-- `extra` beside a quoted text: extras are only equal or not
+abbrev pub extra_meaning : MarkerOperator → Extra → List MarkerWarningKind → Meaning
+extra_meaning Equal x kinds = kept (extra extra_operators.Equal x) kinds
+extra_meaning NotEqual x kinds = kept (extra extra_operators.NotEqual x) kinds
+extra_meaning operator x kinds = dropped (kinds ++ (ExtraInvalidComparison ∷ []))
+
+pub data Means : Value → MarkerOperator → Value → Meaning → Type 0 where
+  key_and_text : {key : MarkerValueString} {operator : MarkerOperator} {t : List ℕ} → Means (text_key key) operator (quoted t) (text_meaning key operator t)
+  text_and_key : {key : MarkerValueString} {operator : MarkerOperator} {t : List ℕ} → Means (quoted t) operator (text_key key) (text_meaning key (turned operator) t)
+  extra_and_text : {operator : MarkerOperator} {t : List ℕ} {x : Extra} {kinds : List MarkerWarningKind} → IsExtra t x kinds → Means lexical.extra operator (quoted t) (extra_meaning operator x kinds)
+  text_and_extra : {operator : MarkerOperator} {t : List ℕ} {x : Extra} {kinds : List MarkerWarningKind} → IsExtra t x kinds → Means (quoted t) operator lexical.extra (extra_meaning operator x kinds)
+  two_keys : {left right : MarkerValueString} {operator : MarkerOperator} → Means (text_key left) operator (text_key right) (dropped (key_kinds left ++ (key_kinds right ++ (MarkerMarkerComparison ∷ []))))
+  key_and_extra : {key : MarkerValueString} {operator : MarkerOperator} → Means (text_key key) operator lexical.extra (dropped (key_kinds key ++ (MarkerMarkerComparison ∷ [])))
+  extra_and_key : {key : MarkerValueString} {operator : MarkerOperator} → Means lexical.extra operator (text_key key) (dropped (key_kinds key ++ (ExtraInvalidComparison ∷ [])))
+  two_extras : {operator : MarkerOperator} → Means lexical.extra operator lexical.extra (dropped (ExtraInvalidComparison ∷ []))
+  two_texts : {s t : List ℕ} {operator : MarkerOperator} → Means (quoted s) operator (quoted t) (dropped (StringStringComparison ∷ []))
+
+-- a version key stands on one side
+pub data HasVersionKey : Value → Value → Type 0 where
+  on_left : {key : MarkerValueVersion} {right : Value} → HasVersionKey (version_key key) right
+  on_right : {left : Value} {key : MarkerValueVersion} → HasVersionKey left (version_key key)
+
+-- a comparison at the front of the text, and what is left behind it
+pub data Compared : List ℕ → List ℕ → Meaning → Type 0 where
+  compared : {input output : List ℕ} {left right : Value} {operator : MarkerOperator} {m : Meaning} →
+      Sides input output left operator right → Means left operator right m → Compared input output m
+
+-- `extra` and this text, with the operator between them, come to this
+pub record MeansExtra (t : List ℕ) (operator : MarkerOperator) (m : Meaning) : Type 0 where
+  pub which : Extra
+  pub kinds : List MarkerWarningKind
+  pub is_extra : IsExtra t which kinds
+  pub means : m ≡ extra_meaning operator which kinds

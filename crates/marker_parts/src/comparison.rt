@@ -1,0 +1,67 @@
+//! The reader of one comparison (PEP 508, "Grammar").
+
+ghost use Rattle.std.specs.Prelude.{◌≡◌, ◌<◌, IfErr, IfOk, OnErr, length};
+ghost use Rattle.pep508_text.specs.Suffix.{IsSuffix};
+ghost use Rattle.marker_parts.specs.Read.{ReadsComparison, IsRefused};
+
+use crate::expression::MarkerExpression;
+use crate::outcome::Outcome;
+use crate::warning::MarkerWarningKind;
+use marker_words::{Fault, sides};
+use std::alloc::{AllocError, Global};
+
+/// Why a comparison was not read.
+#[derive(Clone, Copy, Debug, PartialEq, Eq)]
+pub enum ComparisonError<'a> {
+    /// Memory ran out.
+    OutOfMemory,
+    /// A version key stands on one side. Such comparisons are not read yet.
+    Later,
+    /// No comparison stands there.
+    Fault(Fault<'a>),
+}
+
+impl From<AllocError> for ComparisonError<'_> {
+    ghost use Rattle.marker_parts.specs.declared.comparison.ComparisonError.TheVariants.{OutOfMemory};
+
+    ghost from_gives = { λ _ error. error ≡ OutOfMemory };
+
+    fn from(_error: AllocError) -> Self {
+        ComparisonError::OutOfMemory
+    }
+}
+
+impl<'a> From<Fault<'a>> for ComparisonError<'a> {
+    ghost use Rattle.marker_parts.specs.declared.comparison.ComparisonError.TheVariants.{Fault as AtFault};
+
+    ghost from_gives = { λ fault error. error ≡ AtFault fault };
+
+    fn from(fault: Fault<'a>) -> Self {
+        ComparisonError::Fault(fault)
+    }
+}
+
+/// Reads the comparison at the front of the text: its expression, or nothing where it is dropped, and the
+/// text that is left. The kinds of its warnings are put at the end of the list.
+///
+/// A refusal leaves the list as it was.
+#[tactic(auto, using(crate::proofs::ComparisonLaws::no_comparison))]
+pub fn read_comparison<'a>(
+    alloc: Global,
+    text: &'a str,
+    kinds: &mut Vec<MarkerWarningKind>,
+) -> Result<(Option<MarkerExpression>, &'a str), ComparisonError<'a>>
+    ensures found { IfOk result (λ read. ReadsComparison text.now read.1.now read.0 kinds.old.items kinds.new.items) }
+    ensures suffix { IfOk result (λ read. IsSuffix text.now read.1.now) }
+    ensures shorter { IfOk result (λ read. length read.1.now < length text.now) }
+
+    ensures refused { IfErr result (IsRefused text.now) }
+    ensures unchanged { OnErr result (kinds.new.items ≡ kinds.old.items) }
+{
+    let (comparison, rest) = sides(text)?;
+    let Some(mut outcome) = Outcome::of(alloc, comparison)? else {
+        return Err(ComparisonError::Later);
+    };
+    kinds.append(&mut outcome.kinds)?;
+    Ok((outcome.expression, rest))
+}

@@ -1,0 +1,186 @@
+//! What a comparison comes to: its expression, or nothing where it is dropped, and its warnings.
+
+ghost use Rattle.std.specs.Prelude.{◌≡◌};
+ghost use Rattle.marker_words.specs.Key.{is_deprecated};
+
+use crate::expression::{MarkerExpression, MarkerValueExtra};
+use crate::warning::MarkerWarningKind;
+use marker_words::{
+    ComparisonRef, ExtraOperator, MarkerOperator, MarkerValueRef, MarkerValueString,
+};
+use pep508_names::ExtraName;
+use refusal::Refusal;
+use std::alloc::{AllocError, Global};
+
+// What a comparison comes to: its expression, or nothing where it is dropped, and the kinds of its
+// warnings in order.
+#[derive(Debug, Drop)]
+pub(crate) struct Outcome {
+    pub(crate) expression: Option<MarkerExpression>,
+    pub(crate) kinds: Vec<MarkerWarningKind>,
+}
+
+impl Outcome {
+    ghost use Rattle.std.specs.Prelude.{◌++◌, ◌∷◌, [], List, IfOk, IfSome, IfNone, OnOk};
+    ghost use Rattle.marker_parts.specs.declared.warning.MarkerWarningKind.{MarkerWarningKind};
+    ghost use Rattle.marker_parts.specs.Expression.{extra_of};
+    ghost use Rattle.marker_parts.specs.Comparison.{key_kinds, extra_kinds, dropped, text_meaning, extra_meaning, IsExtra, Means, HasVersionKey, MeansExtra};
+    ghost use Rattle.marker_words.specs.Part.{value_of};
+    ghost use Rattle.marker_parts.specs.Read.{meaning_of};
+
+    // What two sides and the operator between them come to, or `None` where one is a version key.
+    #[tactic(auto, using(crate::proofs::MeaningLaws::key_then_text, crate::proofs::MeaningLaws::text_then_key, crate::proofs::MeaningLaws::extra_then_text, crate::proofs::MeaningLaws::text_then_extra, crate::proofs::MeaningLaws::key_then_key, crate::proofs::MeaningLaws::key_then_extra, crate::proofs::MeaningLaws::extra_then_key, crate::proofs::MeaningLaws::extra_then_extra, crate::proofs::MeaningLaws::text_then_text, crate::proofs::MeaningLaws::version_on_left, crate::proofs::MeaningLaws::version_on_right))]
+    pub(crate) fn of(
+        alloc: Global,
+        comparison: ComparisonRef<'_>,
+    ) -> Result<Option<Outcome>, AllocError>
+        ensures means { IfOk result (λ found. IfSome found (λ outcome. Means (value_of comparison.entry.left) comparison.entry.operator (value_of comparison.entry.right) (meaning_of outcome))) }
+        ensures version { IfOk result (λ found. IfNone found (HasVersionKey (value_of comparison.entry.left) (value_of comparison.entry.right))) }
+    {
+        let operator = comparison.operator;
+        match (comparison.left, comparison.right) {
+            (MarkerValueRef::MarkerEnvVersion(_), _) | (_, MarkerValueRef::MarkerEnvVersion(_)) =>
+                Ok(None),
+            (MarkerValueRef::MarkerEnvString(key), MarkerValueRef::QuotedString(text)) => {
+                Ok(Some(Outcome::of_text(alloc, key, operator, text)?))
+            }
+            (MarkerValueRef::QuotedString(text), MarkerValueRef::MarkerEnvString(key)) => {
+                Ok(Some(Outcome::of_text(alloc, key, operator.turned(), text)?))
+            }
+            (MarkerValueRef::Extra, MarkerValueRef::QuotedString(text)) => {
+                Ok(Some(Outcome::of_extra(alloc, operator, text)?))
+            }
+            (MarkerValueRef::QuotedString(text), MarkerValueRef::Extra) => {
+                Ok(Some(Outcome::of_extra(alloc, operator, text)?))
+            }
+            (MarkerValueRef::MarkerEnvString(left), MarkerValueRef::MarkerEnvString(right)) => {
+                let mut kinds = Outcome::kinds_of(alloc, left)?;
+                Outcome::warn_of(&mut kinds, right)?;
+                let reason = MarkerWarningKind::MarkerMarkerComparison;
+                Ok(Some(Outcome::dropped(kinds, reason)?))
+            }
+            (MarkerValueRef::MarkerEnvString(key), MarkerValueRef::Extra) => {
+                let kinds = Outcome::kinds_of(alloc, key)?;
+                let reason = MarkerWarningKind::MarkerMarkerComparison;
+                Ok(Some(Outcome::dropped(kinds, reason)?))
+            }
+            (MarkerValueRef::Extra, MarkerValueRef::MarkerEnvString(key)) => {
+                let kinds = Outcome::kinds_of(alloc, key)?;
+                let reason = MarkerWarningKind::ExtraInvalidComparison;
+                Ok(Some(Outcome::dropped(kinds, reason)?))
+            }
+            (MarkerValueRef::Extra, MarkerValueRef::Extra) => {
+                let reason = MarkerWarningKind::ExtraInvalidComparison;
+                Ok(Some(Outcome::dropped(Vec::new(alloc), reason)?))
+            }
+            (MarkerValueRef::QuotedString(_), MarkerValueRef::QuotedString(_)) => {
+                let reason = MarkerWarningKind::StringStringComparison;
+                Ok(Some(Outcome::dropped(Vec::new(alloc), reason)?))
+            }
+        }
+    }
+
+    // A deprecated spelling is warned of.
+    fn warn_of(kinds: &mut Vec<MarkerWarningKind>, key: MarkerValueString) -> Result<(), AllocError>
+        ensures { OnOk result (kinds.new.items ≡ kinds.old.items ++ key_kinds key) }
+    {
+        if is_deprecated(key) {
+            kinds.push(MarkerWarningKind::DeprecatedMarkerName)?;
+        }
+        Ok(())
+    }
+
+    fn kinds_of(alloc: Global, key: MarkerValueString) -> Result<Vec<MarkerWarningKind>, AllocError>
+        ensures { IfOk result (λ kinds. kinds.items ≡ key_kinds key) }
+    {
+        let mut kinds = Vec::new(alloc);
+        Outcome::warn_of(&mut kinds, key)?;
+        Ok(kinds)
+    }
+
+    // A comparison that is left out, for a reason of its own.
+    fn dropped(
+        mut kinds: Vec<MarkerWarningKind>,
+        reason: MarkerWarningKind,
+    ) -> Result<Outcome, AllocError>
+        ensures { IfOk result (λ outcome. meaning_of outcome ≡ dropped (kinds.items ++ (reason ∷ []))) }
+    {
+        kinds.push(reason)?;
+        Ok(Outcome {
+            expression: None,
+            kinds,
+        })
+    }
+
+    // A text key beside a quoted text.
+    fn of_text(
+        alloc: Global,
+        key: MarkerValueString,
+        operator: MarkerOperator,
+        text: &str,
+    ) -> Result<Outcome, AllocError>
+        ensures { IfOk result (λ outcome. meaning_of outcome ≡ text_meaning key operator text.now) }
+    {
+        let kinds = Outcome::kinds_of(alloc, key)?;
+        if operator == MarkerOperator::TildeEqual {
+            return Outcome::dropped(kinds, MarkerWarningKind::LexicographicComparison);
+        }
+        let value = String::from_str(alloc, text)?;
+        Ok(Outcome {
+            expression: Some(MarkerExpression::String {
+                key,
+                operator,
+                value,
+            }),
+            kinds,
+        })
+    }
+
+    // A text that is no name is an arbitrary extra.
+    #[tactic(auto, using(crate::proofs::MeaningLaws::extra_by_name, crate::proofs::MeaningLaws::extra_by_text))]
+    fn extra(alloc: Global, text: &str) -> Result<MarkerValueExtra, AllocError>
+        ensures { IfOk result (λ extra. IsExtra text.now (extra_of extra) (extra_kinds (extra_of extra))) }
+    {
+        match ExtraName::parse(alloc, text) {
+            Ok(name) => Ok(MarkerValueExtra::Extra(name)),
+            Err(Refusal::Fault(_)) => Ok(MarkerValueExtra::Arbitrary(String::from_str(
+                alloc, text,
+            )?)),
+            Err(Refusal::OutOfMemory | Refusal::SegmentAtEnd) => Err(AllocError),
+        }
+    }
+
+    // `extra` beside a quoted text.
+    fn of_extra(alloc: Global, operator: MarkerOperator, text: &str) -> Result<Outcome, AllocError>
+        ensures { IfOk result (λ outcome. MeansExtra text.now operator (meaning_of outcome)) }
+    {
+        let name = Outcome::extra(alloc, text)?;
+        let mut kinds = Vec::new(alloc);
+        if let MarkerValueExtra::Arbitrary(_) = name {
+            kinds.push(MarkerWarningKind::ExtraInvalidComparison)?;
+        }
+        let operator = match operator {
+            MarkerOperator::Equal => ExtraOperator::Equal,
+            MarkerOperator::NotEqual => ExtraOperator::NotEqual,
+            _ => return Outcome::dropped(kinds, MarkerWarningKind::ExtraInvalidComparison),
+        };
+        Ok(Outcome {
+            expression: Some(MarkerExpression::Extra { operator, name }),
+            kinds,
+        })
+    }
+}
+
+fn is_deprecated(key: MarkerValueString) -> bool
+    ensures { result ≡ is_deprecated key }
+{
+    matches!(
+        key,
+        MarkerValueString::OsNameDeprecated
+            | MarkerValueString::PlatformMachineDeprecated
+            | MarkerValueString::PlatformPythonImplementationDeprecated
+            | MarkerValueString::PythonImplementationDeprecated
+            | MarkerValueString::PlatformVersionDeprecated
+            | MarkerValueString::SysPlatformDeprecated
+    )
+}

@@ -1,0 +1,48 @@
+use Rattle.std.proofs.Common.{sym, rules, refl, ◌∙◌}
+use Rattle.pep508_text.proofs.SuffixLaws.{suffix_then}
+use Rattle.pep508_text.specs.declared.classes.Class.TheVariants.{KeyPart}
+use Rattle.marker_words.specs.declared.fault.FaultKind.TheVariants.{ValueAtEnd, Unclosed, NoValue}
+use Rattle.marker_words.specs.Fault.{quotes}
+use Rattle.marker_words.specs.Lexical.{IsQuote}
+use Rattle.marker_words.proofs.FaultLaws.{fault_at_end, fault_at_first, fault_at_run, run_longest}
+use Rattle.marker_words.proofs.ValueLaws.{quoted_value, no_value_at_end, no_value_unclosed, no_value_named, named_found, named_shorter}
+use Rattle.marker_words.proofs.lexical.value.Goals as goal
+
+pub returns-in_default-clause-none : goal.returns-in_default-clause-none
+returns-in_default-clause-none c output value v = no_value_at_end c.in_default.ensures.characters v
+
+pub returns-in_default-clause-fault : goal.returns-in_default-clause-fault
+returns-in_default-clause-fault c = fault_at_end _ _ ValueAtEnd _ _ c.at_end.ensures.kind c.at_end.ensures.piece c.at_end.ensures.left refl
+
+pub returns-in-Some-first-clause-found : goal.returns-in-Some-first-clause-found
+returns-in-Some-first-clause-found c =
+    let is_quote : IsQuote c.in-Some.c = search rules in
+    quoted_value _ _ _ _ _ _ c.in-Some.ensures.characters is_quote (sym c.split_run.ensures.rest ∙ c.in-Some-first.ensures.characters) c.split_run.ensures.bytes
+
+pub returns-in-Some-first-clause-suffix : goal.returns-in-Some-first-clause-suffix
+returns-in-Some-first-clause-suffix c = suffix_then c.in-Some.ensures.suffix (suffix_then c.split_run.ensures.suffix c.in-Some-first.ensures.suffix)
+
+pub returns-in-None-clause-none : goal.returns-in-None-clause-none
+returns-in-None-clause-none c output value v =
+    let is_quote : IsQuote c.in-Some.c = search rules in
+    no_value_unclosed c.in-Some.ensures.characters is_quote (sym c.split_run.ensures.rest ∙ c.in-None.ensures.characters) v
+
+pub returns-in-None-clause-fault : goal.returns-in-None-clause-fault
+returns-in-None-clause-fault c =
+    let is_quote : IsQuote c.in-Some.c = search rules in
+    fault_at_first c.in-Some.c (Unclosed c.in-Some.c) c.utf8.text c.in-Some.ensures.suffix c.in-Some.ensures.bytes c.before-in-None.ensures.kind c.before-in-None.ensures.piece c.before-in-None.ensures.left (λ e. (c.in-Some.c, quotes is_quote, e))
+
+pub returns-in-Some-named-clause-found : goal.returns-in-Some-named-clause-found
+returns-in-Some-named-clause-found c = named_found _ _ _ _ c.split_run-else-is_quote.ensures.bytes c.split_run-else-is_quote.ensures.rest c.in-Some-named.ensures.found
+
+pub returns-in-Some-named-clause-shorter : goal.returns-in-Some-named-clause-shorter
+returns-in-Some-named-clause-shorter c = named_shorter _ _ _ _ c.in-Some-named.ensures.found c.split_run-else-is_quote.ensures.joined
+
+pub returns-in-None-named-clause-none : goal.returns-in-None-named-clause-none
+returns-in-None-named-clause-none c output value v =
+    let plain : IsQuote c.in-Some.c → ⊥ = search rules in
+    no_value_named c.in-Some.c value c.in-Some.ensures.characters plain c.split_run-else-is_quote.ensures.bytes c.in-None-named.ensures.none v
+
+pub returns-in-None-named-clause-fault : goal.returns-in-None-named-clause-fault
+returns-in-None-named-clause-fault c =
+    fault_at_run NoValue c.utf8.text c.split_run-else-is_quote.ensures.suffix c.split_run-else-is_quote.ensures.joined c.at_run.ensures.kind c.at_run.ensures.piece c.at_run.ensures.left (run_longest _ _ _ KeyPart c.split_run-else-is_quote.ensures.joined c.split_run-else-is_quote.ensures.bytes)

@@ -1,0 +1,31 @@
+-- The operators of comparisons, as they are written (PEP 508).
+use Rattle.std.specs.Prelude.{ℕ, List, codes}
+use Rattle.marker_words.specs.declared.operator.MarkerOperator.{MarkerOperator}
+use Rattle.marker_words.specs.declared.operator.MarkerOperator.TheVariants.{Equal, NotEqual, GreaterThan, GreaterEqual, LessThan, LessEqual, TildeEqual, In, NotIn, Contains, NotContains}
+
+abbrev pub operator_text : MarkerOperator → List ℕ
+operator_text Equal = codes "=="
+operator_text NotEqual = codes "!="
+operator_text GreaterThan = codes ">"
+operator_text GreaterEqual = codes ">="
+operator_text LessThan = codes "<"
+operator_text LessEqual = codes "<="
+operator_text TildeEqual = codes "~="
+operator_text In = codes "in"
+operator_text NotIn = codes "not in"
+operator_text Contains = codes "in"
+operator_text NotContains = codes "not in"
+
+-- the operator that says the same with its sides exchanged
+abbrev pub turned : MarkerOperator → MarkerOperator
+turned Equal = Equal
+turned NotEqual = NotEqual
+turned GreaterThan = LessThan
+turned GreaterEqual = LessEqual
+turned LessThan = GreaterThan
+turned LessEqual = GreaterEqual
+turned TildeEqual = TildeEqual
+turned In = Contains
+turned NotIn = NotContains
+turned Contains = In
+turned NotContains = NotIn

@@ -1,0 +1,139 @@
+//! The names that stand for values of an environment (PEP 508, "Environment Markers").
+
+ghost use Rattle.std.specs.Prelude.{◌≡◌, Some};
+ghost use Rattle.marker_words.specs.Key.{variable_of, variable_name, version_key_name};
+
+use std::fmt;
+use std::fmt::Display;
+
+/// A key whose value is a version, such as `python_version`.
+#[derive(Clone, Copy, Debug, PartialEq, Eq, PartialOrd, Ord, Hash)]
+pub enum MarkerValueVersion {
+    /// `implementation_version`
+    ImplementationVersion,
+    /// `python_full_version`
+    PythonFullVersion,
+    /// `python_version`
+    PythonVersion,
+}
+
+impl Display for MarkerValueVersion {
+    ghost output = { λ key. Some (version_key_name key) };
+
+    fn fmt<W: fmt::Write>(&self, f: &mut fmt::Formatter<W>) -> fmt::Result {
+        f.write_str(match self {
+            MarkerValueVersion::ImplementationVersion => "implementation_version",
+            MarkerValueVersion::PythonFullVersion => "python_full_version",
+            MarkerValueVersion::PythonVersion => "python_version",
+        })
+    }
+}
+
+/// A key whose value is a text, such as `sys_platform`. A deprecated key (PEP 345, and
+/// `python_implementation`) is another spelling of a modern one and prints by the modern name.
+#[derive(Clone, Copy, Debug, PartialEq, Eq, PartialOrd, Ord, Hash)]
+pub enum MarkerValueString {
+    /// `implementation_name`
+    ImplementationName,
+    /// `os_name`
+    OsName,
+    /// The deprecated `os.name`
+    OsNameDeprecated,
+    /// `platform_machine`
+    PlatformMachine,
+    /// The deprecated `platform.machine`
+    PlatformMachineDeprecated,
+    /// `platform_python_implementation`
+    PlatformPythonImplementation,
+    /// The deprecated `platform.python_implementation`
+    PlatformPythonImplementationDeprecated,
+    /// The deprecated `python_implementation`
+    PythonImplementationDeprecated,
+    /// `platform_release`
+    PlatformRelease,
+    /// `platform_system`
+    PlatformSystem,
+    /// `platform_version`
+    PlatformVersion,
+    /// The deprecated `platform.version`
+    PlatformVersionDeprecated,
+    /// `sys_platform`
+    SysPlatform,
+    /// The deprecated `sys.platform`
+    SysPlatformDeprecated,
+}
+
+/// What a text key asks about. Each deprecated spelling asks about the variable of its modern key.
+#[derive(Clone, Copy, Debug, PartialEq, Eq, PartialOrd, Ord, Hash)]
+pub enum TextVariable {
+    ImplementationName,
+    OsName,
+    PlatformMachine,
+    PlatformPythonImplementation,
+    PlatformRelease,
+    PlatformSystem,
+    PlatformVersion,
+    SysPlatform,
+}
+
+impl MarkerValueString {
+    /// The variable that the key asks about.
+    pub fn variable(self) -> TextVariable
+        ensures { result ≡ variable_of self }
+    {
+        match self {
+            MarkerValueString::ImplementationName => TextVariable::ImplementationName,
+            MarkerValueString::OsName | MarkerValueString::OsNameDeprecated => TextVariable::OsName,
+            MarkerValueString::PlatformMachine | MarkerValueString::PlatformMachineDeprecated => {
+                TextVariable::PlatformMachine
+            }
+            MarkerValueString::PlatformPythonImplementation
+            | MarkerValueString::PlatformPythonImplementationDeprecated
+            | MarkerValueString::PythonImplementationDeprecated => {
+                TextVariable::PlatformPythonImplementation
+            }
+            MarkerValueString::PlatformRelease => TextVariable::PlatformRelease,
+            MarkerValueString::PlatformSystem => TextVariable::PlatformSystem,
+            MarkerValueString::PlatformVersion | MarkerValueString::PlatformVersionDeprecated => {
+                TextVariable::PlatformVersion
+            }
+            MarkerValueString::SysPlatform | MarkerValueString::SysPlatformDeprecated => {
+                TextVariable::SysPlatform
+            }
+        }
+    }
+}
+
+impl TextVariable {
+    /// The modern key.
+    pub fn name(self) -> &'static str
+        ensures { result.now ≡ variable_name self }
+    {
+        match self {
+            TextVariable::ImplementationName => "implementation_name",
+            TextVariable::OsName => "os_name",
+            TextVariable::PlatformMachine => "platform_machine",
+            TextVariable::PlatformPythonImplementation => "platform_python_implementation",
+            TextVariable::PlatformRelease => "platform_release",
+            TextVariable::PlatformSystem => "platform_system",
+            TextVariable::PlatformVersion => "platform_version",
+            TextVariable::SysPlatform => "sys_platform",
+        }
+    }
+}
+
+impl Display for TextVariable {
+    ghost output = { λ variable. Some (variable_name variable) };
+
+    fn fmt<W: fmt::Write>(&self, f: &mut fmt::Formatter<W>) -> fmt::Result {
+        f.write_str(self.name())
+    }
+}
+
+impl Display for MarkerValueString {
+    ghost output = { λ key. Some (variable_name (variable_of key)) };
+
+    fn fmt<W: fmt::Write>(&self, f: &mut fmt::Formatter<W>) -> fmt::Result {
+        f.write_str(self.variable().name())
+    }
+}

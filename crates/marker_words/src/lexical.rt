@@ -1,0 +1,238 @@
+//! The readers of the words of a comparison.
+//!
+//! Each goes from a text to what it reads at its front and to what is left behind that, or answers the
+//! fault that is told of a text in which no such word stands there.
+
+ghost use Rattle.std.specs.Prelude.{◌≡◌, ◌↔◌, ◌<◌, ◌≤◌, ◌≢◌, ◌∷◌, ℕ, List, IsTrue, IfSome, IfNone, IfOk, IfErr, OnErr, Some, length};
+ghost use Rattle.std.specs.Str.{chars};
+ghost use Rattle.pep508_text.specs.Suffix.{IsSuffix};
+ghost use Rattle.marker_words.specs.Key.{version_key_name, key_name};
+ghost use Rattle.marker_words.specs.Lexical.{Value, IsQuote, IsValue, symbol_text, IsOperator, Sides};
+ghost use Rattle.marker_words.specs.Part.{value_of, IsNamed, IsBehindNot};
+ghost use Rattle.marker_words.specs.Keyword.{IsKeyword};
+ghost use Rattle.marker_words.specs.Fault.{IsFault, begins_word};
+
+use crate::fault::{Fault, FaultKind};
+use crate::key::{MarkerValueString, MarkerValueVersion};
+use crate::operator::MarkerOperator;
+use crate::parts::{ComparisonRef, Keyword, MarkerValueRef};
+use pep508_text::{Class, first, skip_space, split_run, strip};
+
+/// The value at the front of the text, which is a quoted text, a key or `extra`.
+///
+/// There is none at the end of the text, at a quote that is not closed, and at any other run of characters.
+pub fn value(text: &str) -> Result<(MarkerValueRef<'_>, &str), Fault<'_>>
+    ensures found { IfOk result (λ x. IsValue (chars text.now) (chars x.1.now) (value_of x.0)) }
+    ensures none { OnErr result
+        ((output : List ℕ) (value : Value) → IsValue (chars text.now) output value → ⊥) }
+    ensures fault { IfErr result (IsFault text.now) }
+    ensures suffix { IfOk result (λ x. IsSuffix text.now x.1.now) }
+    ensures shorter { IfOk result (λ x. length x.1.now < length text.now) }
+{
+    let Some((c, after)) = first(text) else {
+        return Err(Fault::at_end(FaultKind::ValueAtEnd));
+    };
+    if is_quote(c) {
+        let (quoted, end) = split_run(after, Class::NotQuote(c));
+        match first(end) {
+            Some((_, rest)) => Ok((MarkerValueRef::QuotedString(quoted), rest)),
+            None => Err(Fault::before(FaultKind::Unclosed(c), text, after)),
+        }
+    } else {
+        let (run, rest) = split_run(text, Class::KeyPart);
+        match named(run) {
+            Some(value) => Ok((value, rest)),
+            None => Err(Fault::at_run(FaultKind::NoValue, run, text)),
+        }
+    }
+}
+
+fn is_quote(c: char) -> bool
+    ensures { IsTrue result ↔ IsQuote c }
+{
+    c == '\'' || c == '"'
+}
+
+// The value of this name.
+fn named(name: &str) -> Option<MarkerValueRef<'_>>
+    ensures found { IfSome result (λ value. IsNamed (value_of value) name.now) }
+    ensures none { IfNone result ((value : Value) → IsNamed value name.now → ⊥) }
+{
+    match (name, version_key(name), text_key(name)) {
+        ("extra", _, _) => Some(MarkerValueRef::Extra),
+        (_, Some(key), _) => Some(MarkerValueRef::MarkerEnvVersion(key)),
+        (_, _, Some(key)) => Some(MarkerValueRef::MarkerEnvString(key)),
+        _ => None,
+    }
+}
+
+fn version_key(name: &str) -> Option<MarkerValueVersion>
+    ensures found { IfSome result (λ key. name.now ≡ version_key_name key) }
+    ensures none { IfNone result ((key : MarkerValueVersion) → name.now ≡ version_key_name key → ⊥) }
+{
+    match name {
+        "implementation_version" => Some(MarkerValueVersion::ImplementationVersion),
+        "python_full_version" => Some(MarkerValueVersion::PythonFullVersion),
+        "python_version" => Some(MarkerValueVersion::PythonVersion),
+        _ => None,
+    }
+}
+
+fn text_key(name: &str) -> Option<MarkerValueString>
+    ensures found { IfSome result (λ key. name.now ≡ key_name key) }
+    ensures none { IfNone result ((key : MarkerValueString) → name.now ≡ key_name key → ⊥) }
+{
+    match name {
+        "implementation_name" => Some(MarkerValueString::ImplementationName),
+        "os_name" => Some(MarkerValueString::OsName),
+        "os.name" => Some(MarkerValueString::OsNameDeprecated),
+        "platform_machine" => Some(MarkerValueString::PlatformMachine),
+        "platform.machine" => Some(MarkerValueString::PlatformMachineDeprecated),
+        "platform_python_implementation" => Some(MarkerValueString::PlatformPythonImplementation),
+        "platform.python_implementation" => Some(
+            MarkerValueString::PlatformPythonImplementationDeprecated,
+        ),
+        "python_implementation" => Some(MarkerValueString::PythonImplementationDeprecated),
+        "platform_release" => Some(MarkerValueString::PlatformRelease),
+        "platform_system" => Some(MarkerValueString::PlatformSystem),
+        "platform_version" => Some(MarkerValueString::PlatformVersion),
+        "platform.version" => Some(MarkerValueString::PlatformVersionDeprecated),
+        "sys_platform" => Some(MarkerValueString::SysPlatform),
+        "sys.platform" => Some(MarkerValueString::SysPlatformDeprecated),
+        _ => None,
+    }
+}
+
+/// The operator at the front of the text.
+///
+/// It is a word, `in` or `not in`, where the text begins with an alphabetic character (Unicode's), and else
+/// made of the characters `<`, `=`, `>`, `~` and `!`. Anything else is no operator, nor is a `not` behind
+/// which no white space and then the letters `in` stand.
+pub fn comparison_operator(text: &str) -> Result<(MarkerOperator, &str), Fault<'_>>
+    ensures found { IfOk result (λ x. IsOperator (chars text.now) (chars x.1.now) x.0) }
+    ensures none { OnErr result ((output : List ℕ) (operator : MarkerOperator)
+        → IsOperator (chars text.now) output operator → ⊥) }
+    ensures fault { IfErr result (IsFault text.now) }
+    ensures suffix { IfOk result (λ x. IsSuffix text.now x.1.now) }
+    ensures no_longer { IfOk result (λ x. length x.1.now ≤ length text.now) }
+{
+    if begins_word(text) {
+        let (run, rest) = split_run(text, Class::WordPart);
+        match run {
+            "in" => Ok((MarkerOperator::In, rest)),
+            "not" => match behind_not(rest) {
+                Ok(rest) => Ok((MarkerOperator::NotIn, rest)),
+                Err(fault) => Err(fault),
+            },
+            _ => Err(Fault::at_run(FaultKind::NoOperator, run, text)),
+        }
+    } else {
+        let (run, rest) = split_run(text, Class::Comparison);
+        match symbol(run) {
+            Some(operator) => Ok((operator, rest)),
+            None => Err(Fault::at_run(FaultKind::NoOperator, run, text)),
+        }
+    }
+}
+
+fn begins_word(text: &str) -> bool
+    ensures { result ≡ begins_word (chars text.now) }
+{
+    match first(text) {
+        Some((c, _)) => Class::Alphabetic.holds(c),
+        None => false,
+    }
+}
+
+// The operator that is written so and is no word.
+fn symbol(run: &str) -> Option<MarkerOperator>
+    ensures found { IfSome result (λ operator. symbol_text operator ≡ Some run.now) }
+    ensures none { IfNone result ((operator : MarkerOperator) → symbol_text operator ≢ Some run.now) }
+{
+    match run {
+        "==" => Some(MarkerOperator::Equal),
+        "!=" => Some(MarkerOperator::NotEqual),
+        ">" => Some(MarkerOperator::GreaterThan),
+        ">=" => Some(MarkerOperator::GreaterEqual),
+        "<" => Some(MarkerOperator::LessThan),
+        "<=" => Some(MarkerOperator::LessEqual),
+        "~=" => Some(MarkerOperator::TildeEqual),
+        _ => None,
+    }
+}
+
+// What is left behind the white space and the letters `in` that follow a `not`.
+fn behind_not(text: &str) -> Result<&str, Fault<'_>>
+    ensures found { IfOk result (λ rest. IsBehindNot (chars text.now) (chars rest.now)) }
+    ensures none { OnErr result ((output : List ℕ) → IsBehindNot (chars text.now) output → ⊥) }
+    ensures fault { IfErr result (IsFault text.now) }
+    ensures suffix { IfOk result (λ rest. IsSuffix text.now rest.now) }
+    ensures no_longer { IfOk result (λ rest. length rest.now ≤ length text.now) }
+{
+    let Some((c, after)) = first(text) else {
+        return Err(Fault::at_end(FaultKind::NotAtEnd));
+    };
+    if !Class::Space.holds(c) {
+        return Err(Fault::before(FaultKind::NoSpaceAfterNot, text, after));
+    }
+    let rest = expect(skip_space(after), 'i')?;
+    let end = expect(rest, 'n')?;
+    Ok(end)
+}
+
+// What is left behind the character that the text has to begin with.
+fn expect(text: &str, awaited: char) -> Result<&str, Fault<'_>>
+    ensures found { IfOk result (λ rest. chars text.now ≡ awaited ∷ chars rest.now) }
+    ensures none { OnErr result ((rest : List ℕ) → chars text.now ≢ awaited ∷ rest) }
+    ensures fault { IfErr result (IsFault text.now) }
+    ensures suffix { IfOk result (λ rest. IsSuffix text.now rest.now) }
+    ensures no_longer { IfOk result (λ rest. length rest.now ≤ length text.now) }
+{
+    let Some((c, rest)) = first(text) else {
+        return Err(Fault::at_end(FaultKind::MissingAtEnd(awaited)));
+    };
+    if c != awaited {
+        return Err(Fault::before(FaultKind::Missing(awaited), text, rest));
+    }
+    Ok(rest)
+}
+
+/// The comparison at the front of the text: a value, an operator and a value, with any white space before
+/// each. The fault is that of the first of them that does not stand there.
+pub fn sides(text: &str) -> Result<(ComparisonRef<'_>, &str), Fault<'_>>
+    ensures found { IfOk result (λ x. Sides (chars text.now) (chars x.1.now) (value_of x.0.left) x.0.operator (value_of x.0.right)) }
+    ensures none { OnErr result ((output : List ℕ) (left right : Value) (operator : MarkerOperator)
+        → Sides (chars text.now) output left operator right → ⊥) }
+    ensures fault { IfErr result (IsFault text.now) }
+    ensures suffix { IfOk result (λ x. IsSuffix text.now x.1.now) }
+    ensures shorter { IfOk result (λ x. length x.1.now < length text.now) }
+{
+    let (left, rest) = value(skip_space(text))?;
+    let (operator, rest) = comparison_operator(skip_space(rest))?;
+    let (right, rest) = value(skip_space(rest))?;
+    let comparison = ComparisonRef {
+        left,
+        operator,
+        right,
+    };
+    Ok((comparison, rest))
+}
+
+/// Which keyword the text begins with, and what is left behind it. A keyword is the whole run of characters that
+/// are no white space, so `and(` is none.
+pub fn keyword(text: &str) -> (Keyword, &str)
+    ensures which { IsKeyword result.0 (chars text.now) (chars result.1.now) }
+    ensures suffix { IsSuffix text.now result.1.now }
+    ensures shorter { result.0 ≢ Keyword.Other → length result.1.now < length text.now }
+{
+    // A text may close many parentheses in one run, which is not gone through once for each of them.
+    if strip(text, ')').is_some() {
+        return (Keyword::Other, text);
+    }
+    let (run, rest) = split_run(text, Class::NotSpace);
+    match run {
+        "and" => (Keyword::And, rest),
+        "or" => (Keyword::Or, rest),
+        _ => (Keyword::Other, rest),
+    }
+}

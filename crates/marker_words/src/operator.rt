@@ -1,0 +1,83 @@
+//! The operators of comparisons.
+
+ghost use Rattle.std.specs.Prelude.{◌≡◌, Some};
+ghost use Rattle.marker_words.specs.Operator.{operator_text, turned};
+
+use std::fmt;
+use std::fmt::Display;
+
+/// An operator between a key and a text. `Contains` and `NotContains` are `in` and `not in` with the
+/// text on the left side.
+#[derive(Clone, Copy, Debug, PartialEq, Eq, PartialOrd, Ord, Hash)]
+pub enum MarkerOperator {
+    /// `==`
+    Equal,
+    /// `!=`
+    NotEqual,
+    /// `>`
+    GreaterThan,
+    /// `>=`
+    GreaterEqual,
+    /// `<`
+    LessThan,
+    /// `<=`
+    LessEqual,
+    /// `~=`
+    TildeEqual,
+    /// `key in 'text'`
+    In,
+    /// `key not in 'text'`
+    NotIn,
+    /// `'text' in key`
+    Contains,
+    /// `'text' not in key`
+    NotContains,
+}
+
+impl MarkerOperator {
+    /// The operator with its sides exchanged: `'x' < key` is `key > 'x'`.
+    pub fn turned(self) -> MarkerOperator
+        ensures { result ≡ turned self }
+    {
+        match self {
+            MarkerOperator::Equal => MarkerOperator::Equal,
+            MarkerOperator::NotEqual => MarkerOperator::NotEqual,
+            MarkerOperator::GreaterThan => MarkerOperator::LessThan,
+            MarkerOperator::GreaterEqual => MarkerOperator::LessEqual,
+            MarkerOperator::LessThan => MarkerOperator::GreaterThan,
+            MarkerOperator::LessEqual => MarkerOperator::GreaterEqual,
+            MarkerOperator::TildeEqual => MarkerOperator::TildeEqual,
+            MarkerOperator::In => MarkerOperator::Contains,
+            MarkerOperator::NotIn => MarkerOperator::NotContains,
+            MarkerOperator::Contains => MarkerOperator::In,
+            MarkerOperator::NotContains => MarkerOperator::NotIn,
+        }
+    }
+}
+
+impl Display for MarkerOperator {
+    ghost output = { λ operator. Some (operator_text operator) };
+
+    fn fmt<W: fmt::Write>(&self, f: &mut fmt::Formatter<W>) -> fmt::Result {
+        f.write_str(match self {
+            MarkerOperator::Equal => "==",
+            MarkerOperator::NotEqual => "!=",
+            MarkerOperator::GreaterThan => ">",
+            MarkerOperator::GreaterEqual => ">=",
+            MarkerOperator::LessThan => "<",
+            MarkerOperator::LessEqual => "<=",
+            MarkerOperator::TildeEqual => "~=",
+            MarkerOperator::In | MarkerOperator::Contains => "in",
+            MarkerOperator::NotIn | MarkerOperator::NotContains => "not in",
+        })
+    }
+}
+
+/// An operator between `extra` and a text.
+#[derive(Clone, Copy, Debug, PartialEq, Eq, PartialOrd, Ord, Hash)]
+pub enum ExtraOperator {
+    /// `==`
+    Equal,
+    /// `!=`
+    NotEqual,
+}

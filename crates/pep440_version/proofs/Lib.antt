@@ -1,0 +1,11 @@
+pub mod Padded
+pub mod Segments
+pub mod Clones
+pub mod Readers
+pub mod Sound
+pub mod Complete
+pub mod Text
+pub mod Patterns
+pub mod Valid
+pub mod ReadBack
+pub mod Trimmed

@@ -1,0 +1,10 @@
+pub mod Parts
+pub mod Valid
+pub mod View
+pub mod Order
+pub mod HashInput
+pub mod OrderLaws
+pub mod Text
+pub mod Grammar
+pub mod Parse
+pub mod Reading

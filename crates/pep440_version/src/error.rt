@@ -1,0 +1,109 @@
+//! What is wrong with a text that is no version, told in one line.
+
+ghost use Rattle.std.specs.Prelude.{◌≡◌, IfOk, string_bytes};
+ghost use Rattle.std.specs.Str.{IsCharBoundary};
+
+use std::alloc::{AllocError, Global};
+use std::error::Error;
+use std::fmt;
+
+/// What a text that is no version lacks at the place of its fault.
+#[derive(Clone, Copy, Debug, PartialEq, Eq)]
+pub enum Expected {
+    /// A number of the release, as the `9` of `3.9`.
+    ReleaseNumber,
+    /// A number of at most 18446744073709551615.
+    SmallerNumber,
+    /// What may follow a release and a `-` or a `_`.
+    Suffix,
+    /// A segment of the local part, as the `ubuntu` of `1.0+ubuntu.7`.
+    LocalSegment,
+    /// Nothing more.
+    End,
+}
+
+impl fmt::Display for Expected {
+    fn fmt<W: fmt::Write>(&self, f: &mut fmt::Formatter<W>) -> fmt::Result {
+        f.write_str(match self {
+            Expected::ReleaseNumber => "a release number",
+            Expected::SmallerNumber => "a number of at most 18446744073709551615",
+            Expected::Suffix => "a pre-release, a post release or a development release",
+            Expected::LocalSegment => "letters or digits of the local version",
+            Expected::End => "the end of the version",
+        })
+    }
+}
+
+/// Why a text is no version, or no pattern of versions: what was expected, and at which byte of the text.
+#[derive(Debug, Drop, PartialEq, Eq)]
+pub struct VersionParseError {
+    text: String,
+    offset: usize,
+    expected: Expected,
+    pub ghost in_text: { IsCharBoundary (string_bytes text) offset },
+}
+
+impl VersionParseError {
+    // The fault of a text at a character's start.
+    pub(crate) fn new(
+        alloc: Global,
+        text: &str,
+        offset: usize,
+        expected: Expected,
+    ) -> Result<VersionParseError, AllocError>
+        requires { IsCharBoundary text.now offset }
+        ensures { IfOk result (λ fault. string_bytes fault.text ≡ text.now) }
+    {
+        Ok(VersionParseError {
+            text: String::from_str(alloc, text)?,
+            offset,
+            expected,
+        })
+    }
+
+    /// The text that was read, with the white space around it.
+    pub fn text(&self) -> &str
+        ensures { result.now ≡ string_bytes self.now.text }
+    {
+        self.text.as_str()
+    }
+
+    /// How many bytes of the text stand before the fault. There a character begins, or the text ends.
+    pub fn offset(&self) -> usize
+        ensures value { result ≡ self.now.offset }
+        ensures boundary { IsCharBoundary (string_bytes self.now.text) result }
+    {
+        self.offset
+    }
+
+    /// What was expected there.
+    pub fn expected(&self) -> Expected
+        ensures { result ≡ self.now.expected }
+    {
+        self.expected
+    }
+
+    // What stands at the fault, None where nothing but white space follows.
+    fn found(&self) -> Option<char> {
+        let rest = &self.text.as_str()[self.offset..];
+        if rest.trim().is_empty() {
+            return None;
+        }
+        rest.chars().next()
+    }
+}
+
+impl fmt::Display for VersionParseError {
+    fn fmt<W: fmt::Write>(&self, f: &mut fmt::Formatter<W>) -> fmt::Result {
+        let (expected, offset, text) = (self.expected, self.offset, self.text.as_str());
+        match self.found() {
+            Some(found) => write!(
+                f,
+                "Expected {expected}, found {found:?} at byte {offset} of {text:?}"
+            ),
+            None => write!(f, "Expected {expected}, found the end of {text:?}"),
+        }
+    }
+}
+
+impl Error for VersionParseError {}

@@ -1,0 +1,51 @@
+//! Laws of versions. A call of one does nothing: what it promises is its contract.
+
+ghost use Rattle.std.specs.Prelude.{◌≡◌, ◌↔◌, ℕ, Bool, List};
+ghost use Rattle.std.specs.Cmp.{IsTotalOrder};
+ghost use Rattle.std.specs.Hash.{Alike};
+ghost use Rattle.std.specs.Ordering.{eq_by_cmp};
+ghost use Rattle.std.specs.declared.cmp.Ordering.TheVariants.{Equal};
+ghost use Rattle.pep440_version.specs.Grammar.{IsPatternText, IsVersionText};
+ghost use Rattle.pep440_version.specs.Order.{IsSameVersion, version_cmp};
+ghost use Rattle.pep440_version.specs.HashInput.{version_writes};
+ghost use Rattle.pep440_version.specs.Parts.{Parts};
+ghost use Rattle.pep440_version.specs.Text.{version_text};
+ghost use Rattle.pep440_version.specs.Valid.{IsValid};
+
+use crate::version::Version;
+
+/// The order of versions is total.
+pub fn order_is_total()
+    ensures { IsTotalOrder version_cmp }
+{}
+
+/// The order tells two versions apart but where they are the same: where their releases differ in zeros
+/// at the end alone, and every other part is the same.
+pub fn order_ties_the_same_version()
+    ensures { (v w : Parts) → version_cmp v w ≡ Equal ↔ IsSameVersion v w }
+{}
+
+/// Versions that are equal are hashed alike.
+pub fn equal_versions_hash_alike()
+    ensures { Alike (eq_by_cmp version_cmp) version_writes }
+{}
+
+/// A text says at most one version.
+pub fn text_says_one_version()
+    ensures { (text : List ℕ) (v w : Parts) → IsVersionText text v → IsVersionText text w → v ≡ w }
+{}
+
+/// A text says at most one pattern: no version ends in `.*`.
+pub fn text_says_one_pattern()
+    ensures { (text : List ℕ) (v w : Parts) (star end : Bool) → IsPatternText text v star → IsPatternText text w end → (v ≡ w) × (star ≡ end) }
+{}
+
+/// The parts of a version are valid, and its normal text is read back as that version, with as many
+/// release numbers.
+pub fn normal_text_reads_back(version: &Version)
+    ensures valid { IsValid version.now }
+    ensures reads_back { IsVersionText (version_text version.now) version.now }
+{
+    // A look at a part shows what every version keeps.
+    let _ = &version.epoch;
+}

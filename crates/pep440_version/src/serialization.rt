@@ -1,0 +1,58 @@
+//! Versions in `serde`'s formats: the text of a version, which `parse` reads back.
+
+ghost use Rattle.std.specs.Prelude.{List, ℕ, IfOk, OnOk};
+ghost use Rattle.serde.specs.Event.{Logs, text};
+ghost use Rattle.serde.specs.Steps.{Gives};
+ghost use Rattle.pep440_version.specs.Grammar.{IsVersionText};
+ghost use Rattle.pep440_version.specs.Text.{version_text};
+
+use crate::version::Version;
+use refusal::Refusal;
+use serde::{
+    Described, Deserialize, DeserializeOwned, Deserializer, Format, Serialize, Serializer,
+};
+use std::alloc::Global;
+
+impl Described for Version {
+    ghost writes = { λ v old new. Logs old new (text (version_text v)) };
+}
+
+/// Writes the normal text. The error tells want of memory, or what the format's own was.
+impl Serialize for Version {
+    fn serialize<S: Serializer>(&self, out: &mut S) -> Result<(), S::Error> {
+        match self.to_string(*self.local.allocator()) {
+            Ok(text) => out.str(text.as_str()),
+            Err(_) => Err(out.custom("Out of memory")),
+        }
+    }
+}
+
+/// Reads a text that is a version, as `Version::parse` does. The error tells what was expected and where.
+impl DeserializeOwned for Version {
+    fn deserialize_owned<F: Format>(
+        alloc: Global,
+        from: &mut Deserializer<'_, '_, F>,
+    ) -> Result<Version, F::Error>
+        ensures { IfOk result (λ v. (t : List ℕ) × Gives F.gives from.old (text t) from.new × IsVersionText t v) }
+    {
+        let text = from.string(alloc)?;
+        match Version::parse(alloc, text.as_str()) {
+            Ok(version) => Ok(version),
+            Err(refusal) => match refusal.to_string(alloc) {
+                Ok(message) => Err(from.custom(message.as_str())),
+                Err(_) => Err(from.custom("Out of memory")),
+            },
+        }
+    }
+}
+
+impl<'de> Deserialize<'de> for Version {
+    fn deserialize<F: Format>(
+        alloc: Global,
+        from: &mut Deserializer<'de, '_, F>,
+    ) -> Result<Version, F::Error>
+        ensures { IfOk result (λ v. (t : List ℕ) × Gives F.gives from.old (text t) from.new × IsVersionText t v) }
+    {
+        Version::deserialize_owned(alloc, from)
+    }
+}

@@ -1,0 +1,188 @@
+//! Versions of PEP 440, and the parts that they are made of.
+
+ghost use Rattle.std.specs.Prelude.{◌≡◌, ◌<◌, ◌≤◌, [], length, map, IfOk, IsOk};
+ghost use Rattle.pep440_version.specs.View.{segment_of};
+
+use crate::order::significant;
+use smallvec::SmallVec;
+use std::alloc::{AllocError, Global};
+use std::marker::Model;
+
+/// The kind of a pre-release, in the order of PEP 440: an alpha comes before a beta, and that before a
+/// release candidate.
+#[derive(Clone, Copy, Debug, PartialEq, Eq, PartialOrd, Ord, Hash)]
+pub enum PrereleaseKind {
+    /// An alpha, written `a`.
+    Alpha,
+    /// A beta, written `b`.
+    Beta,
+    /// A release candidate, written `rc`.
+    Rc,
+}
+
+/// A pre-release, as `a1`.
+#[derive(Clone, Copy, Debug, PartialEq, Eq, PartialOrd, Ord, Hash)]
+pub struct Prerelease {
+    /// Whether it is an alpha, a beta or a release candidate.
+    pub kind: PrereleaseKind,
+    /// Its number, 0 where the text has none.
+    pub number: u64,
+}
+
+/// A segment of the local part of a version, as `ubuntu` and `7` of `1.0+ubuntu.7`. A text comes before a
+/// number.
+#[derive(Clone, Debug, Drop, PartialEq, Eq, PartialOrd, Ord, Hash)]
+pub enum LocalSegment {
+    /// Lower-case ASCII letters and digits, not digits alone.
+    String(String),
+    /// Digits alone.
+    Number(u64),
+}
+
+/// A version of PEP 440, with its release numbers as they were written.
+#[derive(Debug, Drop)]
+pub struct Version {
+    pub(crate) epoch: u64,
+    // Most releases have at most four numbers, and those need no allocation.
+    pub(crate) release: SmallVec<u64, 4>,
+    pub(crate) pre: Option<Prerelease>,
+    pub(crate) post: Option<u64>,
+    pub(crate) dev: Option<u64>,
+    pub(crate) local: Vec<LocalSegment>,
+}
+
+impl Model for Version {
+    ghost use Rattle.pep440_version.specs.Parts.{Parts};
+
+    ghost Value = { Parts };
+
+    ghost use Rattle.pep440_version.specs.View.{parts_of};
+    ghost use Rattle.pep440_version.specs.Valid.{IsValid};
+
+    ghost view = { parts_of };
+
+    ghost invariant = { λ v. IsValid (parts_of v) };
+}
+
+impl Version {
+    ghost use Rattle.pep440_version.specs.Order.{IsSameVersion, trimmed, trimmed_parts};
+    ghost use Rattle.pep440_version.specs.Parts.{release_only};
+
+    /// The version that is these release numbers alone, as many as there are.
+    ///
+    /// It is refused for want of memory alone, and never for at most four numbers.
+    pub fn new(alloc: Global, release: &[u64]) -> Result<Version, AllocError>
+        requires { 0 < length release.now }
+        ensures value { IfOk result (λ version. version ≡ release_only release.now) }
+        ensures inline { length release.now ≤ 4 → IsOk result }
+    {
+        Ok(Version {
+            epoch: 0,
+            release: SmallVec::from_slice(alloc, release)?,
+            pre: None,
+            post: None,
+            dev: None,
+            local: Vec::new(alloc),
+        })
+    }
+
+    /// The epoch, 0 where the text has none.
+    pub fn epoch(&self) -> u64
+        ensures { result ≡ self.now.epoch }
+    {
+        self.epoch
+    }
+
+    /// The release numbers as they were written, at least one.
+    pub fn release(&self) -> &[u64]
+        ensures numbers { result.now ≡ self.now.release }
+        ensures nonempty { 0 < length result.now }
+    {
+        &self.release
+    }
+
+    /// The release numbers without the zeros at their end, down to one number.
+    pub fn trimmed_release(&self) -> &[u64]
+        ensures numbers { result.now ≡ trimmed self.now.release }
+        ensures nonempty { 0 < length result.now }
+    {
+        let len = significant(&self.release).len().max(1);
+        &self.release.as_slice()[..len]
+    }
+
+    /// The same version without the zeros at the end of its release, down to one number.
+    ///
+    /// It is refused for want of memory alone, and never where at most four numbers and no local part are left.
+    pub fn trimmed(&self) -> Result<Version, AllocError>
+        ensures value { IfOk result (λ version. version ≡ trimmed_parts self.now) }
+        ensures same { IfOk result (λ version. IsSameVersion version self.now) }
+        ensures inline { length (trimmed self.now.release) ≤ 4 → self.now.locals ≡ [] → IsOk result }
+    {
+        Ok(Version {
+            epoch: self.epoch,
+            release: SmallVec::from_slice(*self.release.allocator(), self.trimmed_release())?,
+            pre: self.pre,
+            post: self.post,
+            dev: self.dev,
+            local: clone_locals(&self.local)?,
+        })
+    }
+
+    /// The pre-release, as `a1`.
+    pub fn pre(&self) -> Option<Prerelease>
+        ensures { result ≡ self.now.pre }
+    {
+        self.pre
+    }
+
+    /// The number of the post release.
+    pub fn post(&self) -> Option<u64>
+        ensures { result ≡ self.now.post }
+    {
+        self.post
+    }
+
+    /// The number of the development release.
+    pub fn dev(&self) -> Option<u64>
+        ensures { result ≡ self.now.dev }
+    {
+        self.dev
+    }
+
+    /// The segments of the local part, none where the version has no such part.
+    pub fn local(&self) -> &[LocalSegment]
+        ensures { map segment_of result.now ≡ self.now.locals }
+    {
+        &self.local
+    }
+}
+
+// A list without segments needs no memory.
+fn clone_locals(locals: &Vec<LocalSegment>) -> Result<Vec<LocalSegment>, AllocError>
+    ensures value { IfOk result (λ copy. map segment_of copy.items ≡ map segment_of locals.now.items) }
+    ensures none { map segment_of locals.now.items ≡ [] → IsOk result }
+{
+    if locals.is_empty() {
+        return Ok(Vec::new(*locals.allocator()));
+    }
+    locals.clone()
+}
+
+/// A clone is written as its source is. It is refused for want of memory, and never where the version
+/// has at most four release numbers and no local part.
+impl Clone for Version {
+    ghost is_clone = { λ v copy. copy ≡ v };
+
+    ghost is_infallible = { λ v. (length v.release ≤ 4) × (v.locals ≡ []) };
+
+    fn clone(&self) -> Result<Version, AllocError> {
+        Ok(Version {
+            epoch: self.epoch,
+            release: self.release.clone()?,
+            pre: self.pre,
+            post: self.post,
+            dev: self.dev,
+            local: clone_locals(&self.local)?,
+        })
+    }
+}

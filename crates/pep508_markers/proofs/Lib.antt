@@ -1,0 +1,6 @@
+mod ReadingLaws
+mod StackLaws
+mod ReaderLaws
+mod FaultsOfReader
+mod TruthLaws
+mod SessionLaws

@@ -1,0 +1,14 @@
+pub mod Formula
+pub mod Grammar
+pub mod Reading
+pub mod Postfix
+pub mod Stack
+pub mod First
+pub mod Reader
+pub mod Cell
+pub mod Later
+pub mod Refused
+pub mod Truths
+pub mod Machine
+pub mod Room
+pub mod Session

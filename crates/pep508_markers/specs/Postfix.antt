@@ -1,0 +1,41 @@
+-- Formulas in postfix order: a list of symbols leaves a stack of formulas, the last one first. (This project.)
+use Rattle.std.specs.Prelude.{List, [], ◌∷◌, Option, Some, None, map}
+use Rattle.marker_parts.specs.Expression.{Test}
+use Rattle.marker_parts.specs.Expression.{test_of}
+use Rattle.pep508_markers.specs.declared.formula.Token.{Token}
+use Rattle.pep508_markers.specs.declared.formula.Token.TheVariants as tokens
+use Rattle.pep508_markers.specs.Formula.{Formula, both, either}
+use Rattle.pep508_markers.specs.Formula as formulas
+
+pub data Symbol : Type 0 where
+  test : Test → Symbol
+  and : Symbol
+  or : Symbol
+
+-- a test is put on the stack, and a connective joins the two formulas on top
+abbrev pub pushed : Symbol → List Formula → List Formula
+pushed (test t) stack = formulas.test t ∷ stack
+pushed and (g ∷ f ∷ stack) = both f g ∷ stack
+pushed and (g ∷ []) = []
+pushed and [] = []
+pushed or (g ∷ f ∷ stack) = either f g ∷ stack
+pushed or (g ∷ []) = []
+pushed or [] = []
+
+abbrev pub stack_from : List Formula → List Symbol → List Formula
+stack_from stack [] = stack
+stack_from stack (symbol ∷ symbols) = stack_from (pushed symbol stack) symbols
+
+abbrev pub symbol_of : Token → Symbol
+symbol_of (tokens.Expression e) = test (test_of e)
+symbol_of tokens.And = and
+symbol_of tokens.Or = or
+
+-- the formulas that these tokens leave
+abbrev pub stack_of : List Token → List Formula
+stack_of ts = stack_from [] (map symbol_of ts)
+
+-- the formula on top, or nothing
+abbrev pub top_of : List Formula → Option Formula
+top_of [] = None
+top_of (f ∷ stack) = Some f

@@ -1,0 +1,68 @@
+-- What a reader stands for: which readings of the whole text its state leaves.
+use Rattle.std.specs.Prelude.{◌≡◌, ℕ, ◌+◌, Bool, List, [], ◌∷◌, Option, reverse, length, All}
+use Rattle.std.specs.Str.{chars}
+use Rattle.pep508_text.specs.Suffix.{IsSuffix}
+use Rattle.marker_parts.specs.declared.warning.MarkerWarningKind.{MarkerWarningKind}
+use Rattle.marker_parts.specs.declared.comparison.ComparisonError.{ComparisonError}
+use Rattle.marker_parts.specs.declared.comparison.ComparisonError.TheVariants.{OutOfMemory, Later, Fault}
+use Rattle.pep508_markers.specs.Later.{HasVersionKey}
+use Rattle.marker_words.specs.Fault.{IsFault}
+use Rattle.pep508_markers.specs.declared.reader.Group.{Group}
+use Rattle.pep508_markers.specs.declared.reader.Reader.{Reader}
+use Rattle.pep508_markers.specs.declared.reader.Wanted.{Wanted}
+use Rattle.pep508_markers.specs.declared.reader.Wanted.TheVariants as wanted
+use Rattle.pep508_markers.specs.Formula.{Formula}
+use Rattle.pep508_markers.specs.Reading.{Held, Before, After}
+use Rattle.pep508_markers.specs.Postfix.{stack_of, top_of}
+use Rattle.pep508_markers.specs.Stack.{held, below, count}
+
+-- what an `or` and its last `and` have so far, and the stack below both
+abbrev pub level : Bool → Bool → List Formula → Held
+level has_or has_and stack = record { ors = held has_or (below has_and stack); ands = held has_and stack }
+
+abbrev pub under : Bool → Bool → List Formula → List Formula
+under has_or has_and stack = below has_or (below has_and stack)
+
+-- the open parentheses, the innermost first
+abbrev pub outer_of : List Group → List Formula → List Held
+outer_of [] stack = []
+outer_of (g ∷ groups) stack = level g.has_or g.has_and stack ∷ outer_of groups (under g.has_or g.has_and stack)
+
+-- how many formulas the open parentheses have
+abbrev pub total : List Group → ℕ
+total [] = 0
+total (g ∷ groups) = count g.has_and + (count g.has_or + total groups)
+
+module _ (r : Reader) where
+  abbrev pub stack_in : List Formula
+  stack_in = stack_of r.tokens.items
+
+  abbrev pub outer_in : List Held
+  outer_in = outer_of (reverse r.groups.items) (under r.has_or r.has_and stack_in)
+
+  abbrev pub ors_in : Option Formula
+  ors_in = held r.has_or (below r.has_and stack_in)
+
+  abbrev pub ands_in : Option Formula
+  ands_in = held r.has_and stack_in
+
+  -- the formula of a text that is read to its end
+  abbrev pub formula_in : Option Formula
+  formula_in = top_of stack_in
+
+  -- as many formulas stand on the stack as the lists have, and what is left and each open parenthesis stand in the text
+  pub record IsSound : Type 0 where
+    pub full : length stack_in ≡ count r.has_and + (count r.has_or + total (reverse r.groups.items))
+    pub rest : IsSuffix r.text.now r.rest.now
+    pub groups : All (λ g. IsSuffix r.text.now g.text.now) r.groups.items
+
+-- what the text may still be read as
+abbrev pub MayRead : Wanted → Reader → Option Formula → List MarkerWarningKind → Type 0
+MayRead wanted.Atom r f k = Before (outer_in r) (ors_in r) (ands_in r) (chars r.rest.now) r.kinds.items f k
+MayRead wanted.Rest r f k = After (outer_in r) (ors_in r) (ands_in r) (chars r.rest.now) r.kinds.items f k
+
+-- why the reader stopped: a fault of the text, and then no reading is left
+abbrev pub IsRefused : Wanted → Reader → ComparisonError → Type 0
+IsRefused w r OutOfMemory = Unit {0}
+IsRefused w r Later = HasVersionKey r.text.now
+IsRefused w r (Fault e) = IsFault r.text.now e × ((f : Option Formula) (k : List MarkerWarningKind) → MayRead w r f k → ⊥)

@@ -1,0 +1,4 @@
+pub mod DistInfo
+pub mod Fronts
+pub mod IdentifierLaws
+pub mod NameLaws

@@ -1,0 +1,214 @@
+//! Names of packages.
+
+ghost use Rattle.std.specs.Prelude.{◌≡◌, List, ℕ, Contains, IfErr, IfOk, IsOkAnd, string_bytes};
+ghost use Rattle.std.specs.Cow.{cow_str_bytes, IsBorrowedStr};
+ghost use Rattle.pep508_names.specs.Fault.{IsNameRefusal};
+ghost use Rattle.pep508_names.specs.Name.{dist_info_name, IsName, NormalizesTo};
+
+use crate::invalid_name::InvalidNameError;
+use crate::normal::{deserialized, normalized};
+use refusal::Refusal;
+use serde::{
+    Described, Deserialize, DeserializeOwned, Deserializer, Format, Serialize, Serializer,
+};
+use std::alloc::{AllocError, Global};
+use std::borrow::CowStr;
+use std::cmp::Ordering;
+use std::fmt;
+use std::hash::{Hash, Hasher};
+use std::marker::Model;
+
+/// The name of a package, in the normal form of PEP 503: lowercase, with each run of `-`, `_` and `.` as one `-`.
+///
+/// Names are compared, ordered and hashed by the bytes of their normal forms.
+#[derive(Debug, Drop)]
+pub struct PackageName(String);
+
+impl Model for PackageName {
+    ghost use Rattle.std.specs.Prelude.{List, ℕ, string_bytes};
+    ghost use Rattle.pep508_names.specs.Name.{NormalizesTo};
+
+    ghost Value = { List ℕ };
+
+    ghost view = { λ name. string_bytes name.0 };
+
+    ghost invariant = { λ name. NormalizesTo (string_bytes name.0) (string_bytes name.0) };
+}
+
+impl PackageName {
+    /// Reads a name, in the memory of its text: a text that is in normal form is kept as it is, and no memory is asked for.
+    ///
+    /// A text that is no name (PEP 508) is refused as a fault, which holds it.
+    pub fn new(text: String) -> Result<PackageName, Refusal<InvalidNameError>>
+        ensures read { IfOk result (λ name. NormalizesTo (string_bytes text) name) }
+        ensures refused { IfErr result (λ refusal. (refusal ≡ Refusal.Fault (string_bytes text)) × ¬ IsName (string_bytes text)) }
+    {
+        match normalized(text) {
+            Ok(name) => Ok(PackageName(name)),
+            Err(error) => Err(Refusal::Fault(error)),
+        }
+    }
+
+    /// Reads a name from a copy of its text, for which memory is asked.
+    ///
+    /// A text that is no name (PEP 508) is refused as a fault, which holds it.
+    pub fn parse(alloc: Global, text: &str) -> Result<PackageName, Refusal<InvalidNameError>>
+        ensures read { IfOk result (λ name. NormalizesTo text.now name) }
+        ensures refused { IfErr result (λ refusal. IsNameRefusal text.now refusal) }
+    {
+        PackageName::new(String::from_str(alloc, text)?)
+    }
+
+    /// The name in its normal form, which is what is read as this name again.
+    pub fn as_str(&self) -> &str
+        ensures text { result.now ≡ self.now }
+        ensures normal { NormalizesTo result.now result.now }
+    {
+        &self.0
+    }
+
+    /// The name as it stands in the file names of distributions: each `-` is `_`. It is borrowed where there is no `-`, and then no
+    /// memory is asked for.
+    pub fn as_dist_info_name(&self, alloc: Global) -> Result<CowStr<'_>, AllocError>
+        ensures text { IfOk result (λ text. cow_str_bytes text ≡ dist_info_name self.now) }
+        ensures borrowed { ¬ Contains self.now 45 → IsOkAnd result IsBorrowedStr }
+    {
+        let name = self.as_str();
+        if !name.as_bytes().contains(&b'-') {
+            return Ok(CowStr::Borrowed(name));
+        }
+        let mut text = String::with_capacity(alloc, name.len())?;
+        for byte in name.as_bytes() {
+            let character = if *byte == b'-' { '_' } else { *byte as char };
+            text.push(character)?;
+        }
+        Ok(CowStr::Owned(text))
+    }
+}
+
+impl fmt::Display for PackageName {
+    ghost use Rattle.std.specs.Prelude.{Some};
+
+    ghost output = { λ name. Some name };
+
+    fn fmt<W: fmt::Write>(&self, f: &mut fmt::Formatter<W>) -> fmt::Result {
+        f.pad(self.as_str())
+    }
+}
+
+impl Clone for PackageName {
+    ghost is_clone = { λ name copy. copy ≡ name };
+
+    fn clone(&self) -> Result<PackageName, AllocError> {
+        Ok(PackageName(self.0.clone()?))
+    }
+}
+
+impl PartialEq for PackageName {
+    ghost use Rattle.std.specs.Prelude.{nat_eq, IsTrue, ◌↔◌};
+    ghost use Rattle.std.specs.Cmp;
+    ghost use Rattle.std.specs.Cmp.Lexicographic.{nat_list_eq_equiv, pointwise};
+
+    ghost eq = { pointwise nat_eq };
+
+    ghost laws = { Cmp.partial_equiv_from_equiv nat_list_eq_equiv };
+
+    fn eq(&self, other: &PackageName) -> bool
+        ensures value { result ≡ pointwise nat_eq self.now other.now }
+        ensures same { IsTrue result ↔ (self.now ≡ other.now) }
+    {
+        self.as_str() == other.as_str()
+    }
+}
+
+impl Eq for PackageName {
+    ghost use Rattle.std.specs.Cmp.Lexicographic.{nat_list_eq_equiv};
+
+    ghost laws = { nat_list_eq_equiv };
+}
+
+impl PartialOrd for PackageName {
+    ghost use Rattle.std.specs.Prelude.{Some};
+    ghost use Rattle.std.specs.Ordering.{nat_cmp};
+    ghost use Rattle.std.specs.Cmp.Lexicographic.{slice_cmp, texts_po};
+
+    ghost partial_cmp = { λ a b. Some (slice_cmp nat_cmp a b) };
+
+    ghost laws = { texts_po };
+
+    fn partial_cmp(&self, other: &PackageName) -> Option<Ordering> {
+        Some(self.cmp(other))
+    }
+}
+
+impl Ord for PackageName {
+    ghost use Rattle.std.specs.Prelude.{refl};
+    ghost use Rattle.std.specs.Ordering.{nat_cmp};
+    ghost use Rattle.std.specs.Cmp.Lexicographic.{nat_list_cmp_total, slice_cmp, texts_ties};
+
+    ghost cmp = { slice_cmp nat_cmp };
+
+    ghost total = { nat_list_cmp_total };
+
+    ghost matches_partial_cmp = { λ a b. refl };
+
+    ghost matches_eq = { texts_ties };
+
+    fn cmp(&self, other: &PackageName) -> Ordering {
+        self.as_str().cmp(other.as_str())
+    }
+}
+
+impl Hash for PackageName {
+    ghost use Rattle.std.specs.Hash as fed;
+    ghost use Rattle.std.proofs.Common.{rules};
+    ghost use Rattle.std.specs.Cmp.Rules.{hashing};
+
+    ghost hash_input = { fed.str };
+
+    ghost respects_eq = { Prim.search (hashing, rules) };
+
+    fn hash<H: Hasher>(&self, state: &mut H) {
+        self.as_str().hash(state);
+    }
+}
+
+impl Described for PackageName {
+    ghost use Rattle.serde.specs.Event.{Logs, text};
+
+    ghost writes = { λ name old new. Logs old new (text name) };
+}
+
+impl Serialize for PackageName {
+    fn serialize<S: Serializer>(&self, out: &mut S) -> Result<(), S::Error> {
+        out.str(self.as_str())
+    }
+}
+
+impl<'de> Deserialize<'de> for PackageName {
+    ghost use Rattle.serde.specs.Event.{text};
+    ghost use Rattle.serde.specs.Steps.{Gives};
+
+    fn deserialize<F: Format>(
+        alloc: Global,
+        from: &mut Deserializer<'de, '_, F>,
+    ) -> Result<PackageName, F::Error>
+        ensures { IfOk result (λ name. (t : List ℕ) × NormalizesTo t name × Gives F.gives from.old (text t) from.new) }
+    {
+        DeserializeOwned::deserialize_owned(alloc, from)
+    }
+}
+
+impl DeserializeOwned for PackageName {
+    ghost use Rattle.serde.specs.Event.{text};
+    ghost use Rattle.serde.specs.Steps.{Gives};
+
+    fn deserialize_owned<F: Format>(
+        alloc: Global,
+        from: &mut Deserializer<'_, '_, F>,
+    ) -> Result<PackageName, F::Error>
+        ensures { IfOk result (λ name. (t : List ℕ) × NormalizesTo t name × Gives F.gives from.old (text t) from.new) }
+    {
+        Ok(PackageName(deserialized(alloc, from)?))
+    }
+}

@@ -1,0 +1,4 @@
+pub mod ClassLaws
+pub mod RunLaws
+pub mod SuffixLaws
+mod Splits

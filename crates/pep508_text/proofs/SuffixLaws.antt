@@ -1,0 +1,86 @@
+-- Places in what is left of a text are places in the text.
+use Rattle.std.proofs.Common.{◌≡◌, ℕ, ◌+◌, ◌-◌, ◌<◌, ◌≤◌, List, [], ◌++◌, length, refl, sym, ap, ◌∙◌, subst, append_assoc, arith, length-append, IsUtf8, ⊎_elim}
+use Rattle.std.specs.Str.{IsCharBoundary}
+use Rattle.std.proofs.lemmas.List.{append-nil}
+use Rattle.std.proofs.lemmas.Str.{IsUtf8-nil, IsCharBoundary-at_seam}
+use Rattle.std.proofs.lemmas.Bool.{cases_lt}
+use Rattle.pep508_text.specs.Suffix.{IsSuffix, IsPiece, StandsAt, IsSpan, within, at_end}
+
+pub suffix_self : (t : List ℕ) → IsUtf8 t → IsSuffix t t
+suffix_self t utf8 = record { front = []; joined = refl; utf8 = utf8 }
+
+pub suffix_nil : (t : List ℕ) → IsSuffix t []
+suffix_nil t = record { front = t; joined = sym (append-nil t); utf8 = IsUtf8-nil }
+
+-- the end of an end is an end
+pub suffix_then : {a b c : List ℕ} → IsSuffix a b → IsSuffix b c → IsSuffix a c
+suffix_then {c = c} s t = record { front = s.front ++ t.front; joined = s.joined ∙ ap (λ (x : List ℕ). s.front ++ x) t.joined ∙ sym (append_assoc s.front t.front c); utf8 = t.utf8 }
+
+pub suffix_length : {a b : List ℕ} → IsSuffix a b → length b ≤ length a
+suffix_length {a} {b} s = omega (arith, ap length s.joined, length-append s.front b)
+
+-- what is left begins on a boundary of the text
+pub suffix_begins : {t rest : List ℕ} → IsSuffix t rest → IsCharBoundary t (length t - length rest)
+suffix_begins {t} {rest} s =
+    let here : length s.front ≡ length t - length rest = omega (arith, ap length s.joined, length-append s.front rest) in
+    subst (IsCharBoundary t) here (IsCharBoundary-at_seam t s.front rest s.joined s.utf8)
+
+-- a piece of what is left is a piece of the text, as far from the end
+pub piece_of_suffix : {t rest piece : List ℕ} {left : ℕ} → IsSuffix t rest → IsPiece rest piece left → IsPiece t piece left
+piece_of_suffix s p = record { back = p.back; begins = suffix_then s p.begins; ends = p.ends; length_is = p.length_is }
+
+-- the front of what is left is a piece of the text, from where it is left
+pub piece_in_front : {t piece back rest : List ℕ} → IsSuffix t rest → rest ≡ piece ++ back → IsUtf8 back → IsPiece t piece (length rest)
+piece_in_front {t} {back = back} s e ends = record { back = back; begins = subst (IsSuffix t) e s; ends = ends; length_is = ap length (sym e) }
+
+-- nothing stands between two characters, or at the end
+pub piece_nil : {t rest : List ℕ} → IsSuffix t rest → IsPiece t [] (length rest)
+piece_nil s = piece_in_front s refl s.utf8
+
+pub piece_at_end : (t : List ℕ) → IsPiece t [] 0
+piece_at_end t = piece_nil (suffix_nil t)
+
+-- a piece begins within the text, and ends there too
+pub piece_fits : {t piece : List ℕ} {left : ℕ} → IsPiece t piece left → (left ≤ length t) × (length piece ≤ left)
+piece_fits {t} {piece} {left} p =
+    let whole : length t ≡ length p.begins.front + length (piece ++ p.back) = ap length p.begins.joined ∙ length-append p.begins.front (piece ++ p.back) in
+    let parts : length (piece ++ p.back) ≡ length piece + length p.back = length-append piece p.back in
+    let size = p.length_is in
+    (omega arith, omega arith)
+
+-- where it begins, counted from the front
+pub piece_start : {t piece : List ℕ} {left : ℕ} → (p : IsPiece t piece left) → length p.begins.front ≡ length t - left
+piece_start {t} {piece} {left} p =
+    let whole : length t ≡ length p.begins.front + length (piece ++ p.back) = ap length p.begins.joined ∙ length-append p.begins.front (piece ++ p.back) in
+    let size = p.length_is in
+    omega arith
+
+-- a piece stands in the text at its place
+pub piece_stands : {t piece : List ℕ} {left : ℕ} → IsPiece t piece left → StandsAt t piece (length t - left)
+piece_stands p = record { front = p.begins.front; back = p.back; joined = p.begins.joined; start_is = piece_start p }
+
+-- a piece begins and ends on boundaries of the text
+pub piece_begins : {t piece : List ℕ} {left : ℕ} → IsPiece t piece left → IsCharBoundary t (length t - left)
+piece_begins {t} {piece} {left} p =
+    subst (IsCharBoundary t) (piece_start p) (IsCharBoundary-at_seam t p.begins.front (piece ++ p.back) p.begins.joined p.begins.utf8)
+
+pub piece_ends : {t piece : List ℕ} {left : ℕ} → IsPiece t piece left → IsCharBoundary t (length t - left + length piece)
+piece_ends {t} {piece} {left} p =
+    let joined : t ≡ (p.begins.front ++ piece) ++ p.back = p.begins.joined ∙ sym (append_assoc p.begins.front piece p.back) in
+    let here : length (p.begins.front ++ piece) ≡ length t - left + length piece = length-append p.begins.front piece ∙ ap (λ (n : ℕ). n + length piece) (piece_start p) in
+    subst (IsCharBoundary t) here (IsCharBoundary-at_seam t (p.begins.front ++ piece) p.back joined p.ends)
+
+-- the span of a piece: the piece itself, or the length 1 at the end of the text
+pub span_of_piece : {t piece : List ℕ} {left len : ℕ} → IsPiece t piece left → (0 < left → len ≡ length piece) → (left ≡ 0 → len ≡ 1) → IsSpan t (length t - left) len
+span_of_piece {t} {piece} {left} {len} p inside ended = ⊎_elim spans stops (cases_lt 0 left)
+  where
+    spans : 0 < left → IsSpan t (length t - left) len
+    spans before_end =
+        let fits = piece_fits p in
+        within (omega (arith, fits.0)) (piece_begins p) (subst (λ n. IsCharBoundary t (length t - left + n)) (sym (inside before_end)) (piece_ends p))
+
+    stops : left ≤ 0 → IsSpan t (length t - left) len
+    stops none_left = at_end (omega arith) (ended (omega arith))
+
+pub span_at_end : (t : List ℕ) → IsSpan t (length t) 1
+span_at_end t = at_end refl refl

@@ -1,0 +1,48 @@
+ghost use Rattle.std.specs.Prelude.{◌≡◌};
+ghost use Rattle.pep508_text.specs.Class.{is_comparison};
+
+use unicode::properties::is_alphabetic;
+
+/// A class of characters.
+#[derive(Clone, Copy, Debug, PartialEq, Eq)]
+pub enum Class {
+    /// White space: Unicode's White_Space.
+    Space,
+    /// Any character that is no white space: the characters of a keyword.
+    NotSpace,
+    /// No white space and none of `<`, `=`, `>`, `~`, `!` and `)`: the characters of a key.
+    KeyPart,
+    /// One of `<`, `=`, `>`, `~` and `!`: the characters of an operator that is no word.
+    Comparison,
+    /// No white space and no quote: the characters of an operator that is a word.
+    WordPart,
+    /// Any character but this one: the characters between two of these quotes.
+    NotQuote(char),
+    /// Unicode's Alphabetic: an operator that begins with such a character is a word.
+    Alphabetic,
+}
+
+impl Class {
+    ghost use Rattle.pep508_text.specs.Class.{holds};
+
+    /// Whether the class holds the character.
+    pub fn holds(self, c: char) -> bool
+        ensures { result ≡ holds self c }
+    {
+        match self {
+            Class::Space => c.is_whitespace(),
+            Class::NotSpace => !c.is_whitespace(),
+            Class::KeyPart => !(c.is_whitespace() || is_comparison(c) || c == ')'),
+            Class::Comparison => is_comparison(c),
+            Class::WordPart => !(c.is_whitespace() || c == '\'' || c == '"'),
+            Class::NotQuote(quote) => c != quote,
+            Class::Alphabetic => is_alphabetic(c),
+        }
+    }
+}
+
+fn is_comparison(c: char) -> bool
+    ensures { result ≡ is_comparison c }
+{
+    matches!(c, '<' | '=' | '>' | '~' | '!')
+}

@@ -1,0 +1,76 @@
+ghost use Rattle.std.specs.Prelude.{◌≡◌, ◌++◌, ◌∷◌, [], ◌<◌, ◌≤◌, ◌≢◌, ℕ, List, length, IfNone, IfSome, MatchOption, encode_utf8, encode_utf8_all};
+ghost use Rattle.std.specs.Str.{chars};
+ghost use Rattle.pep508_text.specs.Run.{run_of, after_run, after_space};
+ghost use Rattle.pep508_text.specs.Suffix.{IsSuffix};
+
+use crate::classes::Class;
+
+/// The first character of the text and what follows it, or `None` for the empty text.
+pub fn first(text: &str) -> Option<(char, &str)>
+    ensures bytes { MatchOption result (text.now ≡ []) (λ x. text.now ≡ encode_utf8 x.0 ++ x.1.now) }
+    ensures characters { MatchOption result (chars text.now ≡ []) (λ x. chars text.now ≡ x.0 ∷ chars x.1.now) }
+    ensures shorter { IfSome result (λ x. length x.1.now < length text.now) }
+    ensures suffix { IfSome result (λ x. IsSuffix text.now x.1.now) }
+{
+    let mut characters = text.chars();
+    let c = characters.next()?;
+    Some((c, characters.as_str()))
+}
+
+/// The last character of the text and what stands before it, or `None` for the empty text.
+pub fn last(text: &str) -> Option<(&str, char)>
+    ensures bytes { MatchOption result (text.now ≡ []) (λ x. text.now ≡ x.0.now ++ encode_utf8 x.1) }
+    ensures characters { MatchOption result (chars text.now ≡ []) (λ x. chars text.now ≡ chars x.0.now ++ x.1 ∷ []) }
+    ensures shorter { IfSome result (λ x. length x.0.now < length text.now) }
+{
+    let mut characters = text.chars();
+    let Some(c) = characters.next_back() else {
+        return None;
+    };
+    Some((characters.as_str(), c))
+}
+
+/// What follows the character, where the text begins with it, or else `None`.
+pub fn strip(text: &str, c: char) -> Option<&str>
+    ensures found { IfSome result (λ rest. chars text.now ≡ c ∷ chars rest.now) }
+    ensures bytes { IfSome result (λ rest. text.now ≡ encode_utf8 c ++ rest.now) }
+    ensures none { IfNone result ((rest : List ℕ) → chars text.now ≢ c ∷ rest) }
+    ensures shorter { IfSome result (λ rest. length rest.now < length text.now) }
+    ensures suffix { IfSome result (λ rest. IsSuffix text.now rest.now) }
+{
+    match first(text) {
+        Some((found, rest)) if found == c => Some(rest),
+        _ => None,
+    }
+}
+
+/// The longest run of the class at the front of the text, and what follows it. Either may be empty.
+pub fn split_run(text: &str, class: Class) -> (&str, &str)
+    ensures joined { text.now ≡ result.0.now ++ result.1.now }
+    ensures run { chars result.0.now ≡ run_of class (chars text.now) }
+    ensures rest { chars result.1.now ≡ after_run class (chars text.now) }
+
+    // The run's bytes, for a word that is to be known by them.
+    ensures bytes { result.0.now ≡ encode_utf8_all (run_of class (chars text.now)) }
+
+    ensures no_longer { length result.1.now ≤ length text.now }
+    ensures suffix { IsSuffix text.now result.1.now }
+{
+    let mut rest = text;
+    while let Some((c, after)) = first(rest) {
+        if !class.holds(c) {
+            break;
+        }
+        rest = after;
+    }
+    text.split_at(text.len() - rest.len())
+}
+
+/// What follows the white space at the front of the text, of which there may be none.
+pub fn skip_space(text: &str) -> &str
+    ensures rest { chars result.now ≡ after_space (chars text.now) }
+    ensures no_longer { length result.now ≤ length text.now }
+    ensures suffix { IsSuffix text.now result.now }
+{
+    split_run(text, Class::Space).1
+}

@@ -1,0 +1,13 @@
+//! The characters of a text, as the grammars of PEP 508 speak of them: classes of characters, and
+//! the longest run of a class at the front of a text.
+//!
+//! A reader of a part is a function from a `&str` to the part and the `&str` that is left. Nothing
+//! here allocates. What is left always ends where the text ends, so the place of anything is known
+//! by the number of bytes from there to the end.
+#![tactic(auto)]
+
+mod classes;
+mod fronts;
+
+pub use crate::classes::Class;
+pub use crate::fronts::{first, last, skip_space, split_run, strip};

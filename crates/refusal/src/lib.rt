@@ -1,0 +1,42 @@
+//! Why a call is refused: the one type that all crates of this repository answer with.
+#![tactic(auto)]
+
+ghost use Rattle.std.specs.Prelude.{◌≡◌};
+ghost use Rattle.refusal.specs.declared.Refusal.TheVariants.{OutOfMemory};
+
+use std::alloc::{AllocError, AllocFailed};
+use std::fmt::{Debug, Display};
+use thiserror::Error;
+
+/// Why a call was refused. A refusal leaves every value that the call was lent as it was.
+#[derive(Clone, Copy, Debug, Drop, PartialEq, Eq, Error)]
+#[error_bound(E: Display)]
+pub enum Refusal<E> {
+    /// There is no memory for the answer.
+    #[error("Out of memory")]
+    OutOfMemory,
+
+    /// The rule that was asked for raises 18446744073709551615, the largest number of a version.
+    #[error("18446744073709551615 is the largest number of a version, and cannot be raised")]
+    SegmentAtEnd,
+
+    /// What the call was given is at fault.
+    #[error("{0}")]
+    Fault(E),
+}
+
+impl<E> From<AllocError> for Refusal<E> {
+    ghost from_gives = { λ _ refusal. refusal ≡ OutOfMemory };
+
+    fn from(_error: AllocError) -> Refusal<E> {
+        Refusal::OutOfMemory
+    }
+}
+
+impl<T: Drop, E> From<AllocFailed<T>> for Refusal<E> {
+    ghost from_gives = { λ _ refusal. refusal ≡ OutOfMemory };
+
+    fn from(_failed: AllocFailed<T>) -> Refusal<E> {
+        Refusal::OutOfMemory
+    }
+}

@@ -1,0 +1,91 @@
+//! What the commands are run on, and what they must answer.
+
+use marker_parts::{MarkerEnvironment, MarkerEnvironmentBuilder, MarkerWarningKind};
+use pep508_names::ExtraName;
+use std::alloc::Global;
+
+/// An environment, and the extra `dev-tools`.
+#[derive(Drop)]
+pub struct Given {
+    pub environment: MarkerEnvironment,
+    pub extras: [ExtraName; 1],
+}
+
+impl Given {
+    /// `None` for want of memory.
+    pub fn new(alloc: Global) -> Option<Given> {
+        let builder = MarkerEnvironmentBuilder {
+            implementation_name: "cpython",
+            os_name: "posix",
+            platform_machine: "x86_64",
+            platform_python_implementation: "CPython",
+            platform_release: "6.1",
+            platform_system: "Linux",
+            platform_version: "1",
+            sys_platform: "linux",
+        };
+        let environment = MarkerEnvironment::try_from(alloc, builder).ok()?;
+        let name = ExtraName::parse(alloc, "dev-tools").ok()?;
+        Some(Given {
+            environment,
+            extras: [name],
+        })
+    }
+}
+
+/// A text, the kinds of its warnings, and its truth.
+pub type ReadRow = (&'static str, &'static [MarkerWarningKind], bool);
+
+/// Texts that are read.
+pub const READ: [ReadRow; 4] = [
+    ("os_name == 'posix'", &[], true),
+    (
+        "((os_name == 'nt' and sys_platform == 'win32') or (extra == 'Dev_Tools' and 'six' in os_name)) and os_name != ''",
+        &[],
+        true,
+    ),
+    (
+        "os.name ~= 'x' or 'a' == 'b' or extra in 'a b' or os_name == sys.platform or extra == 'a b'",
+        &[
+            MarkerWarningKind::DeprecatedMarkerName,
+            MarkerWarningKind::LexicographicComparison,
+            MarkerWarningKind::StringStringComparison,
+            MarkerWarningKind::ExtraInvalidComparison,
+            MarkerWarningKind::ExtraInvalidComparison,
+            MarkerWarningKind::DeprecatedMarkerName,
+            MarkerWarningKind::MarkerMarkerComparison,
+            MarkerWarningKind::ExtraInvalidComparison,
+        ],
+        false,
+    ),
+    (
+        "((((((((((((((((((((((((((((((((((((((((((((((((((((((((((((((((os_name == 'nt'))))))))))))))))))))))))))))))))))))))))))))))))))))))))))))))))",
+        &[],
+        false,
+    ),
+];
+
+/// A text that is refused, where its fault starts, how long it is, and its message.
+pub type FaultRow = (&'static str, usize, usize, &'static str);
+
+/// Texts that are refused.
+pub const REFUSED: [FaultRow; 3] = [
+    (
+        "(os_name == 'a' and extra == 'b'",
+        0,
+        1,
+        "Expected ')', found end of dependency specification",
+    ),
+    (
+        "os_name == posix",
+        11,
+        5,
+        "Expected a quoted string or a valid marker name, found `posix`",
+    ),
+    (
+        "os_name == 'a' é b",
+        15,
+        3,
+        "Unexpected character 'é', expected 'and', 'or' or end of input",
+    ),
+];

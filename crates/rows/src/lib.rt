@@ -1,0 +1,19 @@
+//! Tests of the public calls, over texts and answers that were worked out by hand.
+#![tactic(auto)]
+
+#[cfg(test)]
+mod connectives;
+#[cfg(test)]
+mod faults;
+#[cfg(test)]
+mod keys;
+#[cfg(test)]
+mod operators;
+#[cfg(test)]
+mod sessions;
+#[cfg(test)]
+mod sizes;
+#[cfg(test)]
+mod values;
+#[cfg(test)]
+mod warnings;

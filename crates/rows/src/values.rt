@@ -1,0 +1,40 @@
+//! The environment that the rows are evaluated in, and the truth of a text in it.
+
+use marker_parts::{MarkerEnvironment, MarkerEnvironmentBuilder};
+use pep508_markers::{Command, Reply, Session};
+use pep508_names::ExtraName;
+use std::alloc::Global;
+use std::test::Fail;
+
+pub fn linux(alloc: Global) -> Result<MarkerEnvironment, Fail> {
+    Ok(MarkerEnvironment::try_from(
+        alloc,
+        MarkerEnvironmentBuilder {
+            implementation_name: "cpython",
+            os_name: "posix",
+            platform_machine: "x86_64",
+            platform_python_implementation: "CPython",
+            platform_release: "6.1",
+            platform_system: "Linux",
+            platform_version: "#1 é",
+            sys_platform: "linux",
+        },
+    )?)
+}
+
+// The truth of a text in this environment with these extras. A text that is not read is an error.
+pub fn truth(
+    alloc: Global,
+    text: &str,
+    environment: &MarkerEnvironment,
+    extras: &[ExtraName],
+) -> Result<bool, Fail> {
+    let mut session = Session::new(alloc);
+    let Reply::Cell(cell, _) = session.execute(Command::Parse(text)) else {
+        return Err("a marker that is not read".into());
+    };
+    match session.execute(Command::Evaluate(cell, environment, extras)) {
+        Reply::Truth(truth) => Ok(truth),
+        _ => Err("a cell without a truth".into()),
+    }
+}

@@ -1,0 +1,96 @@
+-- The intervals of a set: its points and no other, in order.
+use Rattle.std.proofs.Common.{◌≡◌, Bool, true, false, not, cond, ◌&&◌, ◌||◌, List, [], ◌∷◌, Option, Some, None, refl, sym, ap, ◌∙◌}
+use Rattle.std.specs.List.{list_any}
+use Rattle.std.specs.declared.cmp.Ordering.{Ordering}
+use Rattle.std.specs.declared.cmp.Ordering.TheVariants.{Less}
+use Rattle.std.specs.declared.ops.Bound.{Bound}
+use Rattle.std.specs.declared.ops.Bound.TheVariants.{Unbounded}
+use Rattle.std.specs.Cmp.{IsTotalOrder}
+use Rattle.std.proofs.lemmas.Bool.{and_parts, and_from, false≢true}
+use Rattle.version_ranges.specs.declared.cut.Cut.{Cut}
+use Rattle.version_ranges.specs.declared.ranges.Ranges.{Ranges}
+use Rattle.version_ranges.specs.Point.{Point, point_cmp, is_from, is_until}
+use Rattle.version_ranges.specs.Cut.{cut_cmp, stands_before, lower_of, upper_of}
+use Rattle.version_ranges.specs.Steps.{value_at, is_before, ascends}
+use Rattle.version_ranges.specs.Parts.{parts_from}
+use Rattle.version_ranges.specs.Intervals.{held, is_within, StandsBefore, AreAscending, AreIntervals, intervals_of}
+use Rattle.version_ranges.proofs.StepLaws.{lt_less, before_itself}
+use Rattle.version_ranges.proofs.PointLaws.{cut_total, point_of, place_before, place_point}
+use Rattle.version_ranges.proofs.PartLaws.{lower_is, upper_is, bottom_from, before_later, parted_less, is_not}
+
+module _ {T : Type 0} {cmp : T → T → Ordering} (o : IsTotalOrder cmp) where
+  -- a point before a cut is in no interval after it
+  none_after : (p : Point T) (c : Cut T) (v : Bool) (xs : List (Cut T × Bool)) → ascends (cut_cmp cmp) (Some c) xs ≡ true → stands_before (λ v. v) cmp p c ≡ true →
+      list_any (λ i. is_within cmp i p) (held (parts_from (lower_of c) v xs)) ≡ false
+  none_after p c true [] a e = ap (λ b. (b && true) || false) (lower_is cmp p c ∙ ap not e)
+  none_after p c false [] a e = refl
+  none_after p c true (x ∷ xs) a e =
+      let q = and_parts _ _ a in
+      ap (λ b. (b && is_until cmp (upper_of x.0) p) || list_any (λ i. is_within cmp i p) (held (parts_from (lower_of x.0) x.1 xs))) (lower_is cmp p c ∙ ap not e)
+      ∙ none_after p x.0 x.1 xs q.1 (before_later cmp o p c x.0 e (lt_less _ q.0))
+  none_after p c false (x ∷ xs) a e = let q = and_parts _ _ a in none_after p x.0 x.1 xs q.1 (before_later cmp o p c x.0 e (lt_less _ q.0))
+
+  covers_by : (p : Point T) (from : Bool) (until : Bool) (v w : Bool) (more : Bool) → from ≡ true → (until ≡ true → more ≡ false) → (until ≡ false → w ≡ more) →
+      cond until v w ≡ cond v ((from && until) || more) more
+  covers_by p from true true w more e f g = ap (λ b. (b && true) || more) (sym e)
+  covers_by p from true false w more e f g = sym (f refl)
+  covers_by p from false true w more e f g = g refl ∙ ap (λ b. (b && false) || more) (sym e)
+  covers_by p from false false w more e f g = g refl
+
+  any_cond : (t : Bound T × Bound T → Bool) (v : Bool) (i : Bound T × Bound T) (is : List (Bound T × Bound T)) → list_any t (cond v (i ∷ is) is) ≡ cond v (t i || list_any t is) (list_any t is)
+  any_cond t true i is = refl
+  any_cond t false i is = refl
+
+  -- a point is in the set where it is in an interval
+  held_covers : (p : Point T) (low : Option (Cut T)) (lower : Bound T) (v : Bool) (xs : List (Cut T × Bool)) → ascends (cut_cmp cmp) low xs ≡ true → is_from cmp lower p ≡ true →
+      value_at (stands_before (λ v. v) cmp p) v xs ≡ list_any (λ i. is_within cmp i p) (held (parts_from lower v xs))
+  held_covers p low lower true [] a e = ap (λ b. (b && true) || false) (sym e)
+  held_covers p low lower false [] a e = refl
+  held_covers p low lower v (x ∷ xs) a e =
+      let q = and_parts _ _ a in
+      covers_by p (is_from cmp lower p) (stands_before (λ v. v) cmp p x.0) v (value_at (stands_before (λ v. v) cmp p) x.1 xs) (list_any (λ i. is_within cmp i p) (held (parts_from (lower_of x.0) x.1 xs))) e
+      (none_after p x.0 x.1 xs q.1) (λ f. held_covers p (Some x.0) (lower_of x.0) x.1 xs q.1 (lower_is cmp p x.0 ∙ ap not f))
+      ∙ ap (λ b. cond v ((is_from cmp lower p && b) || list_any (λ i. is_within cmp i p) (held (parts_from (lower_of x.0) x.1 xs))) (list_any (λ i. is_within cmp i p) (held (parts_from (lower_of x.0) x.1 xs)))) (sym (upper_is cmp p x.0))
+      ∙ sym (any_cond (λ i. is_within cmp i p) v (lower, upper_of x.0) (held (parts_from (lower_of x.0) x.1 xs)))
+
+  later_passed : (c d : Cut T) (q : Point T) → cut_cmp cmp c d ≡ Less → stands_before (λ v. v) cmp q d ≡ false → stands_before (λ v. v) cmp q c ≡ false
+  later_passed c d q e f = by_test (stands_before (λ v. v) cmp q c) refl
+    where
+      by_test : (b : Bool) → stands_before (λ v. v) cmp q c ≡ b → b ≡ false
+      by_test true g = absurd (false≢true (sym f ∙ before_later cmp o q c d g e))
+      by_test false g = refl
+
+  -- the points of an interval that ends at a cut stand before those of all intervals from it on
+  stands_cond : (i j : Bound T × Bound T) (v : Bool) (js : List (Bound T × Bound T)) → ((p q : Point T) → is_within cmp i p ≡ true → is_within cmp j q ≡ true → point_cmp cmp p q ≡ Less) → StandsBefore cmp i js → StandsBefore cmp i (cond v (j ∷ js) js)
+  stands_cond i j true js h k = (h, k)
+  stands_cond i j false js h k = k
+
+  before_rest : (i : Bound T × Bound T) (c d : Cut T) (v : Bool) (xs : List (Cut T × Bool)) → ((p : Point T) → is_within cmp i p ≡ true → stands_before (λ v. v) cmp p c ≡ true) →
+      ((q : Point T) → stands_before (λ v. v) cmp q d ≡ false → stands_before (λ v. v) cmp q c ≡ false) →
+      ascends (cut_cmp cmp) (Some d) xs ≡ true → StandsBefore cmp i (held (parts_from (lower_of d) v xs))
+  before_rest i c d v [] h k a = stands_cond i (lower_of d, Unbounded) v [] (λ p q e f. parted_less cmp o p q c (h p e) (k q (is_not _ (sym (lower_is cmp q d) ∙ (and_parts _ _ f).0)))) tt
+  before_rest i c d v (x ∷ xs) h k a =
+      let r = and_parts _ _ a in
+      stands_cond i (lower_of d, upper_of x.0) v (held (parts_from (lower_of x.0) x.1 xs)) (λ p q e f. parted_less cmp o p q c (h p e) (k q (is_not _ (sym (lower_is cmp q d) ∙ (and_parts _ _ f).0))))
+      (before_rest i c x.0 x.1 xs h (λ q e. k q (later_passed d x.0 q (lt_less _ r.0) e)) r.1)
+
+  ascending_cond : (i : Bound T × Bound T) (v : Bool) (is : List (Bound T × Bound T)) → (p : Point T) → is_within cmp i p ≡ true → StandsBefore cmp i is → AreAscending cmp is → AreAscending cmp (cond v (i ∷ is) is)
+  ascending_cond i true is p e h k = (p, e, h, k)
+  ascending_cond i false is p e h k = k
+
+  held_ascending : (low : Option (Cut T)) (lower : Bound T) (v : Bool) (xs : List (Cut T × Bool)) → ascends (cut_cmp cmp) low xs ≡ true → is_from cmp lower (point_of low) ≡ true → AreAscending cmp (held (parts_from lower v xs))
+  held_ascending low lower v [] a e = ascending_cond (lower, Unbounded) v [] (point_of low) (and_from _ _ e refl) tt tt
+  held_ascending low lower v (x ∷ xs) a e =
+      let q = and_parts _ _ a in
+      let before : stands_before (λ v. v) cmp (point_of low) x.0 ≡ true = place_before cmp (point_of low) x.0 ∙ ap (λ p. is_before (cut_cmp cmp) p x.0) (place_point low) ∙ q.0 in
+      let here : stands_before (λ v. v) cmp (point_of (Some x.0)) x.0 ≡ false = place_before cmp (point_of (Some x.0)) x.0 ∙ ap (λ p. is_before (cut_cmp cmp) p x.0) (place_point (Some x.0)) ∙ before_itself (cut_total o) x.0 in
+      ascending_cond (lower, upper_of x.0) v (held (parts_from (lower_of x.0) x.1 xs)) (point_of low) (and_from _ _ e (upper_is cmp (point_of low) x.0 ∙ before))
+      (before_rest (lower, upper_of x.0) x.0 x.0 x.1 xs (λ p f. sym (upper_is cmp p x.0) ∙ (and_parts _ _ f).1) (λ q f. f) q.1)
+      (held_ascending (Some x.0) (lower_of x.0) x.1 xs q.1 (lower_is cmp (point_of (Some x.0)) x.0 ∙ ap not here))
+
+  module _ {a : _} {b : _} {c : _} where
+    pub are_intervals : (ranges : Ranges T a b c) → ascends (cut_cmp cmp) None ranges.cuts.rest.items ≡ true → AreIntervals cmp ranges (intervals_of ranges)
+    are_intervals ranges h = record {
+      covers = λ p. held_covers p None Unbounded ranges.cuts.first ranges.cuts.rest.items h (bottom_from cmp p);
+      ascending = held_ascending None Unbounded ranges.cuts.first ranges.cuts.rest.items h refl;
+    }

@@ -1,0 +1,14 @@
+pub mod Elsewhere
+pub mod EqualLaws
+pub mod IntervalLaws
+pub mod MapLaws
+pub mod Merges
+pub mod PartLaws
+pub mod Picks
+pub mod PieceLaws
+pub mod PointLaws
+pub mod SetLaws
+pub mod Sides
+pub mod SingleLaws
+pub mod SpotLaws
+pub mod StepLaws

@@ -1,0 +1,62 @@
+-- The intervals of a set of points, in order. (This project's own.)
+use Rattle.std.specs.Prelude.{◌≡◌, Bool, true, Option, Some, None, List, [], ◌∷◌, if◌then◌else◌}
+use Rattle.std.specs.List.{list_any}
+use Rattle.std.specs.Borrow.{Bor}
+use Rattle.std.specs.Range.Bound.{bound_map}
+use Rattle.std.specs.declared.cmp.Ordering.{Ordering}
+use Rattle.std.specs.declared.cmp.Ordering.TheVariants.{Less}
+use Rattle.std.specs.declared.ops.Bound.{Bound}
+use Rattle.version_ranges.specs.declared.ranges.Ranges.{Ranges}
+use Rattle.version_ranges.specs.declared.intervals.Intervals.{Intervals}
+use Rattle.version_ranges.specs.Point.{Point, point_cmp, is_in_bounds}
+use Rattle.version_ranges.specs.Parts.{Part, parts_of, parts_left}
+use Rattle.version_ranges.specs.Ranges.{contains_point}
+
+module _ {T : Type 0} where
+  -- the bounds of the pieces whose points are in the set
+  abbrev pub held : List (Part T Bool) → List (Bound T × Bound T)
+  held [] = []
+  held (p ∷ ps) = if p.value then (p.lower, p.upper) ∷ held ps else held ps
+
+  -- what an item lends
+  abbrev pub interval_of : Bound (Bor T) × Bound (Bor T) → Bound T × Bound T
+  interval_of i = (bound_map (λ v. v.now) i.0, bound_map (λ v. v.now) i.1)
+
+  -- what an iterator has left
+  abbrev pub intervals_left : Intervals T → List (Bound T × Bound T)
+  intervals_left it = held (parts_left it.pieces)
+
+  -- the upper bound of the last of these, or the one before them
+  abbrev pub last_upper : Bound T → List (Bound T × Bound T) → Bound T
+  last_upper upper [] = upper
+  last_upper upper (i ∷ is) = last_upper i.1 is
+
+  -- from the lower bound of the first interval to the upper bound of the last
+  abbrev pub span_of : List (Bound T × Bound T) → Option (Bound T × Bound T)
+  span_of [] = None
+  span_of (i ∷ is) = Some (i.0, last_upper i.1 is)
+
+  module _ (cmp : T → T → Ordering) where
+    -- whether a point lies in an interval
+    abbrev pub is_within : Bound T × Bound T → Point T → Bool
+    is_within i p = is_in_bounds cmp i.0 i.1 p
+
+    -- each point of an interval stands before each point of these
+    abbrev pub StandsBefore : Bound T × Bound T → List (Bound T × Bound T) → Type 0
+    StandsBefore i [] = Unit {0}
+    StandsBefore i (j ∷ js) = ((p q : Point T) → is_within i p ≡ true → is_within j q ≡ true → point_cmp cmp p q ≡ Less) × StandsBefore i js
+
+    -- no interval is empty, and each stands before the later ones
+    abbrev pub AreAscending : List (Bound T × Bound T) → Type 0
+    AreAscending [] = Unit {0}
+    AreAscending (i ∷ is) = (p : Point T) × (is_within i p ≡ true) × StandsBefore i is × AreAscending is
+
+  module _ {a : _} {b : _} {c : _} where
+    -- all intervals
+    abbrev pub intervals_of : Ranges T a b c → List (Bound T × Bound T)
+    intervals_of ranges = held (parts_of ranges.cuts)
+
+    -- these are the intervals of a set, in order: they have its points and no other
+    pub record AreIntervals (cmp : T → T → Ordering) (ranges : Ranges T a b c) (intervals : List (Bound T × Bound T)) : Type 0 where
+      pub covers : (p : Point T) → contains_point cmp ranges p ≡ list_any (λ i. is_within cmp i p) intervals
+      pub ascending : AreAscending cmp intervals

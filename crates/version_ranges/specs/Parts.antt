@@ -1,0 +1,60 @@
+-- The pieces of a function, one after another. (This project's own.)
+use Rattle.std.specs.Prelude.{◌≡◌, ℕ, ◌<◌, true, Option, Some, None, List, [], ◌∷◌, length, slice_get}
+use Rattle.std.specs.Option.{option_copied}
+use Rattle.std.specs.Range.Bound.{bound_map}
+use Rattle.std.specs.declared.cmp.Ordering.{Ordering}
+use Rattle.std.specs.declared.cmp.Ordering.TheVariants.{Less}
+use Rattle.std.specs.declared.ops.Bound.{Bound}
+use Rattle.std.specs.declared.ops.Bound.TheVariants.{Unbounded}
+use Rattle.version_ranges.specs.declared.cut.Cut.{Cut}
+use Rattle.version_ranges.specs.declared.cuts.Cuts.{Cuts}
+use Rattle.version_ranges.specs.declared.pieces.Piece.{Piece}
+use Rattle.version_ranges.specs.declared.pieces.Pieces.{Pieces}
+use Rattle.version_ranges.specs.Point.{Point, point_cmp, is_in_bounds}
+use Rattle.version_ranges.specs.Cut.{lower_of, upper_of}
+use Rattle.version_ranges.specs.Cuts.{value_of, piece_of, piece_count}
+
+-- the bounds of a piece, and its value
+pub record Part (T V : Type 0) : Type 0 where
+  pub lower : Bound T
+  pub upper : Bound T
+  pub value : V
+
+module _ {T V : Type 0} where
+  -- the pieces from a lower bound on
+  abbrev pub parts_from : Bound T → V → List (Cut T × V) → List (Part T V)
+  parts_from low v [] = record { lower = low; upper = Unbounded; value = v } ∷ []
+  parts_from low v (s ∷ steps) = record { lower = low; upper = upper_of s.0; value = v } ∷ parts_from (lower_of s.0) s.1 steps
+
+  -- what a piece lends
+  abbrev pub part_of : Piece T V → Part T V
+  part_of p = record { lower = bound_map (λ v. v.now) p.lower; upper = bound_map (λ v. v.now) p.upper; value = p.value.now }
+
+  abbrev pub parts_if : Bound T → Option V → List (Cut T × V) → List (Part T V)
+  parts_if low None steps = []
+  parts_if low (Some v) steps = parts_from low v steps
+
+  -- what an iterator has left
+  abbrev pub parts_left : Pieces T V → List (Part T V)
+  parts_left it = parts_if (bound_map (λ v. v.now) it.lower) (option_copied it.value) it.rest.now
+
+  -- whether a point lies between the bounds of a piece
+  abbrev pub IsIn : (T → T → Ordering) → Part T V → Point T → Type 0
+  IsIn cmp part p = is_in_bounds cmp part.lower part.upper p ≡ true
+
+  module _ {a : _} {b : _} {c : _} where
+    -- all pieces
+    abbrev pub parts_of : Cuts T V a b c → List (Part T V)
+    parts_of cuts = parts_from Unbounded cuts.first cuts.rest.items
+
+    -- these parts are the pieces of a function, in order
+    pub record ArePieces (cmp : T → T → Ordering) (cuts : Cuts T V a b c) (parts : List (Part T V)) : Type 0 where
+      pub count : length parts ≡ piece_count cuts
+      -- each point lies in the part at its index, which has the value there
+      pub covers : (p : Point T) → (part : Part T V) × (slice_get parts (piece_of cmp cuts p) ≡ Some part) × IsIn cmp part p × (part.value ≡ value_of cmp cuts p)
+      -- and in no other part
+      pub apart : (i : ℕ) (part : Part T V) (p : Point T) → slice_get parts i ≡ Some part → IsIn cmp part p → piece_of cmp cuts p ≡ i
+      -- each part has a point
+      pub nonempty : (i : ℕ) (part : Part T V) → slice_get parts i ≡ Some part → (p : Point T) × IsIn cmp part p
+      -- the points of a part stand before those of the next
+      pub ascending : (p q : Point T) → piece_of cmp cuts p < piece_of cmp cuts q → point_cmp cmp p q ≡ Less

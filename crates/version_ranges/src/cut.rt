@@ -1,0 +1,26 @@
+//! A cut of an ordered set: the place where a piece of a function begins.
+ghost use Rattle.std.specs.Prelude.{◌≡◌};
+ghost use Rattle.version_ranges.specs.Cut.{cut_cmp, cut_point, stands_before};
+ghost use Rattle.version_ranges.specs.Point.{at};
+
+use std::cmp::Ordering;
+
+/// Where a piece begins: at a value, or right above it.
+#[derive(Clone, PartialEq, Eq, PartialOrd, Ord, Hash, Drop)]
+pub struct Cut<T> {
+    pub value: T,
+    pub above: bool,
+}
+
+impl<T: Ord> Cut<T> {
+    // Whether the point of a value lies before this cut.
+    pub fn is_after(&self, value: &T) -> bool
+        ensures { result ≡ stands_before (λ v. v) T.cmp (at value.now) self.now }
+    {
+        match value.cmp(&self.value) {
+            Ordering::Less => true,
+            Ordering::Equal => self.above,
+            Ordering::Greater => false,
+        }
+    }
+}

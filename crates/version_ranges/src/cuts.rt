@@ -1,0 +1,128 @@
+//! Functions of the points of an order that are constant between cuts.
+ghost use Rattle.std.specs.Prelude.{◌≡◌, None, true};
+ghost use Rattle.version_ranges.specs.Steps.{ascends, last_value};
+ghost use Rattle.version_ranges.specs.Cut.{cut_cmp};
+
+use crate::cut::Cut;
+use std::alloc::{AllocError, Global};
+
+/// A function of the points of an order that is constant between cuts.
+#[derive(PartialEq, Eq, Hash, Drop)]
+pub struct Cuts<T: Ord, V> {
+    // The value before all cuts: there is one value more than cuts.
+    pub(crate) first: V,
+    // Each cut with the value from it on.
+    pub(crate) rest: Vec<(Cut<T>, V)>,
+    pub ghost ascending: { ascends (cut_cmp T.cmp) None rest.items ≡ true },
+}
+
+impl<T: Ord, V> Cuts<T, V> {
+    ghost use Rattle.std.specs.Prelude.{◌≡◌, ◌+◌, ◌<◌, vec_len};
+    ghost use Rattle.version_ranges.specs.Point.{Point, at};
+    ghost use Rattle.version_ranges.specs.Cuts.{value_of, piece_of, piece_count};
+
+    /// The same value at every point.
+    pub fn constant(alloc: Global, value: V) -> Self
+        ensures value { (p : Point T) → value_of T.cmp result p ≡ value }
+        ensures count { piece_count result ≡ 1 }
+    {
+        Cuts {
+            first: value,
+            rest: Vec::new(alloc),
+        }
+    }
+
+    /// How many pieces there are.
+    pub fn piece_count(&self) -> usize
+        ensures { result ≡ piece_count self.now }
+    {
+        self.rest.len() + 1
+    }
+
+    /// The value at the point of a value of the order.
+    pub fn at(&self, value: &T) -> &V
+        ensures { result.now ≡ value_of T.cmp self.now (at value.now) }
+    {
+        let passed = self.rest.partition_point(|step| !step.0.is_after(value));
+        self.piece_value(passed)
+    }
+
+    // The value of the piece at an index.
+    pub(crate) fn piece_value(&self, index: usize) -> &V
+        requires { index < piece_count self.now }
+        ensures { (p : Point T) → piece_of T.cmp self.now p ≡ index → value_of T.cmp self.now p ≡ result.now }
+    {
+        if index == 0 {
+            &self.first
+        } else {
+            &self.rest[index - 1].1
+        }
+    }
+}
+
+impl<T: Ord + Drop, V: Drop> Cuts<T, V> {
+    ghost use Rattle.std.specs.Prelude.{ℕ, IfOk, ◌≡◌, true, slice_get, Some, vec_len};
+    ghost use Rattle.version_ranges.specs.Point.{Point};
+    ghost use Rattle.version_ranges.specs.Cuts.{value_of, piece_of, piece_count, IsMerged};
+
+    /// The pieces with these values in order, where neighbors with equal values are joined. There is a value for each
+    /// piece.
+    pub fn with_values<W: Eq + Drop>(self, values: Vec<W>) -> Result<Cuts<T, W>, AllocError>
+        requires { vec_len values ≡ piece_count self }
+        ensures value { IfOk result (λ r. (p : Point T) (w : W) → slice_get values.items (piece_of T.cmp self p) ≡ Some w → W.eq (value_of T.cmp r p) w ≡ true) }
+        ensures merged { IfOk result (IsMerged W.eq) }
+    {
+        let Cuts {
+            first: _,
+            rest: steps,
+        } = self;
+        let mut rest = Vec::with_capacity(*steps.allocator(), steps.len())?;
+        let mut steps = steps.into_iter();
+        let mut values = values.into_iter();
+        let Some(first) = values.next() else {
+            unreachable!()
+        };
+        while let Some((cut, _)) = steps.next() {
+            let Some(value) = values.next() else {
+                unreachable!()
+            };
+            if value != *last_of(&first, &rest) {
+                rest.push((cut, value))?;
+            }
+        }
+        Ok(Cuts { first, rest })
+    }
+}
+
+impl<T: Ord + Drop, V: Copy> Cuts<T, V> {
+    ghost use Rattle.std.specs.Prelude.{IfOk, ◌≡◌, true};
+    ghost use Rattle.version_ranges.specs.Point.{Point};
+    ghost use Rattle.version_ranges.specs.Cuts.{value_of, IsMerged};
+
+    // The function with what f makes of each value, where neighbors with equal values are joined.
+    pub(crate) fn map_values<W: Eq + Drop, F: Fn(V) -> W + Drop>(
+        self,
+        f: F,
+    ) -> Result<Cuts<T, W>, AllocError>
+        requires { F.IsAlwaysCallable f }
+        ensures value { IfOk result (λ r. (g : V → W) → ((v : V) (w : W) → F.post f v w → w ≡ g v) → (p : Point T) → W.eq (value_of T.cmp r p) (g (value_of T.cmp self p)) ≡ true) }
+        ensures merged { IfOk result (IsMerged W.eq) }
+    {
+        let mut values = Vec::with_capacity(*self.rest.allocator(), self.piece_count())?;
+        values.push(f(self.first))?;
+        for step in &self.rest {
+            values.push(f(step.1))?;
+        }
+        self.with_values(values)
+    }
+}
+
+// The value after all cuts.
+fn last_of<'a, T, V>(first: &'a V, rest: &'a [(Cut<T>, V)]) -> &'a V
+    ensures { result.now ≡ last_value first.now rest.now }
+{
+    match rest.split_last() {
+        Some((step, _)) => &step.1,
+        None => first,
+    }
+}

@@ -1,0 +1,288 @@
+//! Sets of points that are unions of intervals.
+ghost use Rattle.std.specs.Prelude.{◌≡◌, ◌&&◌, not, MatchOption};
+ghost use Rattle.std.specs.declared.ops.Bound.TheVariants.{Unbounded};
+ghost use Rattle.version_ranges.specs.Cut.{lower_of, upper_of};
+ghost use mathlib.Core.Bool.{beq};
+ghost use Rattle.version_ranges.specs.Cuts.{IsMerged};
+
+use crate::cut::Cut;
+use crate::cuts::Cuts;
+use std::alloc::{AllocError, Global};
+use std::ops::Bound;
+
+/// A set of the points of an order that is a union of intervals.
+///
+/// Equal sets are equal by `==`: intervals that touch are always joined, and no value between two values of the order
+/// is ever asked for.
+#[derive(PartialEq, Eq, Hash, Drop)]
+pub struct Ranges<T: Ord> {
+    pub(crate) cuts: Cuts<T, bool>,
+    pub ghost merged: { IsMerged beq cuts },
+}
+
+impl<T: Ord> Ranges<T> {
+    ghost use Rattle.std.specs.Prelude.{◌≡◌, true, false, IfOk, IfSome, IfNone, IsTrue, ◌↔◌};
+    ghost use Rattle.version_ranges.specs.Point.{Point, at, is_in_bounds};
+    ghost use Rattle.version_ranges.specs.Ranges.{contains_point};
+    ghost use Rattle.std.specs.declared.ops.Bound.TheVariants.{Included, Excluded, Unbounded};
+
+    /// The set of no point.
+    pub fn empty(alloc: Global) -> Self
+        ensures { (p : Point T) → contains_point T.cmp result p ≡ false }
+    {
+        Ranges {
+            cuts: Cuts::constant(alloc, false),
+        }
+    }
+
+    /// The set of all points.
+    pub fn full(alloc: Global) -> Self
+        ensures { (p : Point T) → contains_point T.cmp result p ≡ true }
+    {
+        Ranges {
+            cuts: Cuts::constant(alloc, true),
+        }
+    }
+
+    /// Whether there is no point in the set.
+    pub fn is_empty(&self) -> bool
+        ensures { IsTrue result ↔ ((p : Point T) → contains_point T.cmp self.now p ≡ false) }
+    {
+        !self.cuts.first && self.cuts.rest.is_empty()
+    }
+
+    /// The value of a set that is one value alone. There is none for any other set.
+    pub fn as_singleton(&self) -> Option<&T>
+        ensures single { IfSome result (λ v. (p : Point T) → contains_point T.cmp self.now p ≡ is_in_bounds T.cmp (Included v.now) (Included v.now) p) }
+        ensures other { IfNone result ((v : T) → ¬ ((p : Point T) → contains_point T.cmp self.now p ≡ is_in_bounds T.cmp (Included v) (Included v) p)) }
+    {
+        let steps: &[(Cut<T>, bool)] = &self.cuts.rest;
+        if steps.len() != 2 {
+            return None;
+        }
+        let begin = &steps[0].0;
+        let end = &steps[1].0;
+        if is_around(self.cuts.first, begin, end) {
+            Some(&begin.value)
+        } else {
+            None
+        }
+    }
+
+    /// Whether a value is in the set.
+    pub fn contains(&self, value: &T) -> bool
+        ensures { result ≡ contains_point T.cmp self.now (at value.now) }
+    {
+        *self.cuts.at(value)
+    }
+}
+
+impl<T: Ord + Drop> Ranges<T> {
+    ghost use Rattle.std.specs.Prelude.{◌≡◌, ◌&&◌, true, false, not, IfOk, if◌then◌else◌};
+    ghost use Rattle.std.specs.declared.cmp.Ordering.TheVariants.{Less};
+    ghost use Rattle.std.specs.declared.ops.Bound.TheVariants.{Included, Excluded, Unbounded};
+    ghost use Rattle.version_ranges.specs.Point.{Point, is_in_bounds};
+    ghost use Rattle.version_ranges.specs.Cut.{cut_cmp, stands_before};
+    ghost use Rattle.version_ranges.specs.Ranges.{contains_point};
+
+    /// The set between two bounds, which is empty where they leave no point.
+    pub fn from_range_bounds(
+        alloc: Global,
+        bounds: (Bound<T>, Bound<T>),
+    ) -> Result<Self, AllocError>
+        ensures { IfOk result (λ r. (p : Point T) → contains_point T.cmp r p ≡ is_in_bounds T.cmp bounds.0 bounds.1 p) }
+    {
+        let (lower, upper) = bounds;
+        match (begin_of(lower), end_of(upper)) {
+            (None, None) => Ok(Ranges::full(alloc)),
+            (Some(begin), None) => Ranges::divided(alloc, false, begin),
+            (None, Some(end)) => Ranges::divided(alloc, true, end),
+            (Some(begin), Some(end)) => {
+                if begin < end {
+                    Ranges::between(alloc, begin, end)
+                } else {
+                    Ok(Ranges::empty(alloc))
+                }
+            }
+        }
+    }
+
+    /// The set of a value and all after it.
+    pub fn higher_than(alloc: Global, value: T) -> Result<Self, AllocError>
+        ensures { IfOk result (λ r. (p : Point T) → contains_point T.cmp r p ≡ is_in_bounds T.cmp (Included value) Unbounded p) }
+    {
+        Ranges::from_range_bounds(alloc, (Bound::Included(value), Bound::Unbounded))
+    }
+
+    /// The set of all after a value.
+    pub fn strictly_higher_than(alloc: Global, value: T) -> Result<Self, AllocError>
+        ensures { IfOk result (λ r. (p : Point T) → contains_point T.cmp r p ≡ is_in_bounds T.cmp (Excluded value) Unbounded p) }
+    {
+        Ranges::from_range_bounds(alloc, (Bound::Excluded(value), Bound::Unbounded))
+    }
+
+    /// The set of a value and all before it.
+    pub fn lower_than(alloc: Global, value: T) -> Result<Self, AllocError>
+        ensures { IfOk result (λ r. (p : Point T) → contains_point T.cmp r p ≡ is_in_bounds T.cmp Unbounded (Included value) p) }
+    {
+        Ranges::from_range_bounds(alloc, (Bound::Unbounded, Bound::Included(value)))
+    }
+
+    /// The set of all before a value.
+    pub fn strictly_lower_than(alloc: Global, value: T) -> Result<Self, AllocError>
+        ensures { IfOk result (λ r. (p : Point T) → contains_point T.cmp r p ≡ is_in_bounds T.cmp Unbounded (Excluded value) p) }
+    {
+        Ranges::from_range_bounds(alloc, (Bound::Unbounded, Bound::Excluded(value)))
+    }
+
+    // The points before a cut where `first` is true, and else those from it on.
+    fn divided(alloc: Global, first: bool, cut: Cut<T>) -> Result<Self, AllocError>
+        ensures { IfOk result (λ r. (p : Point T) → contains_point T.cmp r p ≡ (if stands_before (λ v. v) T.cmp p cut then first else not first)) }
+    {
+        let mut rest = Vec::with_capacity(alloc, 1)?;
+        rest.push((cut, !first))?;
+        Ok(Ranges {
+            cuts: Cuts { first, rest },
+        })
+    }
+
+    // The points from one cut to a later one.
+    fn between(alloc: Global, begin: Cut<T>, end: Cut<T>) -> Result<Self, AllocError>
+        requires { cut_cmp T.cmp begin end ≡ Less }
+        ensures { IfOk result (λ r. (p : Point T) → contains_point T.cmp r p ≡ (not (stands_before (λ v. v) T.cmp p begin) && stands_before (λ v. v) T.cmp p end)) }
+    {
+        let mut rest = Vec::with_capacity(alloc, 2)?;
+        rest.push((begin, true))?;
+        rest.push((end, false))?;
+        Ok(Ranges {
+            cuts: Cuts { first: false, rest },
+        })
+    }
+}
+
+impl<T: Ord + Clone> Ranges<T> {
+    ghost use Rattle.std.specs.Prelude.{◌≡◌, ◌&&◌, ◌||◌, Bool, true, false, not, IfOk};
+    ghost use Rattle.std.specs.List.{list_any};
+    ghost use Rattle.std.specs.Set.{ClonesAreEqual};
+    ghost use Rattle.std.specs.declared.ops.Bound.TheVariants.{Included};
+    ghost use Rattle.version_ranges.specs.Point.{Point, is_in_bounds};
+    ghost use Rattle.version_ranges.specs.Ranges.{contains_point};
+
+    /// The set of one value.
+    pub fn singleton(alloc: Global, value: T) -> Result<Self, AllocError>
+        requires clones { ClonesAreEqual T.eq T.is_clone }
+        ensures { IfOk result (λ r. (p : Point T) → contains_point T.cmp r p ≡ is_in_bounds T.cmp (Included value) (Included value) p) }
+    {
+        let lower = value.clone()?;
+        Ranges::from_range_bounds(alloc, (Bound::Included(lower), Bound::Included(value)))
+    }
+
+    /// The set of these values.
+    pub fn from_points(points: Vec<T>) -> Result<Self, AllocError>
+        requires clones { ClonesAreEqual T.eq T.is_clone }
+        ensures { IfOk result (λ r. (p : Point T) → contains_point T.cmp r p ≡ list_any (λ v. is_in_bounds T.cmp (Included v) (Included v) p) points.items) }
+    {
+        let mut points = points;
+        points.sort()?;
+        points.dedup();
+        let most = points.len().checked_mul(2).ok_or(AllocError)?;
+        let mut rest = Vec::with_capacity(*points.allocator(), most)?;
+        let mut points = points.into_iter();
+        while let Some(point) = points.next() {
+            let value = point.clone()?;
+            rest.push((
+                Cut {
+                    value,
+                    above: false,
+                },
+                true,
+            ))?;
+            rest.push((
+                Cut {
+                    value: point,
+                    above: true,
+                },
+                false,
+            ))?;
+        }
+        Ok(Ranges {
+            cuts: Cuts { first: false, rest },
+        })
+    }
+
+    /// The points that are in one of two sets.
+    pub fn union(&self, alloc: Global, other: &Self) -> Result<Self, AllocError>
+        requires clones { ClonesAreEqual T.eq T.is_clone }
+        ensures { IfOk result (λ r. (p : Point T) → contains_point T.cmp r p ≡ (contains_point T.cmp self.now p || contains_point T.cmp other.now p)) }
+    {
+        self.combined(alloc, other, |sides| sides.0 || sides.1)
+    }
+
+    /// The points that are in both of two sets.
+    pub fn intersection(&self, alloc: Global, other: &Self) -> Result<Self, AllocError>
+        requires clones { ClonesAreEqual T.eq T.is_clone }
+        ensures { IfOk result (λ r. (p : Point T) → contains_point T.cmp r p ≡ (contains_point T.cmp self.now p && contains_point T.cmp other.now p)) }
+    {
+        self.combined(alloc, other, |sides| sides.0 && sides.1)
+    }
+
+    /// The points that are not in the set.
+    pub fn complement(&self, alloc: Global) -> Result<Self, AllocError>
+        requires clones { ClonesAreEqual T.eq T.is_clone }
+        ensures { IfOk result (λ r. (p : Point T) → contains_point T.cmp r p ≡ not (contains_point T.cmp self.now p)) }
+    {
+        self.combined(alloc, &Ranges::full(alloc), |sides| !sides.0)
+    }
+
+    // The points of which f holds, by whether they are in either set.
+    fn combined<F: Fn((bool, bool)) -> bool + Drop>(
+        &self,
+        alloc: Global,
+        other: &Self,
+        f: F,
+    ) -> Result<Self, AllocError>
+        requires callable { F.IsAlwaysCallable f }
+        requires clones { ClonesAreEqual T.eq T.is_clone }
+        ensures { IfOk result (λ r. (g : Bool × Bool → Bool) → ((v : Bool × Bool) (w : Bool) → F.post f v w → w ≡ g v) → (p : Point T) → contains_point T.cmp r p ≡ g (contains_point T.cmp self.now p, contains_point T.cmp other.now p)) }
+    {
+        let (sides, _) = self.cuts.overlay(alloc, &other.cuts)?;
+        Ok(Ranges {
+            cuts: sides.map_values(f)?,
+        })
+    }
+}
+
+// Whether a set with two cuts is the value between them.
+fn is_around<T: Ord>(first: bool, begin: &Cut<T>, end: &Cut<T>) -> bool
+    ensures { result ≡ (not first && (not begin.now.above && (end.now.above && T.eq begin.now.value end.now.value))) }
+{
+    !first && !begin.above && end.above && begin.value == end.value
+}
+
+// Where a range with this lower bound begins.
+fn begin_of<T>(lower: Bound<T>) -> Option<Cut<T>>
+    ensures { MatchOption result (lower ≡ Unbounded) (λ c. lower ≡ lower_of c) }
+{
+    match lower {
+        Bound::Included(value) => Some(Cut {
+            value,
+            above: false,
+        }),
+        Bound::Excluded(value) => Some(Cut { value, above: true }),
+        Bound::Unbounded => None,
+    }
+}
+
+// Where a range with this upper bound ends.
+fn end_of<T>(upper: Bound<T>) -> Option<Cut<T>>
+    ensures { MatchOption result (upper ≡ Unbounded) (λ c. upper ≡ upper_of c) }
+{
+    match upper {
+        Bound::Included(value) => Some(Cut { value, above: true }),
+        Bound::Excluded(value) => Some(Cut {
+            value,
+            above: false,
+        }),
+        Bound::Unbounded => None,
+    }
+}
