@@ -1,8 +1,6 @@
 //! A formula as one flat list, so that neither its drop nor its evaluation calls itself.
 
-ghost use Rattle.std.specs.Prelude.{◌≡◌, ◌++◌, ◌∷◌, [], ◌&&◌, ◌||◌, IfOk, if◌then◌else◌};
-ghost use Rattle.std.specs.Prelude.{◌≤◌, ◌+◌, length, reverse, vec_capacity, is_some, IfSome, IfNone};
-ghost use Rattle.std.specs.Prelude.{option_map};
+ghost use Rattle.std.specs.Prelude.{◌≡◌, ◌≤◌, ◌+◌, ◌++◌, ◌∷◌, [], ◌&&◌, ◌||◌, if◌then◌else◌, length, reverse, vec_capacity, is_some, option_map, IfOk, IfSome, IfNone};
 ghost use Rattle.marker_parts.specs.Expression.{test_of};
 ghost use Rattle.pep508_markers.specs.Formula.{of_test};
 ghost use Rattle.pep508_markers.specs.Postfix.{stack_of};

@@ -1,4 +1,5 @@
-//! Marker texts in and out.
+//! Marker texts (PEP 508, "Environment Markers"): how a whole text is read, what it says, and a session that keeps
+//! markers in numbered cells.
 #![tactic(auto)]
 
 mod formula;

@@ -77,6 +77,7 @@ fn unclosed<'a>(text: &'a str, group: &'a str) -> Fault<'a>
     }
 }
 
+// Opens a parenthesis. A refused one leaves the list as it was.
 fn open<'a>(groups: &mut Vec<Group<'a>>, group: Group<'a>) -> Result<(), AllocError>
     ensures { OnOk result (groups.new.items ≡ groups.old.items ++ group.entry ∷ []) }
 {
@@ -156,7 +157,8 @@ impl<'a> Reader<'a> {
     }
 }
 
-/// Why a marker text was read as it was: its formula, or nothing, and the kinds of its warnings.
+/// What a marker text is read as: its formula, which is empty where all of it is dropped, and the kinds of its
+/// warnings in the order of the text.
 #[derive(Debug, Drop)]
 pub struct Reading {
     pub formula: FlatFormula,
