@@ -10,10 +10,14 @@ mod keys;
 #[cfg(test)]
 mod operators;
 #[cfg(test)]
+mod plain;
+#[cfg(test)]
 mod sessions;
 #[cfg(test)]
 mod sizes;
 #[cfg(test)]
 mod values;
+#[cfg(test)]
+mod versions;
 #[cfg(test)]
 mod warnings;
