@@ -1,20 +1,26 @@
 -- What a session of lines does: names, values, and what is served, told by the states that sessions stand for.
-use Rattle.std.proofs.Common.{◌≡◌, ◌≢◌, ℕ, ◌<◌, ◌+◌, List, [], ◌∷◌, ◌++◌, Option, take, length, get_or, suc, zero, sym, ap, ◌∙◌, subst, refl, inl, Ok, Err, rules, arith}
+use Rattle.std.proofs.Common.{◌≡◌, ◌≢◌, ℕ, codes, lit<, ◌<◌, ◌+◌, List, [], ◌∷◌, ◌++◌, Option, take, length, get_or, suc, zero, sym, ap, ◌∙◌, subst, refl, inl, Ok, Err, rules, arith}
 use denote.Ref.{Bor}
 use Rattle.std.specs.Io.KnownBytes.{Appends, Consumes, IsAtEnd}
 use Rattle.std.proofs.lemmas.List.{take_more}
 use Rattle.std.proofs.lemmas.List.Elements.{All-nil}
+use Rattle.pep440_version.specs.Grammar.{IsVersionText, IsNumber, no_mark, no_epoch, last, no_pre, no_post, no_dev, no_local, version}
+use Rattle.pep440_version.specs.Parts.{Parts, release_only}
+use Rattle.pep440_version.proofs.Complete.{version-again}
+use Rattle.pep440_version.proofs.Sound.{some-value}
+use Rattle.pep440_version.proofs.ReadBack.{version-text}
 use Rattle.marker_words.specs.declared.key.TextVariable.{TextVariable}
+use Rattle.marker_words.specs.declared.key.MarkerValueVersion.{MarkerValueVersion}
 use Rattle.pep508_names.specs.Name.{NormalizesTo, IsName}
-use Rattle.marker_parts.specs.declared.environment.MarkerEnvironment.{MarkerEnvironment}
-use Rattle.marker_parts.specs.Environment.{text_of, SetsText}
+use Rattle.marker_environment.specs.Written.{Written, Says}
+use Rattle.marker_environment.specs.Environment.{Values, SetsText, SetsVersion}
 use Rattle.pep508_markers.specs.Machine as Machine
 use Rattle.pep508_markers.specs.Machine.{Cells, Answer, Step}
 use Rattle.marker_lines.specs.declared.line_session.LineSession.{LineSession}
 use Rattle.marker_lines.specs.Line.{Request, evaluate}
 use Rattle.marker_lines.specs.Reply.{reply_text}
 use Rattle.marker_lines.specs.Lines.{Lines, WholeLines, LinesSoFar}
-use Rattle.marker_lines.specs.LineStep.{State, start, Sets, Names, no_more, name, RequestStep, is_evaluated, LineStep}
+use Rattle.marker_lines.specs.LineStep.{State, start, zero_version, Names, no_more, name, RequestStep, is_evaluated, LineStep}
 use Rattle.marker_lines.specs.LineView.{texts_of}
 use Rattle.marker_lines.specs.Serving.{Answers, AnswersBeginning}
 use Rattle.marker_lines.specs.SessionView.{state_of}
@@ -40,23 +46,42 @@ names_refused [] i d below refused n = omega arith
 names_refused (word ∷ words) zero d below refused (name p n) = refused (_, p)
 names_refused (word ∷ words) (suc i) d below refused (name p n) = names_refused words i d (omega arith) refused n
 
-abbrev made_of : Cells → (TextVariable → List ℕ) → State
-made_of cells value_of = record { cells = cells; value_of = value_of }
+abbrev made_of : Cells → Values → State
+made_of cells values = record { cells = cells; values = values }
 
 -- a state by its two parts
-pub state_from : {cells : Cells} {value_of : TextVariable → List ℕ} → cells ≡ [] → value_of ≡ (λ variable. []) → made_of cells value_of ≡ start
+pub state_from : {cells : Cells} {values : Values} → cells ≡ [] → values ≡ start.values → made_of cells values ≡ start
 state_from p q = λ i. made_of (p i) (q i)
 
--- an environment with another value of a variable
-pub sets_text : {old same new : MarkerEnvironment} {variable : TextVariable} {value given : List ℕ} → same ≡ old → given ≡ value → SetsText same new variable given → Sets (text_of old) (text_of new) variable value
-sets_text p q s = record { changed = s.changed ∙ q; others = λ o n. s.others o n ∙ ap (λ (e : MarkerEnvironment). text_of e o) p }
+zero_number : IsNumber (codes "0") 0
+zero_number = record { digits = refl; some = lit< tt; value = refl; fits = lit< tt }
+
+-- `0` says the version 0, and no other
+zero_said : IsVersionText (codes "0") (release_only (0 ∷ []))
+zero_said = version-text (codes "0") (release_only (0 ∷ [])) (version no_mark no_epoch (last zero_number) no_pre no_post no_dev no_local)
+
+zero_alone : {w : Written} → Says (codes "0") w → w ≡ zero_version
+zero_alone says =
+    let same = some-value _ _ (sym (version-again _ _ says.version) ∙ version-again _ _ zero_said) in
+    λ i. record { string = says.string i; version = same i }
+
+-- values of which each text is empty, and each version is written `0`
+pub first_values : (values : Values) → ((variable : TextVariable) → values.text variable ≡ []) → ((key : MarkerValueVersion) → Says (codes "0") (values.version key)) → values ≡ start.values
+first_values values texts versions = λ i. record { text = λ variable. texts variable i; version = λ key. zero_alone (versions key) i }
+
+-- values of which one is set are those of the state
+pub sets_text : {old same new : Values} {variable : TextVariable} {value given : List ℕ} → same ≡ old → given ≡ value → SetsText same new variable given → SetsText old new variable value
+sets_text {old} {same} {new} {variable} {value} {given} p q s = subst (λ (x : List ℕ). SetsText old new variable x) q (subst (λ (v : Values). SetsText v new variable given) p s)
+
+pub sets_version : {old same new : Values} {key : MarkerValueVersion} {value : Written} → same ≡ old → SetsVersion same new key value → SetsVersion old new key value
+sets_version {old} {same} {new} {key} {value} p s = subst (λ (v : Values). SetsVersion v new key value) p s
 
 -- a request that is written in two ways
 pub for_request : {old new : State} {reply : List ℕ} {r s : Request} → r ≡ s → RequestStep old s reply new → RequestStep old r reply new
 for_request {old} {new} {reply} e step = subst (λ (x : Request). RequestStep old x reply new) (sym e) step
 
 -- an evaluation with the names of a list
-pub evaluated : {old new : State} {cell : ℕ} {words names extras : List (List ℕ)} (answer : Answer) → Names words names → extras ≡ names → Step old.cells (Machine.evaluate cell old.value_of extras) answer new.cells → new.value_of ≡ old.value_of → RequestStep old (evaluate cell words) (reply_text answer) new
+pub evaluated : {old new : State} {cell : ℕ} {words names extras : List (List ℕ)} (answer : Answer) → Names words names → extras ≡ names → Step old.cells (Machine.evaluate cell old.values extras) answer new.cells → new.values ≡ old.values → RequestStep old (evaluate cell words) (reply_text answer) new
 evaluated {old} {new} {cell} {words} {names} {extras} answer n e step same = is_evaluated answer (subst (Names words) (sym e) n) step same
 
 pub ok_is_no_err : {T E : Type 0} {x : T} {e : E} → Ok x ≡ Err e → ⊥

@@ -2,8 +2,13 @@
 -- that ends them.
 use Rattle.std.specs.Prelude.{◌≡◌, ◌≢◌, ℕ, List, [], ◌∷◌, codes}
 use Rattle.std.specs.Str.{IsUtf8}
+use Rattle.pep440_version.specs.Grammar.{IsVersionText}
+use Rattle.pep440_version.specs.Parts.{Parts, release_only}
 use Rattle.marker_words.specs.declared.key.TextVariable.{TextVariable}
-use Rattle.marker_words.specs.Key.{variable_name}
+use Rattle.marker_words.specs.declared.key.MarkerValueVersion.{MarkerValueVersion}
+use Rattle.marker_words.specs.Key.{variable_name, version_key_name}
+use Rattle.marker_environment.specs.Written.{Written, Says}
+use Rattle.marker_environment.specs.Environment.{Values, SetsText, SetsVersion}
 use Rattle.pep508_names.specs.Name.{NormalizesTo}
 use Rattle.pep508_markers.specs.Machine as Machine
 use Rattle.pep508_markers.specs.Machine.{Cells, Answer, Step}
@@ -13,16 +18,15 @@ use Rattle.marker_lines.specs.Reply.{reply_text}
 -- the cells, and the values that they are evaluated at
 pub record State : Type 0 where
   pub cells : Cells
-  pub value_of : TextVariable → List ℕ
+  pub values : Values
 
--- no cell, and each value empty
+-- the version 0, written `0`
+abbrev pub zero_version : Written
+zero_version = record { string = codes "0"; version = release_only (0 ∷ []) }
+
+-- no cell, each text empty and each version 0
 abbrev pub start : State
-start = record { cells = []; value_of = λ variable. [] }
-
--- one variable has the value, and all others keep theirs
-pub record Sets (old new : TextVariable → List ℕ) (variable : TextVariable) (value : List ℕ) : Type 0 where
-  pub changed : new variable ≡ value
-  pub others : (other : TextVariable) → other ≢ variable → new other ≡ old other
+start = record { cells = []; values = record { text = λ variable. []; version = λ key. zero_version } }
 
 -- each word is a name, and these are their normal forms (PEP 503)
 pub data Names : List (List ℕ) → List (List ℕ) → Type 0 where
@@ -32,11 +36,15 @@ pub data Names : List (List ℕ) → List (List ℕ) → Type 0 where
 -- From the state old the request may be answered by this reply, and the state is new then.
 pub data RequestStep : State → Request → List ℕ → State → Type 0 where
   -- the key is the modern name of a text variable
-  is_set : {old new : State} {key value : List ℕ} (variable : TextVariable) → key ≡ variable_name variable → new.cells ≡ old.cells → Sets old.value_of new.value_of variable value → RequestStep old (set key value) (codes "ok") new
-  no_key : {state : State} {key value : List ℕ} → ((variable : TextVariable) → key ≢ variable_name variable) → RequestStep state (set key value) (codes "error key") state
+  is_set : {old new : State} {key value : List ℕ} (variable : TextVariable) → key ≡ variable_name variable → new.cells ≡ old.cells → SetsText old.values new.values variable value → RequestStep old (set key value) (codes "ok") new
+  -- the key is one of a version, which the value says
+  is_version_set : {old new : State} {key value : List ℕ} (version_key : MarkerValueVersion) (written : Written) → key ≡ version_key_name version_key → Says value written → new.cells ≡ old.cells → SetsVersion old.values new.values version_key written → RequestStep old (set key value) (codes "ok") new
+  no_version : {state : State} {key value : List ℕ} (version_key : MarkerValueVersion) → key ≡ version_key_name version_key → ((version : Parts) → IsVersionText value version → ⊥) → RequestStep state (set key value) (codes "error version") state
+  -- the key is no modern name; this is judged before the value
+  no_key : {state : State} {key value : List ℕ} → ((variable : TextVariable) → key ≢ variable_name variable) → ((version_key : MarkerValueVersion) → key ≢ version_key_name version_key) → RequestStep state (set key value) (codes "error key") state
   -- the machine answers
-  is_parsed : {old new : State} {text : List ℕ} (answer : Answer) → Step old.cells (Machine.parse text) answer new.cells → new.value_of ≡ old.value_of → RequestStep old (parse text) (reply_text answer) new
-  is_evaluated : {old new : State} {cell : ℕ} {words names : List (List ℕ)} (answer : Answer) → Names words names → Step old.cells (Machine.evaluate cell old.value_of names) answer new.cells → new.value_of ≡ old.value_of → RequestStep old (evaluate cell words) (reply_text answer) new
+  is_parsed : {old new : State} {text : List ℕ} (answer : Answer) → Step old.cells (Machine.parse text) answer new.cells → new.values ≡ old.values → RequestStep old (parse text) (reply_text answer) new
+  is_evaluated : {old new : State} {cell : ℕ} {words names : List (List ℕ)} (answer : Answer) → Names words names → Step old.cells (Machine.evaluate cell old.values names) answer new.cells → new.values ≡ old.values → RequestStep old (evaluate cell words) (reply_text answer) new
   -- names are judged before the cell
   no_name : {state : State} {cell : ℕ} {words : List (List ℕ)} → ((names : List (List ℕ)) → Names words names → ⊥) → RequestStep state (evaluate cell words) (codes "error name") state
 

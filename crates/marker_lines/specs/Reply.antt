@@ -2,9 +2,9 @@
 use Rattle.std.specs.Prelude.{ℕ, true, false, List, ◌∷◌, ◌++◌, codes}
 use Rattle.std.specs.Fmt.{decimal}
 use Rattle.std.specs.List.{flat_map}
-use Rattle.marker_parts.specs.declared.warning.MarkerWarningKind.{MarkerWarningKind}
-use Rattle.marker_parts.specs.declared.warning.MarkerWarningKind.TheVariants.{DeprecatedMarkerName, ExtraInvalidComparison, LexicographicComparison, MarkerMarkerComparison, Pep440Error, StringStringComparison}
-use Rattle.pep508_markers.specs.Machine.{Answer, cell, truth_is, no_such_cell, out_of_memory, later, marker}
+use Rattle.marker_warnings.specs.declared.warning.MarkerWarningKind.{MarkerWarningKind}
+use Rattle.marker_warnings.specs.declared.warning.MarkerWarningKind.TheVariants.{DeprecatedMarkerName, ExtraInvalidComparison, LexicographicComparison, MarkerMarkerComparison, Pep440Error, StringStringComparison}
+use Rattle.pep508_markers.specs.Machine.{Answer, cell, truth_is, no_such_cell, out_of_memory, segment_at_end, marker}
 
 abbrev pub kind_name : MarkerWarningKind → List ℕ
 kind_name DeprecatedMarkerName = codes "DeprecatedMarkerName"
@@ -25,5 +25,5 @@ reply_text (truth_is true) = codes "true"
 reply_text (truth_is false) = codes "false"
 reply_text no_such_cell = codes "error cell"
 reply_text out_of_memory = codes "error memory"
-reply_text later = codes "error later"
+reply_text segment_at_end = codes "error segment"
 reply_text (marker start len message) = codes "error marker " ++ (decimal start ++ (codes " " ++ (decimal len ++ (codes " " ++ message))))

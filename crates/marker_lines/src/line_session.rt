@@ -1,13 +1,17 @@
 //! A session that is spoken to in lines.
 
 ghost use Rattle.std.specs.Prelude.{◌≡◌, ◌≢◌, ◌++◌, [], ℕ, List, Option, IsTrue, Err, IfOk, OnOk, OnErr, MatchOption};
-ghost use Rattle.marker_parts.specs.Environment.{text_of};
 ghost use Rattle.std.specs.Io.KnownBytes.{Appends, Consumes, IsAtEnd};
+ghost use Rattle.pep440_version.specs.Grammar.{IsVersionText};
+ghost use Rattle.pep440_version.specs.Parts.{Parts};
 ghost use Rattle.marker_words.specs.declared.key.TextVariable.{TextVariable};
-ghost use Rattle.marker_words.specs.Key.{variable_name};
+ghost use Rattle.marker_words.specs.declared.key.MarkerValueVersion.{MarkerValueVersion};
+ghost use Rattle.marker_words.specs.Key.{variable_name, version_key_name};
+ghost use Rattle.marker_environment.specs.Written.{Says, written};
+ghost use Rattle.marker_environment.specs.Environment.{values_of};
 ghost use Rattle.marker_lines.specs.Line.{Request, set, evaluate};
 ghost use Rattle.marker_lines.specs.LineView.{texts_of, request_of};
-ghost use Rattle.marker_lines.specs.LineStep.{State, start, Names, RequestStep, LineStep};
+ghost use Rattle.marker_lines.specs.LineStep.{State, start, zero_version, Names, RequestStep, LineStep};
 ghost use Rattle.marker_lines.specs.Lines.{WholeLines, Lines, LinesSoFar};
 ghost use Rattle.marker_lines.specs.Serving.{Answers, AnswersBeginning};
 ghost use Rattle.marker_lines.specs.SessionView.{state_of};
@@ -18,8 +22,8 @@ use crate::reply::{put, put_reply};
 use crate::serving::{Answer, serve_lines};
 use crate::sink::Sink;
 use crate::source::Source;
-use marker_parts::{MarkerEnvironment, MarkerEnvironmentBuilder, Refusal};
-use marker_words::TextVariable;
+use marker_parts::{MarkerEnvironment, MarkerEnvironmentBuilder, Refusal, StringVersion};
+use marker_words::{MarkerValueVersion, TextVariable};
 use pep508_markers::{Command, Session};
 use pep508_names::ExtraName;
 use std::alloc::{AllocError, Global};
@@ -34,14 +38,14 @@ struct LineSession {
 }
 
 impl LineSession {
-    // A session with no cells, and an environment of empty texts.
+    // A session with no cells, and an environment of empty texts and of versions 0.
     fn new(alloc: Global) -> Result<LineSession, AllocError>
         ensures { IfOk result (λ session. state_of session ≡ start) }
     {
         Ok(LineSession {
             alloc,
             session: Session::new(alloc),
-            environment: empty_environment(alloc)?,
+            environment: first_environment(alloc)?,
         })
     }
 
@@ -59,17 +63,34 @@ impl LineSession {
         }
     }
 
-    // Sets a value of the environment.
+    // Sets a value of the environment. The key is judged before the value.
     fn set(&mut self, key: &str, value: &str, replies: &mut Vec<u8>) -> Result<(), AllocError>
         ensures { OnOk result ((reply : List ℕ) × RequestStep (state_of self.old) (set key.now value.now) reply (state_of self.new) × (replies.new.items ≡ replies.old.items ++ reply)) }
     {
-        let Some(variable) = text_variable(key) else {
+        if let Some(variable) = text_variable(key) {
+            let value = String::from_str(self.alloc, value)?;
+            let environment = self.take_environment()?;
+            self.environment = environment.with_string(variable, value);
+            return put(replies, "ok");
+        }
+        let Some(key) = version_key(key) else {
             return put(replies, "error key");
         };
-        let value = String::from_str(self.alloc, value)?;
-        let environment = mem::replace(&mut self.environment, empty_environment(self.alloc)?);
-        self.environment = environment.with_string(variable, value);
+        let Some(value) = read_version(self.alloc, value)? else {
+            return put(replies, "error version");
+        };
+        let environment = self.take_environment()?;
+        self.environment = environment.with_version(key, value);
         put(replies, "ok")
+    }
+
+    // The environment, for which the first one is left.
+    fn take_environment(&mut self) -> Result<MarkerEnvironment, AllocError>
+        ensures taken { IfOk result (λ environment. environment ≡ self.old.environment) }
+        ensures session { self.new.session ≡ self.old.session }
+    {
+        let first = first_environment(self.alloc)?;
+        Ok(mem::replace(&mut self.environment, first))
     }
 
     // Evaluates a cell with extras. Names are judged before the cell.
@@ -104,23 +125,30 @@ impl Answer for LineSession {
     }
 }
 
-// The environment in which each value is empty.
-fn empty_environment(alloc: Global) -> Result<MarkerEnvironment, AllocError>
-    ensures { IfOk result (λ environment. text_of environment ≡ (λ variable. [])) }
+// The environment in which each text is empty and each version 0.
+fn first_environment(alloc: Global) -> Result<MarkerEnvironment, AllocError>
+    ensures { IfOk result (λ environment. values_of environment ≡ start.values) }
 {
-    MarkerEnvironment::try_from(
+    let made = MarkerEnvironment::try_from(
         alloc,
         MarkerEnvironmentBuilder {
             implementation_name: "",
+            implementation_version: "0",
             os_name: "",
             platform_machine: "",
             platform_python_implementation: "",
             platform_release: "",
             platform_system: "",
             platform_version: "",
+            python_full_version: "0",
+            python_version: "0",
             sys_platform: "",
         },
-    )
+    );
+    match made {
+        Ok(environment) => Ok(environment),
+        Err(_) => Err(AllocError),
+    }
 }
 
 // The text variable whose modern name this is.
@@ -137,6 +165,29 @@ fn text_variable(key: &str) -> Option<TextVariable>
         "platform_version" => Some(TextVariable::PlatformVersion),
         "sys_platform" => Some(TextVariable::SysPlatform),
         _ => None,
+    }
+}
+
+// The version key of this name.
+fn version_key(key: &str) -> Option<MarkerValueVersion>
+    ensures { MatchOption result ((version_key : MarkerValueVersion) → key.now ≢ version_key_name version_key) (λ version_key. key.now ≡ version_key_name version_key) }
+{
+    match key {
+        "implementation_version" => Some(MarkerValueVersion::ImplementationVersion),
+        "python_full_version" => Some(MarkerValueVersion::PythonFullVersion),
+        "python_version" => Some(MarkerValueVersion::PythonVersion),
+        _ => None,
+    }
+}
+
+// The version that a value says, or nothing where it is none.
+fn read_version(alloc: Global, value: &str) -> Result<Option<StringVersion>, AllocError>
+    ensures { IfOk result (λ read. MatchOption read ((version : Parts) → IsVersionText value.now version → ⊥) (λ version. Says value.now (written version))) }
+{
+    match StringVersion::parse(alloc, value) {
+        Ok(version) => Ok(Some(version)),
+        Err(Refusal::Fault(_)) => Ok(None),
+        Err(Refusal::OutOfMemory | Refusal::SegmentAtEnd) => Err(AllocError),
     }
 }
 
@@ -157,8 +208,8 @@ fn read_names(alloc: Global, words: &[&str]) -> Result<Option<Vec<ExtraName>>, A
 
 /// Answers each line that the reader gives with a line to the writer, in order, until no line is
 /// left: `env KEY VALUE`, `parse TEXT` and `eval A NAME ..`, beginning with no cells and an
-/// environment of empty texts. The replies to all whole lines read so far are written before the
-/// reader is asked again.
+/// environment of empty texts and of versions `0`. The replies to all whole lines read so far are
+/// written before the reader is asked again.
 ///
 /// `Err` is `Input` where the reader failed, `Output` where the writer failed, and else `Memory`,
 /// where room for a line, its words or its reply was refused. After a failed read the replies to

@@ -68,7 +68,7 @@ fn put_reason(alloc: Global, replies: &mut Vec<u8>, reason: &Reason) -> Result<(
     match reason {
         Reason::NoSuchCell => put(replies, "error cell"),
         Reason::OutOfMemory => put(replies, "error memory"),
-        Reason::Later => put(replies, "error later"),
+        Reason::SegmentAtEnd => put(replies, "error segment"),
         Reason::Marker {
             start,
             len,

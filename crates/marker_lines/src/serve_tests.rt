@@ -140,8 +140,24 @@ fn tells_each_reply(rt: HostRuntime) -> Result<(), Fail> {
         ("env foo x", "error key"),
         ("env  x", "error key"),
         ("env os.name x", "error key"),
-        ("env python_version 3", "error key"),
-        ("parse python_version > '3'", "error later"),
+        ("env python_version 3", "ok"),
+        ("env python_full_version 3.8.1 ", "ok"),
+        ("env implementation_version 3.x", "error version"),
+        ("env python_version ", "error version"),
+        ("parse python_version > '3'", "cell 1"),
+        (
+            "env python_full_version 3.8.1\nparse python_version == '3.8'\neval 1",
+            "ok\ncell 1\ntrue",
+        ),
+        (
+            "parse python_version > '3.18446744073709551615'",
+            "error segment",
+        ),
+        (
+            "parse python_full_version > '3.18446744073709551615'",
+            "cell 1",
+        ),
+        ("parse python_version == 'x'", "cell 1 Pep440Error"),
         (
             "parse os.name ~= 'x'",
             "cell 1 DeprecatedMarkerName LexicographicComparison",

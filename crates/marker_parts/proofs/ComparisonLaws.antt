@@ -1,13 +1,15 @@
 -- One comparison at most stands at the front of a text, and it comes to one meaning.
-use Rattle.std.proofs.Common.{◌≡◌, ℕ, List, ◌++◌, refl, ap, subst}
+use Rattle.std.proofs.Common.{◌≡◌, ℕ, List, [], ◌++◌, refl, ap, subst}
 use Rattle.pep508_names.proofs.NameLaws.{normal_form-unique}
+use Rattle.marker_words.specs.declared.key.MarkerValueVersion.{MarkerValueVersion}
 use Rattle.marker_words.specs.declared.operator.MarkerOperator.{MarkerOperator}
 use Rattle.std.specs.Str.{chars}
 use Rattle.marker_words.specs.Lexical.{Value, Sides}
 use Rattle.marker_words.proofs.LexicalLaws.{sides_same}
-use Rattle.marker_parts.specs.declared.warning.MarkerWarningKind.{MarkerWarningKind}
-use Rattle.marker_parts.specs.Expression.{Extra, name}
-use Rattle.marker_parts.specs.Comparison.{Meaning, extra_meaning, IsExtra, named, unnamed, Means, key_and_text, text_and_key, extra_and_text, text_and_extra, two_keys, key_and_extra, extra_and_key, two_extras, two_texts, Compared, compared}
+use Rattle.marker_warnings.specs.declared.warning.MarkerWarningKind.{MarkerWarningKind}
+use Rattle.marker_parts.specs.Expression.{Extra, name, Test}
+use Rattle.marker_parts.specs.Comparison.{Meaning, extra_meaning, IsExtra, named, unnamed, Means, key_and_text, text_and_key, extra_and_text, text_and_extra, two_keys, key_and_extra, extra_and_key, two_extras, two_texts, MeansBehind, asks, asks_nothing, MeansBefore, asks_before, asks_nothing_before, version_and_text, text_and_version, version_and_key, version_and_extra, two_versions, key_and_version, extra_and_version, kept, Compared, compared}
+use Rattle.marker_parts.proofs.AskLaws.{Asks-same, AsksBefore-same}
 use Rattle.marker_parts.specs.declared.outcome.Outcome.{Outcome}
 use Rattle.marker_parts.specs.Read.{meaning_of, ReadsComparison, HasNoComparison}
 
@@ -21,6 +23,19 @@ IsExtra-same (unnamed g) (unnamed h) = (refl, refl)
 extra_meaning-same : (operator : MarkerOperator) {t : List ℕ} {x y : Extra} {kinds others : List MarkerWarningKind} → IsExtra t x kinds → IsExtra t y others → extra_meaning operator x kinds ≡ extra_meaning operator y others
 extra_meaning-same operator g h = let e = IsExtra-same g h in λ i. extra_meaning operator (e.0 i) (e.1 i)
 
+-- a version key asks one thing of a text, or nothing
+MeansBehind-same : {key : MarkerValueVersion} {operator : MarkerOperator} {t : List ℕ} {m n : Meaning} → MeansBehind key operator t m → MeansBehind key operator t n → m ≡ n
+MeansBehind-same (asks g) (asks h) = ap (λ (x : Test). kept x []) (Asks-same g h)
+MeansBehind-same (asks g) (asks_nothing h) = absurd (h _ g)
+MeansBehind-same (asks_nothing g) (asks h) = absurd (g _ h)
+MeansBehind-same (asks_nothing g) (asks_nothing h) = refl
+
+MeansBefore-same : {key : MarkerValueVersion} {operator : MarkerOperator} {t : List ℕ} {m n : Meaning} → MeansBefore key operator t m → MeansBefore key operator t n → m ≡ n
+MeansBefore-same (asks_before g) (asks_before h) = ap (λ (x : Test). kept x []) (AsksBefore-same g h)
+MeansBefore-same (asks_before g) (asks_nothing_before h) = absurd (h _ g)
+MeansBefore-same (asks_nothing_before g) (asks_before h) = absurd (g _ h)
+MeansBefore-same (asks_nothing_before g) (asks_nothing_before h) = refl
+
 -- two sides and an operator come to one meaning
 pub Means-same : {left right : Value} {operator : MarkerOperator} {m n : Meaning} → Means left operator right m → Means left operator right n → m ≡ n
 Means-same key_and_text key_and_text = refl
@@ -32,6 +47,13 @@ Means-same key_and_extra key_and_extra = refl
 Means-same extra_and_key extra_and_key = refl
 Means-same two_extras two_extras = refl
 Means-same two_texts two_texts = refl
+Means-same (version_and_text g) (version_and_text h) = MeansBehind-same g h
+Means-same (text_and_version g) (text_and_version h) = MeansBefore-same g h
+Means-same version_and_key version_and_key = refl
+Means-same version_and_extra version_and_extra = refl
+Means-same two_versions two_versions = refl
+Means-same key_and_version key_and_version = refl
+Means-same extra_and_version extra_and_version = refl
 
 Means-moved : {left left' right right' : Value} {operator operator' : MarkerOperator} {m : Meaning} → left ≡ left' → operator ≡ operator' → right ≡ right' → Means left operator right m → Means left' operator' right' m
 Means-moved {left} {left'} {right} {right'} {operator} {operator'} {m} e f g h =

@@ -1,3 +1,6 @@
 pub mod ComparisonLaws
 mod MeaningLaws
-mod SubstringLaws
+mod CloneLaws
+mod VersionListLaws
+mod AskLaws
+mod WholeLaws

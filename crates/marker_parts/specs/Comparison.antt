@@ -1,5 +1,5 @@
 -- One comparison of a marker: how it is written, what it asks, and which kinds of warnings it gives (PEP 508, and this
--- project's rows of what is dropped). The comparison with a version key is not told yet.
+-- project's rows of what is dropped).
 use Rattle.std.specs.Prelude.{◌≡◌, ℕ, List, [], ◌∷◌, ◌++◌, Option, Some, None, if◌then◌else◌}
 use Rattle.pep508_names.specs.Name.{NormalizesTo, IsName}
 use Rattle.marker_words.specs.declared.key.MarkerValueString.{MarkerValueString}
@@ -11,9 +11,10 @@ use Rattle.marker_words.specs.Key.{is_deprecated}
 use Rattle.marker_words.specs.Operator.{turned}
 use Rattle.marker_words.specs.Lexical.{Value, version_key, text_key, quoted, Sides}
 use Rattle.marker_words.specs.Lexical as lexical
-use Rattle.marker_parts.specs.declared.warning.MarkerWarningKind.{MarkerWarningKind}
-use Rattle.marker_parts.specs.declared.warning.MarkerWarningKind.TheVariants.{DeprecatedMarkerName, ExtraInvalidComparison, LexicographicComparison, MarkerMarkerComparison, StringStringComparison}
+use Rattle.marker_warnings.specs.declared.warning.MarkerWarningKind.{MarkerWarningKind}
+use Rattle.marker_warnings.specs.declared.warning.MarkerWarningKind.TheVariants.{DeprecatedMarkerName, ExtraInvalidComparison, LexicographicComparison, MarkerMarkerComparison, Pep440Error, StringStringComparison}
 use Rattle.marker_parts.specs.Expression.{Extra, name, arbitrary, Test, text, extra}
+use Rattle.marker_parts.specs.VersionComparison.{version_operator, Asks, AsksBefore, refused_kinds}
 
 -- what a comparison asks, or nothing where it is dropped, and the kinds of its warnings in order
 pub record Meaning : Type 0 where
@@ -51,6 +52,16 @@ extra_meaning Equal x kinds = kept (extra extra_operators.Equal x) kinds
 extra_meaning NotEqual x kinds = kept (extra extra_operators.NotEqual x) kinds
 extra_meaning operator x kinds = dropped (kinds ++ (ExtraInvalidComparison ∷ []))
 
+-- a version key and a text behind it
+pub data MeansBehind (key : MarkerValueVersion) (operator : MarkerOperator) (t : List ℕ) : Meaning → Type 0 where
+  asks : {test : Test} → Asks key t (version_operator operator) test → MeansBehind key operator t (kept test [])
+  asks_nothing : ((test : Test) → ¬ Asks key t (version_operator operator) test) → MeansBehind key operator t (dropped (refused_kinds (version_operator operator)))
+
+-- a version key and a text before it, with the operator turned
+pub data MeansBefore (key : MarkerValueVersion) (operator : MarkerOperator) (t : List ℕ) : Meaning → Type 0 where
+  asks_before : {test : Test} → AsksBefore key t (version_operator operator) test → MeansBefore key operator t (kept test [])
+  asks_nothing_before : ((test : Test) → ¬ AsksBefore key t (version_operator operator) test) → MeansBefore key operator t (dropped (Pep440Error ∷ []))
+
 pub data Means : Value → MarkerOperator → Value → Meaning → Type 0 where
   key_and_text : {key : MarkerValueString} {operator : MarkerOperator} {t : List ℕ} → Means (text_key key) operator (quoted t) (text_meaning key operator t)
   text_and_key : {key : MarkerValueString} {operator : MarkerOperator} {t : List ℕ} → Means (quoted t) operator (text_key key) (text_meaning key (turned operator) t)
@@ -61,11 +72,13 @@ pub data Means : Value → MarkerOperator → Value → Meaning → Type 0 where
   extra_and_key : {key : MarkerValueString} {operator : MarkerOperator} → Means lexical.extra operator (text_key key) (dropped (key_kinds key ++ (ExtraInvalidComparison ∷ [])))
   two_extras : {operator : MarkerOperator} → Means lexical.extra operator lexical.extra (dropped (ExtraInvalidComparison ∷ []))
   two_texts : {s t : List ℕ} {operator : MarkerOperator} → Means (quoted s) operator (quoted t) (dropped (StringStringComparison ∷ []))
-
--- a version key stands on one side
-pub data HasVersionKey : Value → Value → Type 0 where
-  on_left : {key : MarkerValueVersion} {right : Value} → HasVersionKey (version_key key) right
-  on_right : {left : Value} {key : MarkerValueVersion} → HasVersionKey left (version_key key)
+  version_and_text : {key : MarkerValueVersion} {operator : MarkerOperator} {t : List ℕ} {m : Meaning} → MeansBehind key operator t m → Means (version_key key) operator (quoted t) m
+  text_and_version : {key : MarkerValueVersion} {operator : MarkerOperator} {t : List ℕ} {m : Meaning} → MeansBefore key (turned operator) t m → Means (quoted t) operator (version_key key) m
+  version_and_key : {left : MarkerValueVersion} {right : MarkerValueString} {operator : MarkerOperator} → Means (version_key left) operator (text_key right) (dropped (key_kinds right ++ (Pep440Error ∷ [])))
+  version_and_extra : {key : MarkerValueVersion} {operator : MarkerOperator} → Means (version_key key) operator lexical.extra (dropped (Pep440Error ∷ []))
+  two_versions : {left right : MarkerValueVersion} {operator : MarkerOperator} → Means (version_key left) operator (version_key right) (dropped (Pep440Error ∷ []))
+  key_and_version : {left : MarkerValueString} {right : MarkerValueVersion} {operator : MarkerOperator} → Means (text_key left) operator (version_key right) (dropped (key_kinds left ++ (MarkerMarkerComparison ∷ [])))
+  extra_and_version : {key : MarkerValueVersion} {operator : MarkerOperator} → Means lexical.extra operator (version_key key) (dropped (ExtraInvalidComparison ∷ []))
 
 -- a comparison at the front of the text, and what is left behind it
 pub data Compared : List ℕ → List ℕ → Meaning → Type 0 where

@@ -1,20 +1,28 @@
 -- What an expression means: a set of valuations. (PEP 508, "Environment Markers"; the points are this project's.)
-use Rattle.std.specs.Prelude.{ℕ, Bool, false, not, List, string_bytes}
-use Rattle.std.specs.Ordering.{nat_cmp, is_eq, is_ne, is_lt, is_le, is_gt, is_ge}
-use Rattle.std.specs.Cmp.Lexicographic.{slice_cmp}
-use Rattle.std.specs.declared.cmp.Ordering.{Ordering}
-use Rattle.version_ranges.specs.Point.{Point, at, point_cmp}
+use Rattle.std.specs.Prelude.{ℕ, Bool, not, List, Option, Some, None, string_bytes}
+use Rattle.version_ranges.specs.Point.{Point}
+use Rattle.pep440_version.specs.Parts.{Parts}
+use Rattle.pep440_specifier.specs.Specifier.{Specifier}
+use Rattle.pep440_rs.specs.Intervals as releases
+use Rattle.pep440_rs.specs.Intervals.{is_in}
+use Rattle.pep440_rs.specs.PythonVersion.{python_is_in, IsPythonAtEnd}
+use Rattle.pep440_rs.specs.Lists.{is_listed, is_minor_listed, is_in_or_not, IsListAtEnd}
+use Rattle.marker_words.specs.declared.key.MarkerValueVersion.{MarkerValueVersion}
+use Rattle.marker_words.specs.declared.key.MarkerValueVersion.TheVariants.{ImplementationVersion, PythonFullVersion, PythonVersion}
+use Rattle.marker_words.specs.declared.key.VersionVariable.{VersionVariable}
+use Rattle.marker_words.specs.declared.key.VersionVariable.TheVariants as variables
 use Rattle.marker_words.specs.declared.key.MarkerValueString.{MarkerValueString}
 use Rattle.marker_words.specs.declared.operator.MarkerOperator.{MarkerOperator}
-use Rattle.marker_words.specs.declared.operator.MarkerOperator.TheVariants.{Equal, NotEqual, GreaterThan, GreaterEqual, LessThan, LessEqual, TildeEqual, In, NotIn, Contains, NotContains}
+use Rattle.marker_words.specs.declared.operator.MarkerOperator.TheVariants.{In, NotIn, Contains, NotContains}
 use Rattle.marker_words.specs.declared.operator.ExtraOperator.{ExtraOperator}
 use Rattle.marker_words.specs.declared.operator.ExtraOperator.TheVariants as extra_operators
+use Rattle.marker_words.specs.Compare.{holds_beside, beside, text_cmp}
 use Rattle.marker_words.specs.Key.{variable_of}
-use Rattle.marker_parts.specs.Valuation.{Valuation}
+use Rattle.marker_environment.specs.Valuation.{Valuation}
 use Rattle.marker_parts.specs.declared.expression.MarkerExpression.{MarkerExpression}
 use Rattle.marker_parts.specs.declared.expression.MarkerExpression.TheVariants as expressions
-use Rattle.marker_parts.specs.declared.expression.MarkerValueExtra.{MarkerValueExtra}
-use Rattle.marker_parts.specs.declared.expression.MarkerValueExtra.TheVariants as extra_values
+use Rattle.marker_parts.specs.declared.extra.MarkerValueExtra.{MarkerValueExtra}
+use Rattle.marker_parts.specs.declared.extra.MarkerValueExtra.TheVariants as extra_values
 
 -- an extra by its normal name, or a text that is no name
 pub data Extra : Type 0 where
@@ -23,6 +31,9 @@ pub data Extra : Type 0 where
 
 -- what one comparison asks; texts are bytes
 pub data Test : Type 0 where
+  version : MarkerValueVersion → Specifier → Test
+  -- whether the version is one of these, or where the test is negated, none of them
+  version_in : MarkerValueVersion → List Parts → Bool → Test
   text : MarkerValueString → MarkerOperator → List ℕ → Test
   extra : ExtraOperator → Extra → Test
 
@@ -30,32 +41,43 @@ abbrev pub extra_of : MarkerValueExtra → Extra
 extra_of (extra_values.Extra n) = name n
 extra_of (extra_values.Arbitrary t) = arbitrary (string_bytes t)
 
--- what is printed of it
-abbrev pub extra_text : MarkerValueExtra → List ℕ
-extra_text (extra_values.Extra n) = n
-extra_text (extra_values.Arbitrary t) = string_bytes t
-
 abbrev pub test_of : MarkerExpression → Test
+test_of (expressions.Version key specifier) = version key specifier
+test_of (expressions.VersionIn key versions negated) = version_in key versions.items negated
 test_of (expressions.String key operator value) = text key operator (string_bytes value)
 test_of (expressions.Extra operator x) = extra operator (extra_of x)
 
--- where a point stands beside the point of a text, by the order of bytes
-abbrev pub beside : Point (List ℕ) → List ℕ → Ordering
-beside point value = point_cmp (slice_cmp nat_cmp) point (at value)
+-- `python_version` is no variable: its comparisons are comparisons of the full version
+abbrev pub version_variable_of : MarkerValueVersion → VersionVariable
+version_variable_of ImplementationVersion = variables.ImplementationVersion
+version_variable_of PythonFullVersion = variables.PythonFullVersion
+version_variable_of PythonVersion = variables.PythonFullVersion
 
-abbrev pub holds_text : MarkerOperator → MarkerValueString → List ℕ → Valuation → Bool
-holds_text Equal key value v = is_eq (beside (v.text (variable_of key)) value)
-holds_text NotEqual key value v = is_ne (beside (v.text (variable_of key)) value)
-holds_text GreaterThan key value v = is_gt (beside (v.text (variable_of key)) value)
-holds_text GreaterEqual key value v = is_ge (beside (v.text (variable_of key)) value)
-holds_text LessThan key value v = is_lt (beside (v.text (variable_of key)) value)
-holds_text LessEqual key value v = is_le (beside (v.text (variable_of key)) value)
+-- the version variable that is asked about, if one is
+abbrev pub asked_version : Test → Option VersionVariable
+asked_version (version key specifier) = Some (version_variable_of key)
+asked_version (version_in key versions negated) = Some (version_variable_of key)
+asked_version (text key operator value) = None
+asked_version (extra operator x) = None
+
+-- whether the variable of the key may stand at a point
+abbrev pub holds_version : MarkerValueVersion → Specifier → Point Parts → Bool
+holds_version ImplementationVersion s point = is_in s.operator s.version.release point
+holds_version PythonFullVersion s point = is_in s.operator s.version.release point
+holds_version PythonVersion s point = python_is_in s.operator s.version.release point
+
+abbrev pub holds_in : MarkerValueVersion → List Parts → Point Parts → Bool
+holds_in ImplementationVersion versions point = is_listed versions point
+holds_in PythonFullVersion versions point = is_listed versions point
+holds_in PythonVersion versions point = is_minor_listed versions point
+
 -- texts are not compared by `~=`: a reader drops such a comparison
-holds_text TildeEqual key value v = false
+abbrev pub holds_text : MarkerOperator → MarkerValueString → List ℕ → Valuation → Bool
 holds_text In key value v = v.inside (variable_of key) value
 holds_text NotIn key value v = not (v.inside (variable_of key) value)
 holds_text Contains key value v = v.contains (variable_of key) value
 holds_text NotContains key value v = not (v.contains (variable_of key) value)
+holds_text operator key value v = holds_beside operator (beside text_cmp (v.text (variable_of key)) value)
 
 abbrev pub holds_extra : Extra → Valuation → Bool
 holds_extra (name n) v = v.extra n
@@ -63,6 +85,19 @@ holds_extra (arbitrary t) v = v.arbitrary t
 
 -- whether a valuation is in the set of an expression
 abbrev pub holds : Test → Valuation → Bool
+holds (version key specifier) v = holds_version key specifier (v.version (version_variable_of key))
+holds (version_in key versions negated) v = is_in_or_not negated (holds_in key versions (v.version (version_variable_of key)))
 holds (text key operator value) v = holds_text operator key value v
 holds (extra extra_operators.Equal x) v = holds_extra x v
 holds (extra extra_operators.NotEqual x) v = not (holds_extra x v)
+
+-- the bounds of the set would raise the largest number of a version
+abbrev pub IsAtEnd : Test → Type 0
+IsAtEnd (version ImplementationVersion s) = releases.IsAtEnd s.operator s.version.release
+IsAtEnd (version PythonFullVersion s) = releases.IsAtEnd s.operator s.version.release
+IsAtEnd (version PythonVersion s) = IsPythonAtEnd s.operator s.version.release
+IsAtEnd (version_in ImplementationVersion versions negated) = ⊥
+IsAtEnd (version_in PythonFullVersion versions negated) = ⊥
+IsAtEnd (version_in PythonVersion versions negated) = IsListAtEnd versions
+IsAtEnd (text key operator value) = ⊥
+IsAtEnd (extra operator x) = ⊥

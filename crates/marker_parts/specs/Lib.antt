@@ -1,6 +1,7 @@
-pub mod Valuation
 pub mod Expression
-pub mod Substring
-pub mod Environment
+pub mod Print
+pub mod VersionList
+pub mod VersionComparison
 pub mod Comparison
 pub mod Read
+pub mod Whole

@@ -4,13 +4,13 @@ use Rattle.std.specs.Str.{chars}
 use Rattle.marker_words.specs.declared.operator.MarkerOperator.{MarkerOperator}
 use Rattle.marker_words.specs.Lexical.{Value, Sides}
 use Rattle.marker_words.specs.Fault.{IsFault}
-use Rattle.marker_parts.specs.declared.warning.MarkerWarningKind.{MarkerWarningKind}
+use Rattle.marker_warnings.specs.declared.warning.MarkerWarningKind.{MarkerWarningKind}
 use Rattle.marker_parts.specs.declared.expression.MarkerExpression.{MarkerExpression}
 use Rattle.marker_parts.specs.declared.outcome.Outcome.{Outcome}
 use Rattle.marker_parts.specs.declared.comparison.ComparisonError.{ComparisonError}
-use Rattle.marker_parts.specs.declared.comparison.ComparisonError.TheVariants.{OutOfMemory, Later, Fault}
+use Rattle.marker_parts.specs.declared.comparison.ComparisonError.TheVariants.{OutOfMemory, Fault}
 use Rattle.marker_parts.specs.Expression.{test_of}
-use Rattle.marker_parts.specs.Comparison.{Meaning, Compared, HasVersionKey}
+use Rattle.marker_parts.specs.Comparison.{Meaning, Compared}
 
 abbrev pub meaning_of : Outcome → Meaning
 meaning_of outcome = record { test = option_map test_of outcome.expression; kinds = outcome.kinds.items }
@@ -23,23 +23,12 @@ pub record ReadsComparison (text rest : List ℕ) (expression : Option MarkerExp
   pub test : option_map test_of expression ≡ meaning.test
   pub kinds : new ≡ old ++ meaning.kinds
 
--- a comparison with a version key on one side stands there
-pub record ComparesVersion (input : List ℕ) : Type 0 where
-  pub output : List ℕ
-  pub left : Value
-  pub operator : MarkerOperator
-  pub right : Value
-  pub sides : Sides input output left operator right
-  pub version : HasVersionKey left right
-
 -- no comparison stands there
 pub record HasNoComparison (input : List ℕ) : Type 0 where
   pub no_sides : (output : List ℕ) (left right : Value) (operator : MarkerOperator) → Sides input output left operator right → ⊥
   pub no_compared : (output : List ℕ) (m : Meaning) → Compared input output m → ⊥
 
--- why a comparison is not read: for want of memory, for a version key, or since none stands there, which is told as a
--- fault of the text
+-- why a comparison is not read: for want of memory, or since none stands there, which is told as a fault of the text
 abbrev pub IsRefused : List ℕ → ComparisonError → Type 0
 IsRefused text OutOfMemory = ⊤
-IsRefused text Later = ComparesVersion (chars text)
 IsRefused text (Fault fault) = HasNoComparison (chars text) × IsFault text fault

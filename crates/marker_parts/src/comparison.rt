@@ -6,7 +6,7 @@ ghost use Rattle.marker_parts.specs.Read.{ReadsComparison, IsRefused};
 
 use crate::expression::MarkerExpression;
 use crate::outcome::Outcome;
-use crate::warning::MarkerWarningKind;
+use marker_warnings::MarkerWarningKind;
 use marker_words::{Fault, sides};
 use std::alloc::{AllocError, Global};
 
@@ -15,8 +15,6 @@ use std::alloc::{AllocError, Global};
 pub enum ComparisonError<'a> {
     /// Memory ran out.
     OutOfMemory,
-    /// A version key stands on one side. Such comparisons are not read yet.
-    Later,
     /// No comparison stands there.
     Fault(Fault<'a>),
 }
@@ -59,9 +57,7 @@ pub fn read_comparison<'a>(
     ensures unchanged { OnErr result (kinds.new.items ≡ kinds.old.items) }
 {
     let (comparison, rest) = sides(text)?;
-    let Some(mut outcome) = Outcome::of(alloc, comparison)? else {
-        return Err(ComparisonError::Later);
-    };
+    let mut outcome = Outcome::of(alloc, comparison)?;
     kinds.append(&mut outcome.kinds)?;
     Ok((outcome.expression, rest))
 }

@@ -1,71 +1,27 @@
 //! Comparisons of keys with values, and what they answer.
 
-ghost use Rattle.std.specs.Prelude.{◌≡◌};
-ghost use Rattle.marker_parts.specs.Substring.{is_part_of};
-
-use crate::environment::MarkerEnvironment;
-use marker_words::{ExtraOperator, MarkerOperator, MarkerValueString};
+use crate::extra::MarkerValueExtra;
+use marker_environment::{MarkerEnvironment, is_part_of};
+use marker_words::{ExtraOperator, MarkerOperator, MarkerValueString, MarkerValueVersion};
+use pep440_rs::{Version, VersionSpecifier};
 use pep508_names::ExtraName;
 use std::alloc::AllocError;
-use std::fmt;
-use std::fmt::Display;
-
-/// What stands beside `extra`.
-#[derive(Debug, PartialEq, Eq, PartialOrd, Ord, Hash, Drop)]
-pub enum MarkerValueExtra {
-    /// A name of an extra.
-    Extra(ExtraName),
-    /// A text that is no name, which no list of extras has.
-    Arbitrary(String),
-}
-
-impl Display for MarkerValueExtra {
-    ghost use Rattle.std.specs.Prelude.{Some};
-    ghost use Rattle.marker_parts.specs.Expression.{extra_text};
-
-    ghost output = { λ value. Some (extra_text value) };
-
-    fn fmt<W: fmt::Write>(&self, f: &mut fmt::Formatter<W>) -> fmt::Result {
-        f.pad(match self {
-            MarkerValueExtra::Extra(name) => name.as_str(),
-            MarkerValueExtra::Arbitrary(text) => text.as_str(),
-        })
-    }
-}
-
-impl Clone for MarkerValueExtra {
-    ghost use Rattle.marker_parts.specs.Expression.{extra_of};
-
-    ghost is_clone = { λ value clone. extra_of clone ≡ extra_of value };
-
-    fn clone(&self) -> Result<MarkerValueExtra, AllocError> {
-        match self {
-            MarkerValueExtra::Extra(name) => Ok(MarkerValueExtra::Extra(name.clone()?)),
-            MarkerValueExtra::Arbitrary(text) => Ok(MarkerValueExtra::Arbitrary(text.clone()?)),
-        }
-    }
-}
-
-impl MarkerValueExtra {
-    ghost use Rattle.std.specs.Prelude.{ℕ, List};
-    ghost use Rattle.marker_words.specs.declared.key.TextVariable.{TextVariable};
-    ghost use Rattle.marker_parts.specs.Expression.{extra_of, holds_extra};
-    ghost use Rattle.marker_parts.specs.Environment.{valuation_of};
-
-    // A text that is no name is in no list.
-    fn is_in(&self, extras: &[ExtraName]) -> bool
-        ensures { (texts : TextVariable → List ℕ) → result ≡ holds_extra (extra_of self.now) (valuation_of texts extras.now) }
-    {
-        match self {
-            MarkerValueExtra::Extra(name) => extras.contains(name),
-            MarkerValueExtra::Arbitrary(_) => false,
-        }
-    }
-}
 
 /// One comparison of a marker.
 #[derive(Debug, PartialEq, Eq, PartialOrd, Ord, Hash, Drop)]
 pub enum MarkerExpression {
+    /// A version key compared with a version, as `python_version >= '3.8'`.
+    Version {
+        key: MarkerValueVersion,
+        specifier: VersionSpecifier,
+    },
+    /// A version key looked for in a list of versions, as `python_version in '3.8 3.9'`. Where it is negated, it holds
+    /// where the version is not found.
+    VersionIn {
+        key: MarkerValueVersion,
+        versions: Vec<Version>,
+        negated: bool,
+    },
     /// A text key compared with a text, as `os_name == 'posix'`.
     String {
         key: MarkerValueString,
@@ -80,12 +36,27 @@ pub enum MarkerExpression {
 }
 
 impl Clone for MarkerExpression {
+    ghost use Rattle.std.specs.Prelude.{◌≡◌};
     ghost use Rattle.marker_parts.specs.Expression.{test_of};
 
     ghost is_clone = { λ expression clone. test_of clone ≡ test_of expression };
 
+    #[tactic(auto, using(crate::proofs::CloneLaws::same_items))]
     fn clone(&self) -> Result<MarkerExpression, AllocError> {
         match self {
+            MarkerExpression::Version { key, specifier } => Ok(MarkerExpression::Version {
+                key: *key,
+                specifier: specifier.clone()?,
+            }),
+            MarkerExpression::VersionIn {
+                key,
+                versions,
+                negated,
+            } => Ok(MarkerExpression::VersionIn {
+                key: *key,
+                versions: versions.clone()?,
+                negated: *negated,
+            }),
             MarkerExpression::String {
                 key,
                 operator,
@@ -103,32 +74,27 @@ impl Clone for MarkerExpression {
     }
 }
 
-#[tactic(auto, using(crate::proofs::SubstringLaws::contains_is_part_of))]
-fn is_part_of(part: &str, text: &str) -> bool
-    ensures { result ≡ is_part_of part.now text.now }
-{
-    text.contains(part)
-}
-
 impl MarkerExpression {
-    ghost use Rattle.std.specs.Prelude.{ℕ, List};
-    ghost use Rattle.marker_parts.specs.Expression.{test_of, holds, holds_text};
-    ghost use Rattle.marker_parts.specs.Environment.{text_of, valuation_of};
+    ghost use Rattle.std.specs.Prelude.{◌≡◌, ℕ, List, Option, Some, None, if◌then◌else◌};
+    ghost use Rattle.std.specs.Option.{is_some};
+    ghost use Rattle.marker_environment.specs.Environment.{values_of, valuation_of};
+    ghost use Rattle.marker_parts.specs.Expression.{test_of, asked_version, holds, holds_text};
 
-    /// Whether the comparison holds in the environment with the listed extras. Texts are ordered by
-    /// their bytes.
-    pub fn evaluate(&self, environment: &MarkerEnvironment, extras: &[ExtraName]) -> bool
-        ensures { result ≡ holds (test_of self.now) (valuation_of (text_of environment.now) extras.now) }
+    /// Whether the comparison holds in the environment with the listed extras, or `None` for a comparison of a version
+    /// key, which `version_range` answers. Texts are ordered by their bytes.
+    pub fn evaluate(&self, environment: &MarkerEnvironment, extras: &[ExtraName]) -> Option<bool>
+        ensures { result ≡ (if is_some (asked_version (test_of self.now)) then None else Some (holds (test_of self.now) (valuation_of (values_of environment.now) extras.now))) }
     {
         match self {
+            MarkerExpression::Version { .. } | MarkerExpression::VersionIn { .. } => None,
             MarkerExpression::String {
                 key,
                 operator,
                 value,
-            } => MarkerExpression::compare(environment, key, *operator, value),
+            } => Some(MarkerExpression::compare(environment, key, *operator, value)),
             MarkerExpression::Extra { operator, name } => match operator {
-                ExtraOperator::Equal => name.is_in(extras),
-                ExtraOperator::NotEqual => !name.is_in(extras),
+                ExtraOperator::Equal => Some(name.is_in(extras)),
+                ExtraOperator::NotEqual => Some(!name.is_in(extras)),
             },
         }
     }
@@ -139,7 +105,7 @@ impl MarkerExpression {
         operator: MarkerOperator,
         value: &str,
     ) -> bool
-        ensures { (extras : List (List ℕ)) → result ≡ holds_text operator key.now value.now (valuation_of (text_of environment.now) extras) }
+        ensures { (extras : List (List ℕ)) → result ≡ holds_text operator key.now value.now (valuation_of (values_of environment.now) extras) }
     {
         let found = environment.get_string(key);
         let order = found.cmp(value);

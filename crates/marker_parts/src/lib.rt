@@ -1,22 +1,29 @@
 //! What a marker is made of, and how one comparison is read (PEP 508, "Environment Markers").
 //!
-//! An expression is one comparison, and an environment has the values that it is evaluated on.
+//! An expression is one comparison.
 #![tactic(auto)]
 
 mod comparison;
-mod environment;
+mod display;
 mod expression;
+mod extra;
 pub mod laws;
 mod outcome;
-mod warning;
+mod parse;
+mod version_comparison;
+mod version_operator;
+mod version_range;
 
 pub use comparison::{ComparisonError, read_comparison};
-pub use environment::{MarkerEnvironment, MarkerEnvironmentBuilder};
-pub use expression::{MarkerExpression, MarkerValueExtra};
+pub use expression::MarkerExpression;
+pub use extra::MarkerValueExtra;
+pub use marker_environment::{MarkerEnvironment, MarkerEnvironmentBuilder, StringVersion};
+pub use marker_warnings::{MarkerWarningKind, ReportTo, Reporter, TracingReporter};
 pub use marker_words::{
     ExtraOperator, Fault, FaultKind, MarkerOperator, MarkerValueString, MarkerValueVersion,
-    TextVariable,
+    TextVariable, VersionVariable,
 };
+pub use pep440_rs::{Version, VersionSpecifier};
+pub use pep508_errors::{Pep508Error, Pep508ErrorSource, Pep508Url, Surroundings};
 pub use pep508_names::{ExtraName, InvalidNameError, PackageName};
 pub use refusal::Refusal;
-pub use warning::MarkerWarningKind;

@@ -3,10 +3,14 @@
 ghost use Rattle.std.specs.Prelude.{◌≡◌};
 ghost use Rattle.marker_words.specs.Key.{is_deprecated};
 
-use crate::expression::{MarkerExpression, MarkerValueExtra};
-use crate::warning::MarkerWarningKind;
+use crate::expression::MarkerExpression;
+use crate::extra::MarkerValueExtra;
+use crate::version_comparison::{asked_before, asked_behind};
+use crate::version_operator::VersionOperator;
+use marker_warnings::MarkerWarningKind;
 use marker_words::{
     ComparisonRef, ExtraOperator, MarkerOperator, MarkerValueRef, MarkerValueString,
+    MarkerValueVersion,
 };
 use pep508_names::ExtraName;
 use refusal::Refusal;
@@ -22,60 +26,71 @@ pub(crate) struct Outcome {
 
 impl Outcome {
     ghost use Rattle.std.specs.Prelude.{◌++◌, ◌∷◌, [], List, IfOk, IfSome, IfNone, OnOk};
-    ghost use Rattle.marker_parts.specs.declared.warning.MarkerWarningKind.{MarkerWarningKind};
+    ghost use Rattle.marker_warnings.specs.declared.warning.MarkerWarningKind.{MarkerWarningKind};
     ghost use Rattle.marker_parts.specs.Expression.{extra_of};
-    ghost use Rattle.marker_parts.specs.Comparison.{key_kinds, extra_kinds, dropped, text_meaning, extra_meaning, IsExtra, Means, HasVersionKey, MeansExtra};
+    ghost use Rattle.marker_parts.specs.Comparison.{key_kinds, extra_kinds, dropped, text_meaning, extra_meaning, IsExtra, Means, MeansExtra, MeansBehind, MeansBefore};
+    ghost use Rattle.marker_parts.specs.VersionComparison.{refused_kinds};
     ghost use Rattle.marker_words.specs.Part.{value_of};
     ghost use Rattle.marker_parts.specs.Read.{meaning_of};
 
-    // What two sides and the operator between them come to, or `None` where one is a version key.
-    #[tactic(auto, using(crate::proofs::MeaningLaws::key_then_text, crate::proofs::MeaningLaws::text_then_key, crate::proofs::MeaningLaws::extra_then_text, crate::proofs::MeaningLaws::text_then_extra, crate::proofs::MeaningLaws::key_then_key, crate::proofs::MeaningLaws::key_then_extra, crate::proofs::MeaningLaws::extra_then_key, crate::proofs::MeaningLaws::extra_then_extra, crate::proofs::MeaningLaws::text_then_text, crate::proofs::MeaningLaws::version_on_left, crate::proofs::MeaningLaws::version_on_right))]
-    pub(crate) fn of(
-        alloc: Global,
-        comparison: ComparisonRef<'_>,
-    ) -> Result<Option<Outcome>, AllocError>
-        ensures means { IfOk result (λ found. IfSome found (λ outcome. Means (value_of comparison.entry.left) comparison.entry.operator (value_of comparison.entry.right) (meaning_of outcome))) }
-        ensures version { IfOk result (λ found. IfNone found (HasVersionKey (value_of comparison.entry.left) (value_of comparison.entry.right))) }
+    // What two sides and the operator between them come to.
+    #[tactic(auto, using(crate::proofs::MeaningLaws::key_then_text, crate::proofs::MeaningLaws::text_then_key, crate::proofs::MeaningLaws::extra_then_text, crate::proofs::MeaningLaws::text_then_extra, crate::proofs::MeaningLaws::key_then_key, crate::proofs::MeaningLaws::key_then_extra, crate::proofs::MeaningLaws::extra_then_key, crate::proofs::MeaningLaws::extra_then_extra, crate::proofs::MeaningLaws::text_then_text, crate::proofs::MeaningLaws::version_then_text, crate::proofs::MeaningLaws::text_then_version, crate::proofs::MeaningLaws::version_then_key, crate::proofs::MeaningLaws::version_then_extra, crate::proofs::MeaningLaws::version_then_version, crate::proofs::MeaningLaws::key_then_version, crate::proofs::MeaningLaws::extra_then_version))]
+    pub(crate) fn of(alloc: Global, comparison: ComparisonRef<'_>) -> Result<Outcome, AllocError>
+        ensures { IfOk result (λ outcome. Means (value_of comparison.entry.left) comparison.entry.operator (value_of comparison.entry.right) (meaning_of outcome)) }
     {
         let operator = comparison.operator;
         match (comparison.left, comparison.right) {
-            (MarkerValueRef::MarkerEnvVersion(_), _) | (_, MarkerValueRef::MarkerEnvVersion(_)) =>
-                Ok(None),
+            (MarkerValueRef::MarkerEnvVersion(key), MarkerValueRef::QuotedString(text)) => {
+                Outcome::of_version(alloc, key, operator, text)
+            }
+            (MarkerValueRef::QuotedString(text), MarkerValueRef::MarkerEnvVersion(key)) => {
+                Outcome::of_turned_version(alloc, key, operator.turned(), text)
+            }
             (MarkerValueRef::MarkerEnvString(key), MarkerValueRef::QuotedString(text)) => {
-                Ok(Some(Outcome::of_text(alloc, key, operator, text)?))
+                Outcome::of_text(alloc, key, operator, text)
             }
             (MarkerValueRef::QuotedString(text), MarkerValueRef::MarkerEnvString(key)) => {
-                Ok(Some(Outcome::of_text(alloc, key, operator.turned(), text)?))
+                Outcome::of_text(alloc, key, operator.turned(), text)
             }
             (MarkerValueRef::Extra, MarkerValueRef::QuotedString(text)) => {
-                Ok(Some(Outcome::of_extra(alloc, operator, text)?))
+                Outcome::of_extra(alloc, operator, text)
             }
             (MarkerValueRef::QuotedString(text), MarkerValueRef::Extra) => {
-                Ok(Some(Outcome::of_extra(alloc, operator, text)?))
+                Outcome::of_extra(alloc, operator, text)
             }
             (MarkerValueRef::MarkerEnvString(left), MarkerValueRef::MarkerEnvString(right)) => {
                 let mut kinds = Outcome::kinds_of(alloc, left)?;
                 Outcome::warn_of(&mut kinds, right)?;
                 let reason = MarkerWarningKind::MarkerMarkerComparison;
-                Ok(Some(Outcome::dropped(kinds, reason)?))
+                Outcome::dropped(kinds, reason)
             }
             (MarkerValueRef::MarkerEnvString(key), MarkerValueRef::Extra) => {
-                let kinds = Outcome::kinds_of(alloc, key)?;
-                let reason = MarkerWarningKind::MarkerMarkerComparison;
-                Ok(Some(Outcome::dropped(kinds, reason)?))
+                Outcome::dropped_key(alloc, key, MarkerWarningKind::MarkerMarkerComparison)
+            }
+            (MarkerValueRef::MarkerEnvString(key), MarkerValueRef::MarkerEnvVersion(_)) => {
+                Outcome::dropped_key(alloc, key, MarkerWarningKind::MarkerMarkerComparison)
+            }
+            (MarkerValueRef::MarkerEnvVersion(_), MarkerValueRef::MarkerEnvString(key)) => {
+                Outcome::dropped_key(alloc, key, MarkerWarningKind::Pep440Error)
             }
             (MarkerValueRef::Extra, MarkerValueRef::MarkerEnvString(key)) => {
-                let kinds = Outcome::kinds_of(alloc, key)?;
-                let reason = MarkerWarningKind::ExtraInvalidComparison;
-                Ok(Some(Outcome::dropped(kinds, reason)?))
+                Outcome::dropped_key(alloc, key, MarkerWarningKind::ExtraInvalidComparison)
             }
-            (MarkerValueRef::Extra, MarkerValueRef::Extra) => {
-                let reason = MarkerWarningKind::ExtraInvalidComparison;
-                Ok(Some(Outcome::dropped(Vec::new(alloc), reason)?))
+            (
+                MarkerValueRef::MarkerEnvVersion(_),
+                MarkerValueRef::Extra | MarkerValueRef::MarkerEnvVersion(_),
+            ) => {
+                let reason = MarkerWarningKind::Pep440Error;
+                Outcome::dropped(Vec::new(alloc), reason)
             }
+            (MarkerValueRef::Extra, MarkerValueRef::Extra | MarkerValueRef::MarkerEnvVersion(_)) =>
+                {
+                    let reason = MarkerWarningKind::ExtraInvalidComparison;
+                    Outcome::dropped(Vec::new(alloc), reason)
+                }
             (MarkerValueRef::QuotedString(_), MarkerValueRef::QuotedString(_)) => {
                 let reason = MarkerWarningKind::StringStringComparison;
-                Ok(Some(Outcome::dropped(Vec::new(alloc), reason)?))
+                Outcome::dropped(Vec::new(alloc), reason)
             }
         }
     }
@@ -110,6 +125,57 @@ impl Outcome {
             expression: None,
             kinds,
         })
+    }
+
+    // A comparison of a text key with something else that is not quoted.
+    fn dropped_key(
+        alloc: Global,
+        key: MarkerValueString,
+        reason: MarkerWarningKind,
+    ) -> Result<Outcome, AllocError>
+        ensures { IfOk result (λ outcome. meaning_of outcome ≡ dropped (key_kinds key ++ (reason ∷ []))) }
+    {
+        Outcome::dropped(Outcome::kinds_of(alloc, key)?, reason)
+    }
+
+    // A version key and a quoted text behind it. A list is warned of twice.
+    #[tactic(auto, using(crate::proofs::MeaningLaws::asked_behind, crate::proofs::MeaningLaws::nothing_behind))]
+    fn of_version(
+        alloc: Global,
+        key: MarkerValueVersion,
+        operator: MarkerOperator,
+        text: &str,
+    ) -> Result<Outcome, AllocError>
+        ensures { IfOk result (λ outcome. MeansBehind key operator text.now (meaning_of outcome)) }
+    {
+        let operator = VersionOperator::of(operator);
+        let mut kinds = Vec::new(alloc);
+        let expression = asked_behind(alloc, key, operator, text)?;
+        if expression.is_none() {
+            if let VersionOperator::Among { negated: _ } = operator {
+                kinds.push(MarkerWarningKind::Pep440Error)?;
+            }
+            return Outcome::dropped(kinds, MarkerWarningKind::Pep440Error);
+        }
+        Ok(Outcome { expression, kinds })
+    }
+
+    // A version key and a quoted text before it, with the operator turned.
+    #[tactic(auto, using(crate::proofs::MeaningLaws::asked_before, crate::proofs::MeaningLaws::nothing_before))]
+    fn of_turned_version(
+        alloc: Global,
+        key: MarkerValueVersion,
+        operator: MarkerOperator,
+        text: &str,
+    ) -> Result<Outcome, AllocError>
+        ensures { IfOk result (λ outcome. MeansBefore key operator text.now (meaning_of outcome)) }
+    {
+        let expression = asked_before(alloc, key, VersionOperator::of(operator), text)?;
+        let kinds = Vec::new(alloc);
+        if expression.is_none() {
+            return Outcome::dropped(kinds, MarkerWarningKind::Pep440Error);
+        }
+        Ok(Outcome { expression, kinds })
     }
 
     // A text key beside a quoted text.

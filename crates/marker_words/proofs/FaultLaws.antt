@@ -11,8 +11,8 @@ use Rattle.pep508_text.specs.Suffix.{IsSuffix, IsPiece, StandsAt, IsSpan}
 use Rattle.pep508_text.proofs.SuffixLaws.{suffix_self, suffix_then, suffix_nil, piece_start, span_of_piece}
 use Rattle.marker_words.specs.declared.fault.Fault.{Fault}
 use Rattle.marker_words.specs.declared.fault.FaultKind.{FaultKind}
-use Rattle.marker_words.specs.declared.fault.FaultKind.TheVariants.{ValueAtEnd, NoValue, NoOperator, NotAtEnd, NoSpaceAfterNot, Unclosed, MissingAtEnd, Missing, Unexpected}
-use Rattle.marker_words.specs.Fault.{message_of, span_len, operator_class, IsLongest, Finds, IsFault, IsFaultAt, IsSpanOf, IsMarkerFault, value_at_end, no_value, no_operator, not_at_end, no_space_after_not, unclosed, missing_at_end, missing, unexpected}
+use Rattle.marker_words.specs.declared.fault.FaultKind.TheVariants.{ValueAtEnd, NoValue, NoOperator, NotAtEnd, NoSpaceAfterNot, Unclosed, MissingAtEnd, Missing, Unexpected, Trailing}
+use Rattle.marker_words.specs.Fault.{message_of, span_len, operator_class, IsLongest, Finds, IsFault, IsFaultAt, IsSpanOf, IsMarkerFault, value_at_end, no_value, no_operator, not_at_end, no_space_after_not, unclosed, missing_at_end, missing, unexpected, trailing}
 
 -- what is known at any error
 pub on_err : {T E Q : Type 0} (r : Result T E) → Q → OnErr r Q
@@ -115,6 +115,9 @@ told text piece left (Missing awaited) place found =
 told text piece left (Unexpected c) place found =
     let stands : StandsAt text (encode_utf8 c) (length text - left) = record { front = place.begins.front; back = found.0; joined = place.begins.joined ∙ ap (λ (x : List ℕ). place.begins.front ++ x) found.2; start_is = piece_start place } in
     unexpected c found.1 stands (spanned text piece left place) found.3
+told text piece left (Trailing c) place found =
+    let stands : StandsAt text (encode_utf8 c) (length text - left) = record { front = place.begins.front; back = found.0; joined = place.begins.joined ∙ ap (λ (x : List ℕ). place.begins.front ++ x) found.2; start_is = piece_start place } in
+    trailing c found.1 stands (spanned text piece left place) found.3
 
 pub fault_told : (text : List ℕ) (fault : Fault) → IsFault text fault → IsMarkerFault text (length text - fault.left) (span_len fault) (message_of fault.kind fault.piece.now)
 fault_told text fault f = told text fault.piece.now fault.left fault.kind f.place f.found

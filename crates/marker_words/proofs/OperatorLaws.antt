@@ -1,6 +1,8 @@
 -- Operators: at most one stands at a place, and what a reader of operators has to know.
-use Rattle.std.proofs.Common.{◌≡◌, ◌≢◌, ℕ, ◌<◌, Bool, true, false, cond, List, [], ◌∷◌, Some, None, refl, sym, ap, ◌∙◌, subst, arith, lit<}
+use Rattle.std.proofs.Common.{◌≡◌, ◌≢◌, ℕ, ◌<◌, Bool, true, false, cond, List, [], ◌∷◌, Some, None, refl, sym, ap, ◌∙◌, subst, arith, lit<, IsUtf8}
 use Rattle.std.specs.Prelude.{codes, encode_utf8_all, nat_eq}
+use Rattle.std.specs.Str.{chars}
+use Rattle.std.proofs.lemmas.Str.{chars-nil, encodes-chars}
 use Rattle.std.specs.Cmp.Lexicographic.{pointwise}
 use Rattle.pep508_text.specs.Class.{holds}
 use Rattle.pep508_text.specs.Run.{run_of, after_run, after_space, Run, Spaces}
@@ -185,3 +187,14 @@ word_class i e = ap (λ (b : Bool). cond b WordPart Comparison) e
 
 pub symbol_class : (i : List ℕ) → begins_word i ≡ false → operator_class i ≡ Comparison
 symbol_class i e = ap (λ (b : Bool). cond b WordPart Comparison) e
+
+-- a text with no character is empty
+pub no_characters : (t : List ℕ) → IsUtf8 t → chars t ≡ [] → t ≡ []
+no_characters t utf8 e = sym (encodes-chars t utf8) ∙ ap encode_utf8_all e
+
+-- an operator that nothing follows is the whole text, and where something follows it the whole text is none
+pub whole_operator : {i : List ℕ} {s : MarkerOperator} (rest : List ℕ) → IsOperator i (chars rest) s → rest ≡ [] → IsOperator i [] s
+whole_operator {i} {s} rest found e = subst (λ (x : List ℕ). IsOperator i x s) (ap chars e ∙ chars-nil) found
+
+pub no_whole_operator : {i : List ℕ} {s t : MarkerOperator} (rest : List ℕ) → IsUtf8 rest → IsOperator i (chars rest) s → IsOperator i [] t → rest ≡ []
+no_whole_operator rest utf8 found whole = no_characters rest utf8 (operator_same found whole).0

@@ -143,6 +143,16 @@ pub no_value_named : {i o j r : List ℕ} (c : ℕ) (v : Value) → i ≡ c ∷ 
 no_value_named {i} {o} {j} {r} c v i_is plain r_is none s =
     none v (value_named (λ q k e is_quote. plain (subst IsQuote (first_same q c k j (sym e ∙ i_is)) is_quote)) s r r_is)
 
+-- one value at most has a name
+names_of : (v : Value) (r : List ℕ) → IsNamed v r → Names r v
+names_of (version_key k) r e = subst (λ (x : List ℕ). Names x (version_key k)) (sym e) (version_key_names k)
+names_of (text_key k) r e = subst (λ (x : List ℕ). Names x (text_key k)) (sym e) (key_names k)
+names_of extra r e = subst (λ (x : List ℕ). Names x extra) (sym e) extra_names
+names_of (quoted text) r e = absurd e
+
+pub one_value_named : (r : List ℕ) (a b : Value) → IsNamed a r → IsNamed b r → a ≡ b
+one_value_named r a b first second = names_same (names_of a r first) (names_of b r second) refl
+
 -- a name is not empty
 named_bytes : (v : Value) (r : List ℕ) → IsNamed v r → (c : ℕ) × (rest : List ℕ) × (r ≡ c ∷ rest)
 named_bytes (version_key k) r e = let l = (version_key_names k).lettered in (l.letter, l.others, e ∙ l.parts)

@@ -9,7 +9,7 @@ use Rattle.pep508_text.specs.declared.classes.Class.TheVariants.{KeyPart, Compar
 use Rattle.marker_words.specs.Lexical.{IsQuote}
 use Rattle.marker_words.specs.declared.fault.Fault.{Fault}
 use Rattle.marker_words.specs.declared.fault.FaultKind.{FaultKind}
-use Rattle.marker_words.specs.declared.fault.FaultKind.TheVariants.{ValueAtEnd, NoValue, NoOperator, NotAtEnd, NoSpaceAfterNot, Unclosed, MissingAtEnd, Missing, Unexpected}
+use Rattle.marker_words.specs.declared.fault.FaultKind.TheVariants.{ValueAtEnd, NoValue, NoOperator, NotAtEnd, NoSpaceAfterNot, Unclosed, MissingAtEnd, Missing, Unexpected, Trailing}
 
 -- what is said of a fault; the piece is what stands at its place
 abbrev pub message_of : FaultKind → List ℕ → List ℕ
@@ -22,6 +22,7 @@ message_of (Unclosed c) piece = codes "Expected '" ++ (encode_utf8 c ++ codes "'
 message_of (MissingAtEnd c) piece = codes "Expected '" ++ (encode_utf8 c ++ codes "', found end of dependency specification")
 message_of (Missing c) piece = codes "Expected `" ++ (encode_utf8 c ++ (codes "`, found `" ++ (piece ++ codes "`")))
 message_of (Unexpected c) piece = codes "Unexpected character '" ++ (encode_utf8 c ++ codes "', expected 'and', 'or' or end of input")
+message_of (Trailing c) piece = codes "Unexpected character '" ++ (encode_utf8 c ++ codes "', expected end of input")
 
 -- an operator that is a word begins with an alphabetic character
 abbrev pub begins_word : List ℕ → Bool
@@ -59,6 +60,8 @@ pub data IsMarkerFault (text : List ℕ) (start len : ℕ) : List ℕ → Type 0
   missing : (awaited found : ℕ) → IsSpanOf text (encode_utf8 found) start len → IsMarkerFault text start len (message_of (Missing awaited) (encode_utf8 found))
   -- the span goes from the character up to, and without, the text's last one
   unexpected : (c last : ℕ) {piece : List ℕ} → StandsAt text (encode_utf8 c) start → (place : IsSpanOf text piece start len) → place.stands.back ≡ encode_utf8 last → IsMarkerFault text start len (message_of (Unexpected c) piece)
+  -- the same of a text that is one comparison
+  trailing : (c last : ℕ) {piece : List ℕ} → StandsAt text (encode_utf8 c) start → (place : IsSpanOf text piece start len) → place.stands.back ≡ encode_utf8 last → IsMarkerFault text start len (message_of (Trailing c) piece)
 
 -- what a fault of this kind found: the piece, and `back` from there to the end of the text
 abbrev pub Finds : FaultKind → List ℕ → List ℕ → Type 0
@@ -71,6 +74,7 @@ Finds (Unclosed closing) piece back = (opening : ℕ) × Closes opening closing 
 Finds (MissingAtEnd awaited) piece back = piece ++ back ≡ []
 Finds (Missing awaited) piece back = (found : ℕ) × (piece ≡ encode_utf8 found)
 Finds (Unexpected c) piece back = (others : List ℕ) × (last : ℕ) × (piece ++ back ≡ encode_utf8 c ++ others) × (back ≡ encode_utf8 last)
+Finds (Trailing c) piece back = (others : List ℕ) × (last : ℕ) × (piece ++ back ≡ encode_utf8 c ++ others) × (back ≡ encode_utf8 last)
 
 -- a fault of this kind stands in the text
 pub record IsFaultAt (text : List ℕ) (kind : FaultKind) (piece : List ℕ) (left : ℕ) : Type 0 where

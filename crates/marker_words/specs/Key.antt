@@ -6,11 +6,21 @@ use Rattle.marker_words.specs.declared.key.MarkerValueString.{MarkerValueString}
 use Rattle.marker_words.specs.declared.key.MarkerValueString.TheVariants as text_keys
 use Rattle.marker_words.specs.declared.key.TextVariable.{TextVariable}
 use Rattle.marker_words.specs.declared.key.TextVariable.TheVariants.{ImplementationName, OsName, PlatformMachine, PlatformPythonImplementation, PlatformRelease, PlatformSystem, PlatformVersion, SysPlatform}
+use Rattle.marker_words.specs.declared.key.VersionVariable.{VersionVariable}
+use Rattle.marker_words.specs.declared.key.VersionVariable.TheVariants as version_variables
 
 abbrev pub version_key_name : MarkerValueVersion → List ℕ
 version_key_name version_keys.ImplementationVersion = codes "implementation_version"
 version_key_name version_keys.PythonFullVersion = codes "python_full_version"
 version_key_name version_keys.PythonVersion = codes "python_version"
+
+-- the key whose value a version variable has; `python_version` is no variable
+abbrev pub version_variable_key : VersionVariable → MarkerValueVersion
+version_variable_key version_variables.ImplementationVersion = version_keys.ImplementationVersion
+version_variable_key version_variables.PythonFullVersion = version_keys.PythonFullVersion
+
+abbrev pub version_variable_name : VersionVariable → List ℕ
+version_variable_name variable = version_key_name (version_variable_key variable)
 
 -- the modern name of what a text key asks about
 abbrev pub variable_name : TextVariable → List ℕ

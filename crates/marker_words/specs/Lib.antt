@@ -4,3 +4,6 @@ pub mod Lexical
 pub mod Part
 pub mod Keyword
 pub mod Fault
+pub mod Compare
+pub mod Bounds
+pub mod Print

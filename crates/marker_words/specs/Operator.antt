@@ -1,7 +1,8 @@
 -- The operators of comparisons, as they are written (PEP 508).
-use Rattle.std.specs.Prelude.{ℕ, List, codes}
+use Rattle.std.specs.Prelude.{ℕ, List, [], codes}
 use Rattle.marker_words.specs.declared.operator.MarkerOperator.{MarkerOperator}
 use Rattle.marker_words.specs.declared.operator.MarkerOperator.TheVariants.{Equal, NotEqual, GreaterThan, GreaterEqual, LessThan, LessEqual, TildeEqual, In, NotIn, Contains, NotContains}
+use Rattle.marker_words.specs.Lexical.{IsOperator}
 
 abbrev pub operator_text : MarkerOperator → List ℕ
 operator_text Equal = codes "=="
@@ -29,3 +30,8 @@ turned In = Contains
 turned NotIn = NotContains
 turned Contains = In
 turned NotContains = NotIn
+
+-- the whole text is the operator, as a reader of comparisons reads it (PEP 508): `in` is `In`, and any white space, at
+-- least one character of it, may stand inside `not in`
+abbrev pub IsSpelling : List ℕ → MarkerOperator → Type 0
+IsSpelling text operator = IsOperator text [] operator

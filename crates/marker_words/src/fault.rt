@@ -28,6 +28,8 @@ pub enum FaultKind {
     Missing(char),
     /// This character stands where the text should go on by a keyword or end.
     Unexpected(char),
+    /// This character stands where the text should end.
+    Trailing(char),
 }
 
 /// What is wrong with a marker text, and where. It prints as its message.
@@ -131,6 +133,9 @@ impl Display for Fault<'_> {
                 f,
                 "Unexpected character '{c}', expected 'and', 'or' or end of input"
             ),
+            FaultKind::Trailing(c) => {
+                write!(f, "Unexpected character '{c}', expected end of input")
+            }
         }
     }
 }

@@ -1,7 +1,7 @@
 //! The names that stand for values of an environment (PEP 508, "Environment Markers").
 
 ghost use Rattle.std.specs.Prelude.{◌≡◌, Some};
-ghost use Rattle.marker_words.specs.Key.{variable_of, variable_name, version_key_name};
+ghost use Rattle.marker_words.specs.Key.{variable_of, variable_name, version_key_name, version_variable_key, version_variable_name};
 
 use std::fmt;
 use std::fmt::Display;
@@ -76,6 +76,14 @@ pub enum TextVariable {
     SysPlatform,
 }
 
+/// What a version key asks about. `python_version` is no variable: its comparisons become comparisons of
+/// `python_full_version`.
+#[derive(Clone, Copy, Debug, PartialEq, Eq, PartialOrd, Ord, Hash)]
+pub enum VersionVariable {
+    ImplementationVersion,
+    PythonFullVersion,
+}
+
 impl MarkerValueString {
     /// The variable that the key asks about.
     pub fn variable(self) -> TextVariable
@@ -124,6 +132,36 @@ impl TextVariable {
 
 impl Display for TextVariable {
     ghost output = { λ variable. Some (variable_name variable) };
+
+    fn fmt<W: fmt::Write>(&self, f: &mut fmt::Formatter<W>) -> fmt::Result {
+        f.write_str(self.name())
+    }
+}
+
+impl VersionVariable {
+    /// The key whose value the variable has.
+    pub fn key(self) -> MarkerValueVersion
+        ensures { result ≡ version_variable_key self }
+    {
+        match self {
+            VersionVariable::ImplementationVersion => MarkerValueVersion::ImplementationVersion,
+            VersionVariable::PythonFullVersion => MarkerValueVersion::PythonFullVersion,
+        }
+    }
+
+    /// The name of its key.
+    pub fn name(self) -> &'static str
+        ensures { result.now ≡ version_variable_name self }
+    {
+        match self {
+            VersionVariable::ImplementationVersion => "implementation_version",
+            VersionVariable::PythonFullVersion => "python_full_version",
+        }
+    }
+}
+
+impl Display for VersionVariable {
+    ghost output = { λ variable. Some (version_variable_name variable) };
 
     fn fmt<W: fmt::Write>(&self, f: &mut fmt::Formatter<W>) -> fmt::Result {
         f.write_str(self.name())

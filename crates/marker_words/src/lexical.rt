@@ -54,7 +54,7 @@ fn is_quote(c: char) -> bool
 }
 
 // The value of this name.
-fn named(name: &str) -> Option<MarkerValueRef<'_>>
+pub(crate) fn named(name: &str) -> Option<MarkerValueRef<'_>>
     ensures found { IfSome result (λ value. IsNamed (value_of value) name.now) }
     ensures none { IfNone result ((value : Value) → IsNamed value name.now → ⊥) }
 {

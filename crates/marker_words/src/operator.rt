@@ -1,8 +1,10 @@
 //! The operators of comparisons.
 
-ghost use Rattle.std.specs.Prelude.{◌≡◌, Some};
-ghost use Rattle.marker_words.specs.Operator.{operator_text, turned};
+ghost use Rattle.std.specs.Prelude.{◌≡◌, Some, IfSome, IfNone};
+ghost use Rattle.std.specs.Str.{chars};
+ghost use Rattle.marker_words.specs.Operator.{operator_text, turned, IsSpelling};
 
+use crate::lexical::comparison_operator;
 use std::fmt;
 use std::fmt::Display;
 
@@ -35,6 +37,22 @@ pub enum MarkerOperator {
 }
 
 impl MarkerOperator {
+    /// The operator that the whole text is a spelling of: `==`, `!=`, `>`, `>=`, `<`, `<=`, `~=`, `in`, or `not`, white
+    /// space and `in`, which is `NotIn`. `None` for any other text, one with white space around the operator too.
+    pub fn parse(text: &str) -> Option<MarkerOperator>
+        ensures found { IfSome result (λ operator. IsSpelling (chars text.now) operator) }
+        ensures none { IfNone result ((operator : MarkerOperator) → IsSpelling (chars text.now) operator → ⊥) }
+    {
+        let Ok((operator, rest)) = comparison_operator(text) else {
+            return None;
+        };
+        if rest.is_empty() {
+            Some(operator)
+        } else {
+            None
+        }
+    }
+
     /// The operator with its sides exchanged: `'x' < key` is `key > 'x'`.
     pub fn turned(self) -> MarkerOperator
         ensures { result ≡ turned self }

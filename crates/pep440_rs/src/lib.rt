@@ -1,7 +1,21 @@
-//! The part of PEP 440 that dependency specifiers need: versions and the patterns of version specifiers.
+//! The part of PEP 440 that dependency specifiers need: versions, version specifiers, and the sets of versions that
+//! comparisons stand for.
 #![tactic(auto)]
 
+mod intervals;
+pub mod laws;
+mod lists;
+mod python_version;
+
+pub use intervals::release_specifier_to_range;
+pub use lists::{python_version_list_to_range, version_list_to_range};
+pub use pep440_specifier::{
+    BoundSpecifiers, Operator, SpecifierFault, VersionSpecifier, VersionSpecifierError,
+    VersionSpecifiers,
+};
 pub use pep440_version::{
     Expected, LocalSegment, Prerelease, PrereleaseKind, Refusal, Version, VersionParseError,
     VersionPattern,
 };
+pub use python_version::python_version_specifier_to_range;
+pub use version_ranges::Ranges;

@@ -1,6 +1,8 @@
 mod ReadingLaws
 mod StackLaws
+mod EndLaws
 mod ReaderLaws
 mod FaultsOfReader
+mod CellLaws
 mod TruthLaws
 mod SessionLaws

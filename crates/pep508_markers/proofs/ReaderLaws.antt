@@ -1,5 +1,5 @@
 -- The reader's steps, over its lists.
-use Rattle.std.proofs.Common.{◌≡◌, ◌≢◌, ℕ, ◌+◌, Bool, false, List, [], ◌∷◌, ◌++◌, length, Option, None, refl, sym, ap, ◌∙◌, subst, arith}
+use Rattle.std.proofs.Common.{◌≡◌, ◌≢◌, ◌≤◌, ℕ, ◌+◌, Bool, true, false, List, [], ◌∷◌, ◌++◌, length, Option, None, refl, sym, ap, ◌∙◌, subst, arith}
 use Rattle.std.specs.Prelude.{codes, ◌↔◌, ◌||◌, reverse}
 use Rattle.std.specs.Prelude.{All}
 use Rattle.std.proofs.Common.{get_or, length-append}
@@ -11,7 +11,7 @@ use Rattle.pep508_text.specs.Run.{Run, after_space}
 use Rattle.marker_words.specs.Keyword.{NoKeyword, IsKeyword}
 use Rattle.marker_words.specs.declared.parts.Keyword.{Keyword}
 use Rattle.marker_words.specs.declared.parts.Keyword.TheVariants as keywords
-use Rattle.marker_parts.specs.declared.warning.MarkerWarningKind.{MarkerWarningKind}
+use Rattle.marker_warnings.specs.declared.warning.MarkerWarningKind.{MarkerWarningKind}
 use Rattle.marker_parts.specs.Comparison.{Meaning, Compared}
 use Rattle.std.specs.Str.{chars}
 use Rattle.pep508_text.specs.Suffix.{IsSuffix}
@@ -23,15 +23,15 @@ use Rattle.marker_words.specs.declared.fault.FaultKind.{FaultKind}
 use Rattle.std.proofs.Common.{◌⊎◌, inl, inr}
 use Rattle.marker_parts.specs.Read as read
 use Rattle.marker_parts.specs.declared.comparison.ComparisonError.{ComparisonError}
-use Rattle.marker_parts.specs.declared.comparison.ComparisonError.TheVariants.{OutOfMemory, Later, Fault}
+use Rattle.marker_parts.specs.declared.comparison.ComparisonError.TheVariants.{OutOfMemory, Fault}
 use Rattle.pep508_markers.specs.declared.reader.Reader.{Reader}
 use Rattle.pep508_markers.specs.declared.reader.Wanted.TheVariants as wanted
-use Rattle.pep508_markers.specs.Later.{HasVersionKey}
 use Rattle.pep508_markers.specs.declared.reader.Wanted.{Wanted}
 use Rattle.pep508_markers.specs.Grammar.{Reads}
 use Rattle.pep508_markers.specs.Refused.{Refuses}
 use Rattle.pep508_markers.specs.Reader.{IsRefused, IsSound, MayRead, stack_in}
-use Rattle.pep508_markers.specs.Postfix.{stack_of}
+use Rattle.pep508_markers.specs.Postfix.{stack_of, IsPostfix}
+use Rattle.pep508_markers.proofs.EndLaws.{postfix_join}
 use Rattle.pep508_markers.specs.declared.formula.Token.{Token}
 use Rattle.pep508_markers.specs.declared.formula.Token.TheVariants as tokens
 use Rattle.std.specs.Prelude.{◌&&◌, if◌then◌else◌}
@@ -173,8 +173,11 @@ not_nil c e f = absurd cc
 module _ (r : Reader) {t : List ℕ} (rest : IsSuffix r.text.now r.rest.now) (skipped : t ≡ after_space (chars r.rest.now)) (plain : (a : List ℕ) → t ≢ 40 ∷ a) where
   pub refused_atom : (e : ComparisonError) → read.IsRefused r.rest.now e → IsRefused wanted.Atom r e
   refused_atom OutOfMemory h = tt
-  refused_atom Later h = record { rest = r.rest.now; suffix = rest; compares = h }
   refused_atom (Fault e) h = (fault_of_suffix rest h.1, λ f k x. no_atom skipped plain h.0.no_compared x)
+
+count_one : (any : Bool) → count any ≤ 1
+count_one true = omega arith
+count_one false = omega arith
 
 module _ (r : Reader) (sound : IsSound r) where
   -- what the innermost lists have is joined by an `or`
@@ -188,6 +191,23 @@ module _ (r : Reader) (sound : IsSound r) where
   anded gs g popped whole any mid new joined put is =
       let h : total (reverse r.groups.items) ≡ count g.has_and + (count g.has_or + total (reverse gs)) = ap total (ap reverse popped ∙ reverse-push gs g) in
       join_stack symbols.and and_of joins_and g.has_and whole any _ _ (omega (arith, sound.full, h, joined.length_is)) (joined_tokens (g.has_and && whole) tokens.And mid new put) is
+
+  -- and none is lost by that
+  pub ored_postfix : (new : List Token) → new ≡ (if r.has_or && r.has_and then r.tokens.items ++ (tokens.Or ∷ []) else r.tokens.items) → IsPostfix new
+  ored_postfix new put = postfix_join r.has_or r.has_and tokens.Or r.tokens.items put (omega (arith, sound.full)) sound.postfix
+
+  pub anded_postfix : (gs : List Group) (g : Group) → r.groups.items ≡ gs ++ (g ∷ []) → (whole : Bool) (mid new : List Token) → IsJoined symbols.or or_of r.has_or r.has_and whole (stack_in r) (stack_of mid) → IsPostfix mid →
+      new ≡ (if g.has_and && whole then mid ++ (tokens.And ∷ []) else mid) → IsPostfix new
+  anded_postfix gs g popped whole mid new joined postfix put =
+      let h : total (reverse r.groups.items) ≡ count g.has_and + (count g.has_or + total (reverse gs)) = ap total (ap reverse popped ∙ reverse-push gs g) in
+      postfix_join g.has_and whole tokens.And mid put (omega (arith, sound.full, h, joined.length_is)) postfix
+
+  -- at the end of the text no other formula is left
+  pub one_left : (any : Bool) (new : List Formula) → r.groups.items ≡ [] → IsJoined symbols.or or_of r.has_or r.has_and any (stack_in r) new → length new ≤ 1
+  one_left any new none joined =
+      let zero : total (reverse r.groups.items) ≡ 0 = ap (λ x. total (reverse x)) none in
+      let few : count any ≤ 1 = count_one any in
+      omega (arith, zero, few, sound.full, joined.length_is)
 
 -- a fault of what is left, or of a part that begins at a parenthesis, is one of the text
 pub fault_of_either : {text rest group : List ℕ} {kind : FaultKind} {piece : List ℕ} {left : ℕ} → IsSuffix text rest → IsSuffix text group → IsFaultAt rest kind piece left ⊎ IsFaultAt group kind piece left → IsFaultAt text kind piece left
@@ -211,13 +231,13 @@ follows_step t r s v w h step f k = (λ x. (step f k).0 ((h f k).0 x), λ y. (h 
 
 pub refuses_by : (t : List ℕ) (r : Reader) (w : Wanted) (e : ComparisonError) → t ≡ r.text.now → Follows t w r → IsRefused w r e → Refuses t e
 refuses_by t r w OutOfMemory same h refused = tt
-refuses_by t r w Later same h refused = subst HasVersionKey (sym same) refused
 refuses_by t r w (Fault e) same h refused = (subst (λ x. IsFault x e) (sym same) refused.0, λ f k x. refused.1 f k ((h f k).0 x))
 
 -- a reader at the start of its text
 pub start_sound : (r : Reader) → IsUtf8 r.text.now → r.rest.now ≡ r.text.now → r.groups.items ≡ [] → r.tokens.items ≡ [] → r.has_or ≡ false → r.has_and ≡ false → IsSound r
 start_sound r utf8 rest_is no_groups no_tokens no_or no_and = record {
   full = ap (λ x. length (stack_of x)) no_tokens ∙ sym (λ i. count (no_and i) + (count (no_or i) + total (reverse (no_groups i))));
+  postfix = subst IsPostfix (sym no_tokens) refl;
   rest = subst (IsSuffix r.text.now) (sym rest_is) (suffix_self _ utf8);
   groups = subst (All (λ (g : Group). IsSuffix r.text.now g.text.now)) (sym no_groups) (λ k d h. absurd (omega (arith, h)));
 }

@@ -6,11 +6,11 @@ use Rattle.std.proofs.lemmas.List.{map_push, take_more}
 use Rattle.std.proofs.lemmas.List.Folds.{list_all-append}
 use Rattle.std.proofs.lemmas.Option.{slice_get-map}
 use Rattle.std.proofs.lemmas.Bool.Decides.{nat_tests}
-use Rattle.pep508_markers.specs.declared.formula.FlatFormula.{FlatFormula}
+use Rattle.pep508_markers.specs.declared.cell.Cell.{Cell}
 use Rattle.pep508_markers.specs.declared.session.Command.{Command}
 use Rattle.pep508_markers.specs.declared.session.Reply.{Reply}
 use Rattle.pep508_markers.specs.Room.{have_room}
-use Rattle.pep508_markers.specs.Cell.{formula_of}
+use Rattle.pep508_markers.specs.Cell.{cell_formula}
 use Rattle.pep508_markers.specs.Machine.{Cells, Request, Answer, Step, Run}
 use Rattle.pep508_markers.specs.Session.{request_of, answer_of}
 
@@ -18,9 +18,9 @@ room_step : (n m k : ℕ) (b c : Bool) → n ≤ m → (b ≡ true → c ≡ tru
 room_step n m k b c more rest h = grind (arith, nat_tests)
 
 -- more room is room
-pub room_more : (cells : List FlatFormula) (n m : ℕ) → n ≤ m → have_room cells n ≡ true → have_room cells m ≡ true
+pub room_more : (cells : List Cell) (n m : ℕ) → n ≤ m → have_room cells n ≡ true → have_room cells m ≡ true
 room_more [] n m more h = refl
-room_more (c ∷ cells) n m more h = room_step n m (length c.tokens.items) (have_room cells n) (have_room cells m) more (room_more cells n m more) h
+room_more (c ∷ cells) n m more h = room_step n m (length c.steps.items) (have_room cells n) (have_room cells m) more (room_more cells n m more) h
 
 one_room : (k n : ℕ) → k ≤ n → (nat_le k n && true) ≡ true
 one_room k n h = grind (arith, nat_tests)
@@ -29,12 +29,12 @@ both_true : (a b : Bool) → a ≡ true → b ≡ true → (a && b) ≡ true
 both_true a b p q = (λ i. p i && q i)
 
 -- room for a new cell
-pub room_push : (cells : List FlatFormula) (c : FlatFormula) (n m : ℕ) {all : List FlatFormula} → all ≡ cells ++ (c ∷ []) → have_room cells n ≡ true → n ≤ m → length c.tokens.items ≤ m → have_room all m ≡ true
+pub room_push : (cells : List Cell) (c : Cell) (n m : ℕ) {all : List Cell} → all ≡ cells ++ (c ∷ []) → have_room cells n ≡ true → n ≤ m → length c.steps.items ≤ m → have_room all m ≡ true
 room_push cells c n m pushed h more fits =
-    ap (λ x. have_room x m) pushed ∙ list_all-append (λ (cell : FlatFormula). nat_le (length cell.tokens.items) m) cells (c ∷ []) ∙ both_true _ _ (room_more cells n m more h) (one_room _ _ fits)
+    ap (λ x. have_room x m) pushed ∙ list_all-append (λ (cell : Cell). nat_le (length cell.steps.items) m) cells (c ∷ []) ∙ both_true _ _ (room_more cells n m more h) (one_room _ _ fits)
 
 -- whether it was stored or not
-pub room_if : (stored : Bool) (cells : List FlatFormula) (c : FlatFormula) (n m : ℕ) {all : List FlatFormula} → all ≡ (if stored then cells ++ (c ∷ []) else cells) → have_room cells n ≡ true → n ≤ m → length c.tokens.items ≤ m → have_room all m ≡ true
+pub room_if : (stored : Bool) (cells : List Cell) (c : Cell) (n m : ℕ) {all : List Cell} → all ≡ (if stored then cells ++ (c ∷ []) else cells) → have_room cells n ≡ true → n ≤ m → length c.steps.items ≤ m → have_room all m ≡ true
 room_if true cells c n m put h more fits = room_push cells c n m put h more fits
 room_if false cells c n m put h more fits = ap (λ x. have_room x m) put ∙ room_more cells n m more h
 
@@ -44,8 +44,8 @@ when_ok (Ok x) e p = p
 when_ok (Err x) e p = absurd cc
 
 -- a cell that is there
-pub cell_at : (cells : List FlatFormula) (i : ℕ) (c : FlatFormula) → slice_get cells i ≡ Some c → slice_get (map formula_of cells) i ≡ Some (formula_of c)
-cell_at cells i c e = slice_get-map formula_of cells i ∙ ap (option_map formula_of) e
+pub cell_at : (cells : List Cell) (i : ℕ) (c : Cell) → slice_get cells i ≡ Some c → slice_get (map cell_formula cells) i ≡ Some (cell_formula c)
+cell_at cells i c e = slice_get-map cell_formula cells i ∙ ap (option_map cell_formula) e
 
 -- a run goes on by one step
 run_more : (old mid new : Cells) (rs : List Request) (as_ : List Answer) (r : Request) (a : Answer) → Run old rs as_ mid → Step mid r a new → Run old (rs ++ (r ∷ [])) (as_ ++ (a ∷ [])) new

@@ -9,7 +9,7 @@ use Rattle.pep508_markers.specs.Postfix.{Symbol, pushed, stack_from, symbol_of, 
 use Rattle.pep508_markers.specs.Postfix as symbols
 use Rattle.pep508_markers.specs.Stack.{held, below, count, Appends}
 
-stack_from-push : (stack : List Formula) (xs : List Symbol) (x : Symbol) → stack_from stack (xs ++ (x ∷ [])) ≡ pushed x (stack_from stack xs)
+pub stack_from-push : (stack : List Formula) (xs : List Symbol) (x : Symbol) → stack_from stack (xs ++ (x ∷ [])) ≡ pushed x (stack_from stack xs)
 stack_from-push stack [] x = refl
 stack_from-push stack (y ∷ xs) x = stack_from-push (pushed y stack) xs x
 

@@ -1,15 +1,16 @@
 -- The truths of the formulas on the stack, while a formula is evaluated.
 use Rattle.std.proofs.Common.{◌≡◌, ℕ, ◌+◌, ◌≤◌, ◌<◌, Bool, true, List, [], ◌∷◌, ◌++◌, length, take, get_or, refl, sym, ap, ◌∙◌, arith}
 use Rattle.std.specs.Prelude.{map, reverse, ◌&&◌, ◌||◌}
-use Rattle.std.proofs.lemmas.List.{take_more, reverse-append, length-map, length-reverse}
-use Rattle.marker_parts.specs.Valuation.{Valuation}
-use Rattle.pep508_markers.specs.declared.formula.Token.{Token}
+use Rattle.std.proofs.lemmas.List.{take_more, map_push, reverse-append, length-map, length-reverse}
+use Rattle.marker_environment.specs.Valuation.{Valuation}
+use Rattle.pep508_markers.specs.declared.cell.Step.{Step}
+use Rattle.pep508_markers.specs.Cell.{symbol_of_step, stack_of_steps}
 use Rattle.pep508_markers.specs.Formula.{Formula, truth_of, truth}
-use Rattle.pep508_markers.specs.Postfix.{pushed, stack_of, symbol_of, top_of}
+use Rattle.pep508_markers.specs.Postfix.{pushed, stack_from, top_of}
 use Rattle.pep508_markers.specs.Postfix as symbols
 use Rattle.marker_parts.specs.Expression.{Test, holds}
 use Rattle.pep508_markers.specs.Truths.{TruthsOf}
-use Rattle.pep508_markers.proofs.StackLaws.{stack_of-push}
+use Rattle.pep508_markers.proofs.StackLaws.{stack_from-push}
 
 reverse-last : (xs : List Bool) (x : Bool) → reverse (xs ++ (x ∷ [])) ≡ x ∷ reverse xs
 reverse-last xs x = reverse-append xs (x ∷ [])
@@ -55,9 +56,12 @@ truths_or_fewer v [] old new same few none = ap reverse none
 truths_or_fewer v (g ∷ []) old new same few none = ap reverse none
 truths_or_fewer v (g ∷ f ∷ stack) old new same few none = let h = fewer v old (g ∷ f ∷ stack) same few in absurd (omega (arith, h))
 
--- the next token
-pub stack_more : (ts : List Token) (i : ℕ) (t : Token) → i < length ts → t ≡ get_or ts i t → stack_of (take (i + 1) ts) ≡ pushed (symbol_of t) (stack_of (take i ts))
-stack_more ts i t below is = ap stack_of (take_more ts i t below ∙ ap (λ x. take i ts ++ (x ∷ [])) (sym is)) ∙ stack_of-push (take i ts) t
+-- the next step
+stack_of_steps-push : (ss : List Step) (s : Step) → stack_of_steps (ss ++ (s ∷ [])) ≡ pushed (symbol_of_step s) (stack_of_steps ss)
+stack_of_steps-push ss s = ap (stack_from []) (map_push symbol_of_step ss s) ∙ stack_from-push [] (map symbol_of_step ss) (symbol_of_step s)
+
+pub stack_more : (ss : List Step) (i : ℕ) (s : Step) → i < length ss → s ≡ get_or ss i s → stack_of_steps (take (i + 1) ss) ≡ pushed (symbol_of_step s) (stack_of_steps (take i ss))
+stack_more ss i s below is = ap stack_of_steps (take_more ss i s below ∙ ap (λ x. take i ss ++ (x ∷ [])) (sym is)) ∙ stack_of_steps-push (take i ss) s
 
 -- at the end the truth on top is that of the formula
 pub truth_on_top : (v : Valuation) (stack : List Formula) (old new : List Bool) (b : Bool) → TruthsOf v stack old → old ≡ new ++ (b ∷ []) → b ≡ truth (top_of stack) v

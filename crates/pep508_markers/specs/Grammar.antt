@@ -5,7 +5,7 @@ use Rattle.std.specs.Prelude.{ℕ, List, [], ◌∷◌, ◌++◌, Option, codes}
 use Rattle.std.specs.Str.{chars}
 use Rattle.pep508_text.specs.Run.{Run, Spaces}
 use Rattle.pep508_text.specs.declared.classes.Class.TheVariants.{NotSpace}
-use Rattle.marker_parts.specs.declared.warning.MarkerWarningKind.{MarkerWarningKind}
+use Rattle.marker_warnings.specs.declared.warning.MarkerWarningKind.{MarkerWarningKind}
 use Rattle.marker_parts.specs.Comparison.{Meaning, Compared}
 use Rattle.pep508_markers.specs.Formula.{Formula, and_of, or_of, of_test}
 

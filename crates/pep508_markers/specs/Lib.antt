@@ -5,8 +5,9 @@ pub mod Postfix
 pub mod Stack
 pub mod First
 pub mod Reader
+pub mod Flat
+pub mod End
 pub mod Cell
-pub mod Later
 pub mod Refused
 pub mod Truths
 pub mod Machine

@@ -1,5 +1,5 @@
 -- Formulas in postfix order: a list of symbols leaves a stack of formulas, the last one first. (This project.)
-use Rattle.std.specs.Prelude.{List, [], ◌∷◌, Option, Some, None, map}
+use Rattle.std.specs.Prelude.{◌≡◌, ◌≤◌, Bool, true, false, ◌&&◌, List, [], ◌∷◌, length, Option, Some, None, map}
 use Rattle.marker_parts.specs.Expression.{Test}
 use Rattle.marker_parts.specs.Expression.{test_of}
 use Rattle.pep508_markers.specs.declared.formula.Token.{Token}
@@ -39,3 +39,25 @@ stack_of ts = stack_from [] (map symbol_of ts)
 abbrev pub top_of : List Formula → Option Formula
 top_of [] = None
 top_of (f ∷ stack) = Some f
+
+-- a connective finds two formulas to join
+abbrev pub fits : Symbol → List Formula → Bool
+fits (test t) stack = true
+fits and (g ∷ f ∷ stack) = true
+fits and (g ∷ []) = false
+fits and [] = false
+fits or (g ∷ f ∷ stack) = true
+fits or (g ∷ []) = false
+fits or [] = false
+
+abbrev pub all_fit : List Formula → List Symbol → Bool
+all_fit stack [] = true
+all_fit stack (symbol ∷ symbols) = fits symbol stack && all_fit (pushed symbol stack) symbols
+
+-- each connective joins two formulas that stand before it
+abbrev pub IsPostfix : List Token → Type 0
+IsPostfix ts = all_fit [] (map symbol_of ts) ≡ true
+
+-- and one formula is left, or nothing
+abbrev pub IsWhole : List Token → Type 0
+IsWhole ts = IsPostfix ts × (length (stack_of ts) ≤ 1)

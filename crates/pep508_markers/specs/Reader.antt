@@ -2,10 +2,9 @@
 use Rattle.std.specs.Prelude.{◌≡◌, ℕ, ◌+◌, Bool, List, [], ◌∷◌, Option, reverse, length, All}
 use Rattle.std.specs.Str.{chars}
 use Rattle.pep508_text.specs.Suffix.{IsSuffix}
-use Rattle.marker_parts.specs.declared.warning.MarkerWarningKind.{MarkerWarningKind}
+use Rattle.marker_warnings.specs.declared.warning.MarkerWarningKind.{MarkerWarningKind}
 use Rattle.marker_parts.specs.declared.comparison.ComparisonError.{ComparisonError}
-use Rattle.marker_parts.specs.declared.comparison.ComparisonError.TheVariants.{OutOfMemory, Later, Fault}
-use Rattle.pep508_markers.specs.Later.{HasVersionKey}
+use Rattle.marker_parts.specs.declared.comparison.ComparisonError.TheVariants.{OutOfMemory, Fault}
 use Rattle.marker_words.specs.Fault.{IsFault}
 use Rattle.pep508_markers.specs.declared.reader.Group.{Group}
 use Rattle.pep508_markers.specs.declared.reader.Reader.{Reader}
@@ -13,7 +12,7 @@ use Rattle.pep508_markers.specs.declared.reader.Wanted.{Wanted}
 use Rattle.pep508_markers.specs.declared.reader.Wanted.TheVariants as wanted
 use Rattle.pep508_markers.specs.Formula.{Formula}
 use Rattle.pep508_markers.specs.Reading.{Held, Before, After}
-use Rattle.pep508_markers.specs.Postfix.{stack_of, top_of}
+use Rattle.pep508_markers.specs.Postfix.{stack_of, top_of, IsPostfix}
 use Rattle.pep508_markers.specs.Stack.{held, below, count}
 
 -- what an `or` and its last `and` have so far, and the stack below both
@@ -50,9 +49,10 @@ module _ (r : Reader) where
   abbrev pub formula_in : Option Formula
   formula_in = top_of stack_in
 
-  -- as many formulas stand on the stack as the lists have, and what is left and each open parenthesis stand in the text
+  -- as many formulas stand on the stack as the lists have, none was lost, and what is left and each open parenthesis stand in the text
   pub record IsSound : Type 0 where
     pub full : length stack_in ≡ count r.has_and + (count r.has_or + total (reverse r.groups.items))
+    pub postfix : IsPostfix r.tokens.items
     pub rest : IsSuffix r.text.now r.rest.now
     pub groups : All (λ g. IsSuffix r.text.now g.text.now) r.groups.items
 
@@ -64,5 +64,4 @@ MayRead wanted.Rest r f k = After (outer_in r) (ors_in r) (ands_in r) (chars r.r
 -- why the reader stopped: a fault of the text, and then no reading is left
 abbrev pub IsRefused : Wanted → Reader → ComparisonError → Type 0
 IsRefused w r OutOfMemory = Unit {0}
-IsRefused w r Later = HasVersionKey r.text.now
 IsRefused w r (Fault e) = IsFault r.text.now e × ((f : Option Formula) (k : List MarkerWarningKind) → MayRead w r f k → ⊥)

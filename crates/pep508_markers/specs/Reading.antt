@@ -2,7 +2,7 @@
 -- `or` and its `and` have so far. The last two arguments are what the whole text is read as.
 use Rattle.std.specs.Prelude.{◌≡◌, ℕ, List, [], ◌∷◌, Option}
 use Rattle.pep508_text.specs.Run.{Spaces}
-use Rattle.marker_parts.specs.declared.warning.MarkerWarningKind.{MarkerWarningKind}
+use Rattle.marker_warnings.specs.declared.warning.MarkerWarningKind.{MarkerWarningKind}
 use Rattle.pep508_markers.specs.Formula.{Formula, and_of, or_of}
 use Rattle.pep508_markers.specs.Grammar.{Atom, AndRest, OrRest}
 

@@ -1,10 +1,9 @@
 -- Why a text was not read.
 use Rattle.std.specs.Prelude.{List, ℕ, Option}
 use Rattle.marker_words.specs.Fault.{IsFault}
-use Rattle.marker_parts.specs.declared.warning.MarkerWarningKind.{MarkerWarningKind}
+use Rattle.marker_warnings.specs.declared.warning.MarkerWarningKind.{MarkerWarningKind}
 use Rattle.marker_parts.specs.declared.comparison.ComparisonError.{ComparisonError}
-use Rattle.marker_parts.specs.declared.comparison.ComparisonError.TheVariants.{OutOfMemory, Later, Fault}
-use Rattle.pep508_markers.specs.Later.{HasVersionKey}
+use Rattle.marker_parts.specs.declared.comparison.ComparisonError.TheVariants.{OutOfMemory, Fault}
 use Rattle.pep508_markers.specs.Formula.{Formula}
 use Rattle.pep508_markers.specs.Grammar.{Reads}
 
@@ -12,8 +11,7 @@ use Rattle.pep508_markers.specs.Grammar.{Reads}
 abbrev pub IsUnread : List ℕ → Type 0
 IsUnread text = (f : Option Formula) (k : List MarkerWarningKind) → Reads text f k → ⊥
 
--- memory ran out, a version key is compared in the text, or the fault is one of the text and the grammar does not have it
+-- memory ran out, or the fault is one of the text and the grammar does not have it
 abbrev pub Refuses : List ℕ → ComparisonError → Type 0
 Refuses text OutOfMemory = Unit {0}
-Refuses text Later = HasVersionKey text
 Refuses text (Fault e) = IsFault text e × IsUnread text

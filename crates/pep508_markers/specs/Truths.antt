@@ -1,6 +1,6 @@
 -- The truths of the formulas on a stack. (This project.)
 use Rattle.std.specs.Prelude.{◌≡◌, Bool, List, map, reverse}
-use Rattle.marker_parts.specs.Valuation.{Valuation}
+use Rattle.marker_environment.specs.Valuation.{Valuation}
 use Rattle.pep508_markers.specs.Formula.{Formula, truth_of}
 
 -- the truths, the last one first, are those of the formulas

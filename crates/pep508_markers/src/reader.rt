@@ -6,7 +6,7 @@ ghost use Rattle.std.specs.Prelude.{◌⊎◌, ◌≢◌, ◌++◌, ◌∷◌};
 ghost use Rattle.std.specs.Str.{chars};
 ghost use Rattle.marker_words.specs.Fault.{IsFault};
 ghost use Rattle.pep508_markers.specs.First.{BeginsWith};
-ghost use Rattle.marker_parts.specs.declared.warning.MarkerWarningKind.{MarkerWarningKind};
+ghost use Rattle.marker_warnings.specs.declared.warning.MarkerWarningKind.{MarkerWarningKind};
 ghost use Rattle.pep508_markers.specs.Formula.{Formula};
 
 use crate::formula::{FlatFormula, Token, append, join};
@@ -86,6 +86,7 @@ fn open<'a>(groups: &mut Vec<Group<'a>>, group: Group<'a>) -> Result<(), AllocEr
 }
 
 impl<'a> Reader<'a> {
+    ghost use Rattle.pep508_markers.specs.Postfix.{IsWhole};
     ghost use Rattle.pep508_markers.specs.Reader.{MayRead, IsSound, IsRefused, formula_in};
 
     // An open parenthesis, or a comparison.
@@ -124,6 +125,7 @@ impl<'a> Reader<'a> {
         ensures same { IfOk result (λ next. IfSome next (λ wanted. (f : Option Formula) (k : List MarkerWarningKind) → MayRead Wanted.Rest self.old f k ↔ MayRead wanted self.new f k)) }
         ensures shorter { IfOk result (λ next. IfSome next (λ _. length self.new.rest.now < length self.old.rest.now)) }
         ensures ended { IfOk result (λ next. IfNone next ((f : Option Formula) (k : List MarkerWarningKind) → MayRead Wanted.Rest self.old f k ↔ ((formula_in self.new ≡ f) × (self.new.kinds.items ≡ k)))) }
+        ensures whole { IfOk result (λ next. IfNone next (IsWhole self.new.tokens.items)) }
         ensures err { IfErr result (IsRefused Wanted.Rest self.old) }
     {
         let text = skip_space(self.rest);
@@ -166,11 +168,11 @@ pub struct Reading {
 }
 
 ghost use Rattle.pep508_markers.specs.Grammar.{Reads};
-ghost use Rattle.pep508_markers.specs.Cell.{formula_of};
+ghost use Rattle.pep508_markers.specs.Flat.{formula_of};
 ghost use Rattle.pep508_markers.specs.Refused.{Refuses};
 
 /// Reads a whole marker text: exactly those of the grammar, each as its formula with the kinds of its warnings.
-/// A text in which a version key is compared is not read yet. Every other text is refused with its fault.
+/// Every other text is refused with its fault.
 pub fn read(alloc: Global, text: &str) -> Result<Reading, ComparisonError<'_>>
     ensures found { IfOk result (λ r. Reads text.now (formula_of r.formula) r.kinds.items) }
     ensures only { IfOk result (λ r. (f : Option Formula) (k : List MarkerWarningKind) → Reads text.now f k → (formula_of r.formula ≡ f) × (r.kinds.items ≡ k)) }

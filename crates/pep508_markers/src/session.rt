@@ -3,9 +3,9 @@
 ghost use Rattle.std.specs.Prelude.{◌≡◌, IfOk, OnErr, map, [], vec_capacity, true};
 ghost use Rattle.pep508_markers.specs.Room.{have_room};
 
-use crate::formula::FlatFormula;
+use crate::cell::Cell;
 use crate::reader::read;
-use marker_parts::{ComparisonError, ExtraName, MarkerEnvironment, MarkerWarningKind};
+use marker_parts::{ComparisonError, ExtraName, MarkerEnvironment, MarkerWarningKind, Refusal};
 use marker_words::Fault;
 use std::alloc::{AllocError, Global};
 
@@ -25,8 +25,9 @@ pub enum Reason {
     NoSuchCell,
     /// There was no memory for a new cell.
     OutOfMemory,
-    /// The text compares a version key, which is not read yet.
-    Later,
+    /// The text compares a version key in such a way that a bound would raise 18446744073709551615, the largest
+    /// number of a version.
+    SegmentAtEnd,
     /// The text is no marker: where its fault stands, in bytes, and what it is.
     Marker {
         start: usize,
@@ -47,10 +48,10 @@ pub enum Reply {
 }
 
 /// Markers in numbered cells.
-#[derive(Debug, Drop)]
+#[derive(Drop)]
 pub struct Session {
     alloc: Global,
-    cells: Vec<FlatFormula>,
+    cells: Vec<Cell>,
     // Room for the truths of a formula's parts while it is evaluated.
     truths: Vec<bool>,
     ghost room: { have_room cells.items (vec_capacity truths) ≡ true },
@@ -100,7 +101,8 @@ impl Session {
         }
     }
 
-    // Reads a text into a new cell. Room for its evaluation is made first, and then room for the cell.
+    // Reads a text into a new cell. The sets of its comparisons are made first, then room for its evaluation, and then
+    // room for the cell.
     fn parse(&mut self, text: &str) -> Reply
         ensures { Step (cells_of self.old) (Machine.parse text.now) (answer_of result) (cells_of self.new) }
     {
@@ -108,11 +110,16 @@ impl Session {
             Ok(reading) => reading,
             Err(error) => return Reply::Refused(Session::refusal(self.alloc, text, error)),
         };
-        if self.truths.reserve(reading.formula.len()).is_err() {
+        let cell = match Cell::new(self.alloc, reading.formula) {
+            Ok(cell) => cell,
+            Err(Refusal::SegmentAtEnd) => return Reply::Refused(Reason::SegmentAtEnd),
+            Err(Refusal::OutOfMemory) => return Reply::Refused(Reason::OutOfMemory),
+        };
+        if self.truths.reserve(cell.len()).is_err() {
             return Reply::Refused(Reason::OutOfMemory);
         }
         let index = self.cells.len();
-        match self.cells.push(reading.formula) {
+        match self.cells.push(cell) {
             Ok(()) => Reply::Cell(index, reading.kinds),
             Err(_) => Reply::Refused(Reason::OutOfMemory),
         }
@@ -125,7 +132,6 @@ impl Session {
     {
         match error {
             ComparisonError::OutOfMemory => Reason::OutOfMemory,
-            ComparisonError::Later => Reason::Later,
             ComparisonError::Fault(fault) => match fault.to_string(alloc) {
                 Ok(message) => Reason::Marker {
                     start: fault.start(text),

@@ -16,12 +16,15 @@ impl Given {
     pub fn new(alloc: Global) -> Option<Given> {
         let builder = MarkerEnvironmentBuilder {
             implementation_name: "cpython",
+            implementation_version: "3.12.1",
             os_name: "posix",
             platform_machine: "x86_64",
             platform_python_implementation: "CPython",
             platform_release: "6.1",
             platform_system: "Linux",
             platform_version: "1",
+            python_full_version: "3.12.1",
+            python_version: "3.12",
             sys_platform: "linux",
         };
         let environment = MarkerEnvironment::try_from(alloc, builder).ok()?;

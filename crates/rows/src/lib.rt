@@ -2,9 +2,15 @@
 #![tactic(auto)]
 
 #[cfg(test)]
+mod bounds;
+#[cfg(test)]
 mod connectives;
 #[cfg(test)]
+mod environments;
+#[cfg(test)]
 mod faults;
+#[cfg(test)]
+mod intervals;
 #[cfg(test)]
 mod keys;
 #[cfg(test)]
@@ -12,12 +18,22 @@ mod operators;
 #[cfg(test)]
 mod plain;
 #[cfg(test)]
+mod serialized;
+#[cfg(test)]
 mod sessions;
 #[cfg(test)]
 mod sizes;
 #[cfg(test)]
+mod specifiers;
+#[cfg(test)]
 mod values;
+#[cfg(test)]
+mod version_keys;
+#[cfg(test)]
+mod version_texts;
 #[cfg(test)]
 mod versions;
 #[cfg(test)]
 mod warnings;
+#[cfg(test)]
+mod words;

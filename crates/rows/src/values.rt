@@ -11,12 +11,15 @@ pub fn linux(alloc: Global) -> Result<MarkerEnvironment, Fail> {
         alloc,
         MarkerEnvironmentBuilder {
             implementation_name: "cpython",
+            implementation_version: "3.12.1",
             os_name: "posix",
             platform_machine: "x86_64",
             platform_python_implementation: "CPython",
             platform_release: "6.1",
             platform_system: "Linux",
             platform_version: "#1 é",
+            python_full_version: "3.12.1",
+            python_version: "3.12",
             sys_platform: "linux",
         },
     )?)

@@ -69,22 +69,3 @@ fn kinds_in_the_order_of_the_text(rt: HostRuntime) -> Result<(), Fail> {
     }
     Ok(())
 }
-
-// Texts in which a version key stands as a value.
-const VERSIONS: [&str; 5] = [
-    "python_version > '3'",
-    "'3' <= python_full_version",
-    "os_name == 'a' or implementation_version == '1'",
-    "os_name == python_version",
-    "python_version in extra",
-];
-
-#[test]
-fn version_keys_come_later(rt: HostRuntime) {
-    for text in VERSIONS {
-        let reply = Session::new(rt.alloc()).execute(Command::Parse(text));
-        assert_eq!(rt; reply, Reply::Refused(Reason::Later), "{text}");
-    }
-    let quoted = Session::new(rt.alloc()).execute(Command::Parse("os_name == 'python_version'"));
-    assert!(rt; matches!(&quoted, Reply::Cell(0, _)));
-}

@@ -11,6 +11,7 @@ use Rattle.version_ranges.specs.Point.{Point}
 use Rattle.version_ranges.specs.Cut.{cut_cmp, stands_before}
 use Rattle.version_ranges.specs.Steps.{ascends, is_merged, value_at}
 use Rattle.version_ranges.proofs.StepLaws.{Alike, value_from, same_steps, same_value, compared, alike_ascends, is_equal}
+use Rattle.version_ranges.proofs.Picks.{alike_merged}
 use Rattle.version_ranges.proofs.PointLaws.{cut_total, place, point_of, value_at_place, value_at_point}
 
 -- equality of cuts
@@ -63,6 +64,12 @@ module _ {T V : Type 0} {cmp : T → T → Ordering} {same : V → V → Bool} (
       (is_equal _ (sym (cut_ties x.0 y.0) ∙ r.0), (r.1, equal_alike xs ys q.1))
 
   -- equal lists ascend alike
+  -- what is equal to a merged list is merged
+  pub equal_merged : (v w : V) (xs ys : List (Cut T × V)) → (same v w && same_steps (cut_eq eq) same xs ys) ≡ true → is_merged same v xs ≡ true → is_merged same w ys ≡ true
+  equal_merged v w xs ys e h =
+      let q = and_parts (same v w) (same_steps (cut_eq eq) same xs ys) e in
+      sym (alike_merged v v s (cut_cmp cmp) v w xs ys q.0 (equal_alike xs ys q.1)) ∙ h
+
   pub equal_ascends : (xs ys : List (Cut T × V)) → same_steps (cut_eq eq) same xs ys ≡ true → ascends (cut_cmp cmp) None xs ≡ true → ascends (cut_cmp cmp) None ys ≡ true
   equal_ascends xs ys e a = sym (alike_ascends (cut_total o) (λ u v. same u v ≡ true) xs ys None (equal_alike xs ys e)) ∙ a
 

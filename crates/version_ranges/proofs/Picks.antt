@@ -51,7 +51,7 @@ module _ {C V : Type 0} (inside outside : V) where
     picked_merged e b (x ∷ xs) =
         ap (λ d. not d && is_merged same (pick inside outside x.1) (picked xs)) (pick_same s inside outside e b x.1) ∙ ap (λ d. not (beq b x.1) && d) (picked_merged e x.1 xs)
 
-    alike_merged : (cmp : C → C → Ordering) (v w : V) (xs ys : List (C × V)) → same v w ≡ true → Alike cmp (λ a b. same a b ≡ true) xs ys → is_merged same v xs ≡ is_merged same w ys
+    pub alike_merged : (cmp : C → C → Ordering) (v w : V) (xs ys : List (C × V)) → same v w ≡ true → Alike cmp (λ a b. same a b ≡ true) xs ys → is_merged same v xs ≡ is_merged same w ys
     alike_merged cmp v w [] [] e a = refl
     alike_merged cmp v w [] (y ∷ ys) e a = absurd a
     alike_merged cmp v w (x ∷ xs) [] e a = absurd a

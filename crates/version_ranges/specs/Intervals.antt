@@ -1,5 +1,5 @@
 -- The intervals of a set of points, in order. (This project's own.)
-use Rattle.std.specs.Prelude.{◌≡◌, Bool, true, Option, Some, None, List, [], ◌∷◌, if◌then◌else◌}
+use Rattle.std.specs.Prelude.{◌≡◌, Bool, true, false, ◌&&◌, Option, Some, None, List, [], ◌∷◌, if◌then◌else◌}
 use Rattle.std.specs.List.{list_any}
 use Rattle.std.specs.Borrow.{Bor}
 use Rattle.std.specs.Range.Bound.{bound_map}
@@ -9,7 +9,7 @@ use Rattle.std.specs.declared.ops.Bound.{Bound}
 use Rattle.version_ranges.specs.declared.ranges.Ranges.{Ranges}
 use Rattle.version_ranges.specs.declared.intervals.Intervals.{Intervals}
 use Rattle.version_ranges.specs.Point.{Point, point_cmp, is_in_bounds}
-use Rattle.version_ranges.specs.Parts.{Part, parts_of, parts_left}
+use Rattle.version_ranges.specs.Parts.{Part, parts_of, parts_left, same_bound}
 use Rattle.version_ranges.specs.Ranges.{contains_point}
 
 module _ {T : Type 0} where
@@ -17,6 +17,17 @@ module _ {T : Type 0} where
   abbrev pub held : List (Part T Bool) → List (Bound T × Bound T)
   held [] = []
   held (p ∷ ps) = if p.value then (p.lower, p.upper) ∷ held ps else held ps
+
+  -- whether two intervals have equal bounds
+  abbrev pub same_interval : (T → T → Bool) → Bound T × Bound T → Bound T × Bound T → Bool
+  same_interval eq i j = same_bound eq i.0 j.0 && same_bound eq i.1 j.1
+
+  -- whether two lists have equal intervals, one after another
+  abbrev pub same_intervals : (T → T → Bool) → List (Bound T × Bound T) → List (Bound T × Bound T) → Bool
+  same_intervals eq [] [] = true
+  same_intervals eq [] (j ∷ js) = false
+  same_intervals eq (i ∷ is) [] = false
+  same_intervals eq (i ∷ is) (j ∷ js) = same_interval eq i j && same_intervals eq is js
 
   -- what an item lends
   abbrev pub interval_of : Bound (Bor T) × Bound (Bor T) → Bound T × Bound T

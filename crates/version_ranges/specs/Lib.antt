@@ -1,5 +1,6 @@
 pub mod Cut
 pub mod Cuts
+pub mod Gather
 pub mod Intervals
 pub mod Parts
 pub mod Point

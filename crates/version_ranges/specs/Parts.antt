@@ -1,11 +1,11 @@
 -- The pieces of a function, one after another. (This project's own.)
-use Rattle.std.specs.Prelude.{◌≡◌, ℕ, ◌<◌, true, Option, Some, None, List, [], ◌∷◌, length, slice_get}
+use Rattle.std.specs.Prelude.{◌≡◌, ℕ, ◌<◌, Bool, true, false, ◌&&◌, Option, Some, None, List, [], ◌∷◌, length, slice_get}
 use Rattle.std.specs.Option.{option_copied}
 use Rattle.std.specs.Range.Bound.{bound_map}
 use Rattle.std.specs.declared.cmp.Ordering.{Ordering}
 use Rattle.std.specs.declared.cmp.Ordering.TheVariants.{Less}
 use Rattle.std.specs.declared.ops.Bound.{Bound}
-use Rattle.std.specs.declared.ops.Bound.TheVariants.{Unbounded}
+use Rattle.std.specs.declared.ops.Bound.TheVariants.{Included, Excluded, Unbounded}
 use Rattle.version_ranges.specs.declared.cut.Cut.{Cut}
 use Rattle.version_ranges.specs.declared.cuts.Cuts.{Cuts}
 use Rattle.version_ranges.specs.declared.pieces.Piece.{Piece}
@@ -20,7 +20,30 @@ pub record Part (T V : Type 0) : Type 0 where
   pub upper : Bound T
   pub value : V
 
+-- whether two bounds are of one kind, at equal values
+abbrev pub same_bound : {T : Type 0} → (T → T → Bool) → Bound T → Bound T → Bool
+same_bound eq (Included v) (Included w) = eq v w
+same_bound eq (Included v) (Excluded w) = false
+same_bound eq (Included v) Unbounded = false
+same_bound eq (Excluded v) (Included w) = false
+same_bound eq (Excluded v) (Excluded w) = eq v w
+same_bound eq (Excluded v) Unbounded = false
+same_bound eq Unbounded (Included w) = false
+same_bound eq Unbounded (Excluded w) = false
+same_bound eq Unbounded Unbounded = true
+
 module _ {T V : Type 0} where
+  -- whether two pieces have equal bounds and equal values
+  abbrev pub same_part : (T → T → Bool) → (V → V → Bool) → Part T V → Part T V → Bool
+  same_part eq same p q = same_bound eq p.lower q.lower && (same_bound eq p.upper q.upper && same p.value q.value)
+
+  -- whether two lists have equal pieces, one after another
+  abbrev pub same_parts : (T → T → Bool) → (V → V → Bool) → List (Part T V) → List (Part T V) → Bool
+  same_parts eq same [] [] = true
+  same_parts eq same [] (q ∷ qs) = false
+  same_parts eq same (p ∷ ps) [] = false
+  same_parts eq same (p ∷ ps) (q ∷ qs) = same_part eq same p q && same_parts eq same ps qs
+
   -- the pieces from a lower bound on
   abbrev pub parts_from : Bound T → V → List (Cut T × V) → List (Part T V)
   parts_from low v [] = record { lower = low; upper = Unbounded; value = v } ∷ []

@@ -118,7 +118,7 @@ impl<T: Ord + Drop, V: Copy> Cuts<T, V> {
 }
 
 // The value after all cuts.
-fn last_of<'a, T, V>(first: &'a V, rest: &'a [(Cut<T>, V)]) -> &'a V
+pub(crate) fn last_of<'a, T, V>(first: &'a V, rest: &'a [(Cut<T>, V)]) -> &'a V
     ensures { result.now ≡ last_value first.now rest.now }
 {
     match rest.split_last() {

@@ -9,8 +9,9 @@ use crate::ranges::Ranges;
 use std::alloc::AllocError;
 
 impl<T: Ord + Clone, V: Eq + Clone> Clone for Cuts<T, V> {
-    // A clone is equal to its source.
-    ghost is_clone = { λ f g. ⟦<Cuts<T, V> as PartialEq>⟧.eq f g ≡ true };
+    // A clone is equal to its source, and the same function of points.
+    ghost is_clone = { λ f g. (⟦<Cuts<T, V> as PartialEq>⟧.eq f g ≡ true)
+        × ((p : Point T) → V.eq (value_of T.cmp f p) (value_of T.cmp g p) ≡ true) };
 
     // `Clone` has no law that a clone is equal to its source, so this is refused too where it is not.
     fn clone(&self) -> Result<Self, AllocError> {
@@ -23,6 +24,17 @@ impl<T: Ord + Clone, V: Eq + Clone> Clone for Cuts<T, V> {
             return Err(AllocError);
         }
         Ok(Cuts { first, rest })
+    }
+}
+
+impl<T: Ord + Clone> Clone for Ranges<T> {
+    // A clone is equal to its source, and has the same points.
+    ghost is_clone = { λ f g. (⟦<Ranges<T> as PartialEq>⟧.eq f g ≡ true)
+        × ((p : Point T) → contains_point T.cmp f p ≡ contains_point T.cmp g p) };
+
+    fn clone(&self) -> Result<Self, AllocError> {
+        let cuts = self.cuts.clone()?;
+        Ok(Ranges { cuts })
     }
 }
 

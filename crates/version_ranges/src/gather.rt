@@ -1,14 +1,20 @@
 //! Functions made of sets of points.
-ghost use Rattle.std.specs.Prelude.{◌≡◌, true, IfOk, if◌then◌else◌};
+ghost use Rattle.std.specs.Prelude.{◌≡◌, ◌<◌, ◌++◌, ◌∷◌, [], ℕ, Some, true, not, map, slice_get, IfOk, OnOk, vec_len, if◌then◌else◌, eqb};
+ghost use mathlib.Core.Bool.{beq};
+ghost use Rattle.std.specs.List.{list_any};
 ghost use Rattle.std.specs.Set.{ClonesAreEqual};
 ghost use Rattle.version_ranges.specs.Point.{Point};
 ghost use Rattle.version_ranges.specs.Cuts.{value_of, IsMerged};
 ghost use Rattle.version_ranges.specs.Ranges.{contains_point};
+ghost use Rattle.version_ranges.specs.Steps.{last_value};
+ghost use Rattle.version_ranges.specs.Gather.{IsGathered, IsPast, IsTurned};
 
 use crate::cut::Cut;
-use crate::cuts::Cuts;
+use crate::cuts::{Cuts, last_of};
 use crate::ranges::Ranges;
+use indexmap::IndexSet;
 use std::alloc::{AllocError, Global};
+use std::hash::Hash;
 
 impl<T: Ord + Clone, V: Eq + Clone> Cuts<T, V> {
     /// One value at the points of a set, and another at all other points.
@@ -43,4 +49,104 @@ fn either<'a, V>(flag: bool, inside: &'a V, outside: &'a V) -> &'a V
     ensures { result.now ≡ (if flag then inside.now else outside.now) }
 {
     if flag { inside } else { outside }
+}
+
+impl<T: Ord + Clone, V: Eq + Hash> Cuts<T, V> {
+    /// Each value of the function with the set of the points that have it, in the order of their first points.
+    pub fn gather(&self, alloc: Global) -> Result<Vec<(&V, Ranges<T>)>, AllocError>
+        requires clones { ClonesAreEqual T.eq T.is_clone }
+        ensures { IfOk result (λ r. IsGathered T.cmp V.eq self.now r.items) }
+    {
+        let mut places = IndexSet::new(alloc);
+        let mut pairs = Vec::new(alloc);
+        let mut current = place_of(
+            &mut places,
+            &mut pairs,
+            Ranges::constant(alloc, true),
+            &self.first,
+        )?;
+        for step in &self.rest {
+            let place = place_of(
+                &mut places,
+                &mut pairs,
+                Ranges::constant(alloc, false),
+                &step.1,
+            )?;
+            pass(&mut pairs, current, place, &step.0)?;
+            current = place;
+        }
+        Ok(pairs)
+    }
+}
+
+// Where a value stands among the values, which it joins with a set where it is not there yet.
+fn place_of<'a, T: Ord + Drop, V: Eq + Hash>(
+    places: &mut IndexSet<&'a V>,
+    pairs: &mut Vec<(&'a V, Ranges<T>)>,
+    set: Ranges<T>,
+    value: &'a V,
+) -> Result<usize, AllocError>
+    requires { places.old.keys ≡ map (λ q. q.0) pairs.old.items }
+    ensures keys { OnOk result (places.new.keys ≡ map (λ q. q.0) pairs.new.items) }
+    ensures pairs { OnOk result (pairs.new.items ≡ (if list_any (λ q. V.eq value.now q.0.now) pairs.old.items then pairs.old.items else pairs.old.items ++ (value.entry, set) ∷ [])) }
+    ensures found { IfOk result (λ i. (q : _) × (slice_get pairs.new.items i ≡ Some q) × (V.eq value.now q.0.now ≡ true)) }
+{
+    let (place, added) = match places.insert_full(value) {
+        Ok(answer) => answer,
+        Err(_) => return Err(AllocError),
+    };
+    if added {
+        pairs.push((value, set))?;
+    }
+    Ok(place)
+}
+
+// Ends the set at one place at a cut, and goes on with that at another place.
+fn pass<T: Ord + Clone, V>(
+    pairs: &mut Vec<(&V, Ranges<T>)>,
+    from: usize,
+    to: usize,
+    cut: &Cut<T>,
+) -> Result<(), AllocError>
+    requires clones { ClonesAreEqual T.eq T.is_clone }
+    requires from { from < vec_len pairs.old }
+    requires to { to < vec_len pairs.old }
+    requires past { (i : ℕ) (q : _) → slice_get pairs.old.items i ≡ Some q → IsPast T.cmp q.1 cut.now }
+    ensures len { OnOk result (vec_len pairs.new ≡ vec_len pairs.old) }
+    ensures each { OnOk result ((i : ℕ) (q r : _) → slice_get pairs.old.items i ≡ Some q → slice_get pairs.new.items i ≡ Some r
+        → (r.0 ≡ q.0) × IsTurned T.cmp (not (beq (eqb i from) (eqb i to))) cut.now q.1 r.1) }
+{
+    if from == to {
+        return Ok(());
+    }
+    pairs[from].1.turn(cut.clone()?)?;
+    pairs[to].1.turn(cut.clone()?)?;
+    Ok(())
+}
+
+impl<T: Ord + Drop> Ranges<T> {
+    // All points, or none.
+    fn constant(alloc: Global, inside: bool) -> Self
+        ensures first { result.cuts.first ≡ inside }
+        ensures rest { result.cuts.rest.items ≡ [] }
+    {
+        Ranges {
+            cuts: Cuts {
+                first: inside,
+                rest: Vec::new(alloc),
+            },
+        }
+    }
+
+    // From a cut after all others on, the points that were not in the set.
+    fn turn(&mut self, cut: Cut<T>) -> Result<(), AllocError>
+        requires { IsPast T.cmp self.old cut }
+        ensures first { OnOk result (self.new.cuts.first ≡ self.old.cuts.first) }
+        ensures rest { OnOk result (self.new.cuts.rest.items ≡ self.old.cuts.rest.items ++ (cut, not (last_value self.old.cuts.first self.old.cuts.rest.items)) ∷ []) }
+    {
+        let cuts = &mut self.cuts;
+        let inside = !*last_of(&cuts.first, &cuts.rest);
+        cuts.rest.push((cut, inside))?;
+        Ok(())
+    }
 }

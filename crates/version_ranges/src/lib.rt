@@ -11,6 +11,7 @@ mod cuts;
 mod equality;
 mod gather;
 mod intervals;
+pub mod laws;
 mod overlay;
 mod pieces;
 mod ranges;

@@ -1,7 +1,69 @@
 //! Examples over numbers: sets as lists of intervals, and functions side by side.
+ghost use Rattle.std.specs.Prelude.{◌≡◌, Some, refl, true};
+ghost use Rattle.std.specs.Ordering.{eq_by_cmp, nat_cmp, on};
+ghost use Rattle.std.specs.Cmp.{eq_by_cmp_equiv, nat_cmp_total, on_total, partial_equiv_from_equiv, po};
+
 use crate::{Cuts, Ranges};
+use std::alloc::AllocError;
+use std::cmp::Ordering;
 use std::ops::Bound;
 use std::test::Fail;
+
+// A number with a mark that the order does not see: it ties values that differ.
+#[derive(Drop)]
+struct Marked {
+    number: u8,
+    mark: u8,
+}
+
+impl Clone for Marked {
+    ghost is_clone = { λ a b. eq_by_cmp (on (λ m. m.number) nat_cmp) a b ≡ true };
+
+    fn clone(&self) -> Result<Marked, AllocError> {
+        Ok(Marked {
+            number: self.number,
+            mark: self.mark,
+        })
+    }
+}
+
+impl PartialEq for Marked {
+    ghost eq = { eq_by_cmp (on (λ m. m.number) nat_cmp) };
+
+    ghost laws = { partial_equiv_from_equiv (eq_by_cmp_equiv (on_total (λ m. m.number) nat_cmp_total)) };
+
+    fn eq(&self, other: &Marked) -> bool {
+        self.number.cmp(&other.number).is_eq()
+    }
+}
+
+impl Eq for Marked {
+    ghost laws = { eq_by_cmp_equiv (on_total (λ m. m.number) nat_cmp_total) };
+}
+
+impl PartialOrd for Marked {
+    ghost partial_cmp = { λ a b. Some (on (λ m. m.number) nat_cmp a b) };
+
+    ghost laws = { po (on_total (λ m. m.number) nat_cmp_total) (λ a b. refl) };
+
+    fn partial_cmp(&self, other: &Marked) -> Option<Ordering> {
+        Some(self.cmp(other))
+    }
+}
+
+impl Ord for Marked {
+    ghost cmp = { on (λ m. m.number) nat_cmp };
+
+    ghost total = { on_total (λ m. m.number) nat_cmp_total };
+
+    ghost matches_partial_cmp = { λ a b. refl };
+
+    ghost matches_eq = { λ a b. refl };
+
+    fn cmp(&self, other: &Marked) -> Ordering {
+        self.number.cmp(&other.number)
+    }
+}
 
 #[test]
 fn touching_intervals_are_joined(rt: HostRuntime) -> Result<(), Fail> {
@@ -75,4 +137,94 @@ fn bounds_of_both_kinds(rt: HostRuntime) -> Result<(), Fail> {
         assert!(rt; [set.contains(&1), set.contains(&2), set.contains(&3)] == held);
     }
     Ok(())
+}
+
+#[test]
+fn texts_have_room_between_neighbors(rt: HostRuntime) -> Result<(), Fail> {
+    let alloc = rt.alloc();
+    let above = Ranges::strictly_higher_than(alloc, String::from_str(alloc, "a")?)?;
+    let below_next = Ranges::strictly_lower_than(alloc, String::from_str(alloc, "a\0")?)?;
+    let below = Ranges::strictly_lower_than(alloc, String::from_str(alloc, "a")?)?;
+    assert!(rt; !above.intersection(alloc, &below_next)?.is_empty());
+    assert!(rt; above.intersection(alloc, &below)?.is_empty());
+    assert!(rt;
+        above.contains(&String::from_str(alloc, "a\0")?)
+            && !above.contains(&String::from_str(alloc, "a")?)
+    );
+    Ok(())
+}
+
+#[test]
+fn values_are_gathered_in_order(rt: HostRuntime) -> Result<(), Fail> {
+    let alloc = rt.alloc();
+    let one = Cuts::from_ranges(alloc, &Ranges::singleton(alloc, 1u8)?, 7u8, 8)?;
+    let pairs = one.gather(alloc)?;
+    assert_eq!(rt; pairs.len(), 2);
+    assert!(rt; *pairs[0].0 == 8 && pairs[0].1 == Ranges::singleton(alloc, 1)?.complement(alloc)?);
+    assert!(rt; *pairs[1].0 == 7 && pairs[1].1 == Ranges::singleton(alloc, 1)?);
+    assert!(rt; pairs[0].1.clone()? == pairs[0].1);
+    assert!(rt; Cuts::<u8, u8>::constant(alloc, 3).gather(alloc)?[0].1 == Ranges::full(alloc));
+    Ok(())
+}
+
+#[test]
+fn each_constructor_at_its_bound(rt: HostRuntime) -> Result<(), Fail> {
+    let alloc = rt.alloc();
+    for (set, held) in [
+        (Ranges::<u8>::empty(alloc), [false, false, false]),
+        (Ranges::full(alloc), [true, true, true]),
+        (Ranges::singleton(alloc, 2)?, [false, true, false]),
+        (Ranges::higher_than(alloc, 2)?, [false, true, true]),
+        (
+            Ranges::strictly_higher_than(alloc, 2)?,
+            [false, false, true],
+        ),
+        (Ranges::lower_than(alloc, 2)?, [true, true, false]),
+        (Ranges::strictly_lower_than(alloc, 2)?, [true, false, false]),
+        (
+            Ranges::from_points(vec![in alloc; 3u8, 1, 3]?)?,
+            [true, false, true],
+        ),
+    ] {
+        assert!(rt; [set.contains(&1), set.contains(&2), set.contains(&3)] == held);
+        assert!(rt; set.complement(alloc)?.complement(alloc)? == set);
+        assert!(rt; set.clone()? == set);
+    }
+    Ok(())
+}
+
+#[test]
+fn values_that_tie_are_one_point(rt: HostRuntime) -> Result<(), Fail> {
+    let alloc = rt.alloc();
+    let set = Ranges::from_points(vec![in alloc;
+        with_mark(1, 7),
+        with_mark(3, 7),
+        with_mark(1, 8),
+    ]?)?;
+    let mut intervals = set.iter();
+    assert!(rt; intervals.next().is_some() && intervals.next().is_some());
+    assert!(rt; intervals.next().is_none());
+    assert!(rt; set.contains(&with_mark(1, 9)) && set.contains(&with_mark(3, 9)));
+    assert!(rt; !set.contains(&with_mark(2, 7)));
+    let left = Ranges::singleton(alloc, with_mark(1, 7))?;
+    let right = Ranges::singleton(alloc, with_mark(1, 8))?;
+    assert!(rt; left == right && left.union(alloc, &right)? == right);
+    let Some(only) = right.as_singleton() else {
+        panic!(rt; "a set of one value is that value");
+    };
+    assert_eq!(rt; only.mark, 8);
+    let below = Ranges::strictly_lower_than(alloc, with_mark(1, 7))?;
+    let from = Ranges::higher_than(alloc, with_mark(1, 8))?;
+    assert!(rt; below.union(alloc, &from)? == Ranges::full(alloc));
+    assert!(rt; below.complement(alloc)? == from);
+    let sevens = Cuts::from_ranges(alloc, &left, 7u8, 0)?;
+    let eights = Cuts::from_ranges(alloc, &right, 8u8, 0)?;
+    let (both, _) = sevens.overlay(alloc, &eights)?;
+    assert_eq!(rt; both.piece_count(), 3);
+    assert!(rt; *both.at(&with_mark(1, 9)) == (7, 8) && *both.at(&with_mark(2, 9)) == (0, 0));
+    Ok(())
+}
+
+fn with_mark(number: u8, mark: u8) -> Marked {
+    Marked { number, mark }
 }

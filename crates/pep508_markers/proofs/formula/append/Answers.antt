@@ -1,13 +1,22 @@
-use Rattle.std.proofs.Common.{ap, ◌∙◌, true}
+use Rattle.std.proofs.Common.{◌≡◌, ◌+◌, length, ap, ◌∙◌, true, arith, refl}
 use Rattle.std.specs.Prelude.{◌&&◌}
 use Rattle.marker_parts.specs.Expression.{test_of}
 use Rattle.pep508_markers.specs.declared.formula.Token.TheVariants.{And, Expression}
-use Rattle.pep508_markers.specs.Postfix.{stack_of}
+use Rattle.pep508_markers.specs.Postfix.{stack_of, IsPostfix}
+use Rattle.std.proofs.Common.{subst, sym}
 use Rattle.pep508_markers.proofs.StackLaws.{stack_of-push, joined_tokens, append_some}
+use Rattle.pep508_markers.proofs.EndLaws.{postfix_put, postfix_join}
 use Rattle.pep508_markers.proofs.formula.append.Goals as goal
 
-pub returns-in_ok-any-in-Some : goal.returns-in_ok-any-in-Some
-returns-in_ok-any-in-Some c =
+pub returns-in_ok-any-in-Some-clause-stack : goal.returns-in_ok-any-in-Some-clause-stack
+returns-in_ok-any-in-Some-clause-stack c =
     let put = ap stack_of c.in_ok-push-in-Some.ensures.items ∙ stack_of-push c.args.tokens.now.items (Expression c.in-Some.expression) in
     let joined = joined_tokens (c.args.has_and && true) And c.push.new.self.items c.join.new.tokens.items c.in_ok-any-in-Some.ensures.tokens in
     rw c.in-Some.is (append_some c.args.has_and _ (test_of c.in-Some.expression) _ _ _ c.requires put joined c.in_ok-any-in-Some.ensures.any)
+
+pub returns-in_ok-any-in-Some-clause-postfix : goal.returns-in_ok-any-in-Some-clause-postfix
+returns-in_ok-any-in-Some-clause-postfix c postfix =
+    let put = ap stack_of c.in_ok-push-in-Some.ensures.items ∙ stack_of-push c.args.tokens.now.items (Expression c.in-Some.expression) in
+    let grown : length (stack_of c.push.new.self.items) ≡ length (stack_of c.args.tokens.now.items) + 1 = ap length put ∙ omega arith in
+    let kept : IsPostfix c.push.new.self.items = subst IsPostfix (sym c.in_ok-push-in-Some.ensures.items) (postfix_put c.args.tokens.now.items (Expression c.in-Some.expression) postfix refl) in
+    postfix_join c.args.has_and true And c.push.new.self.items c.in_ok-any-in-Some.ensures.tokens (omega (arith, c.requires, grown)) kept

@@ -14,3 +14,7 @@ returns-in-Parse c =
 pub returns-in-Evaluate : goal.returns-in-Evaluate
 returns-in-Evaluate c =
     on_ok_weaker c.evaluate.result (λ w. (w.0, for_request (ap request_of c.in-Evaluate.is ∙ ap (λ x. evaluate c.in-Evaluate.cell (texts_of x)) (sym c.deref.ensures.value)) w.1, w.2)) c.evaluate.ensures
+
+pub returns-in-Set : goal.returns-in-Set
+returns-in-Set c =
+    on_ok_weaker c.set.result (λ w. (w.0, for_request (ap request_of c.in-Set.is) w.1, w.2)) c.set.ensures

@@ -13,6 +13,7 @@ returns-in-Some-clause-sound c =
     let opened = suffix_then c.requires.rest c.skip_space-text.ensures.suffix in
     record {
       full = open_full _ _ _ c.in_ok-open.ensures c.requires.full;
+      postfix = c.requires.postfix;
       rest = suffix_then opened c.in-Some.ensures.suffix;
       groups = rw c.in_ok-open.ensures (All-push (λ (g : Group). IsSuffix c.args.self.now.text.now g.text.now) _ _ c.requires.groups opened);
     }
@@ -28,7 +29,8 @@ returns-in_err-expression-clause-err c =
 pub returns-clause-sound : goal.returns-clause-sound
 returns-clause-sound c =
     record {
-      full = compare_full _ _ c.in_ok-self.ensures c.requires.full;
+      full = compare_full _ _ c.in_ok-self.ensures.stack c.requires.full;
+      postfix = c.in_ok-self.ensures.postfix c.requires.postfix;
       rest = suffix_then c.requires.rest c.in_ok-expression.ensures.suffix;
       groups = c.requires.groups;
     }
@@ -36,4 +38,4 @@ returns-clause-sound c =
 pub returns-clause-same : goal.returns-clause-same
 returns-clause-same c =
     let read = c.in_ok-expression.ensures.found in
-    compare_same c.args.self.now.groups.items c.args.self.now.has_or read.compared c.in_ok-self.ensures (ap of_test read.test) read.kinds
+    compare_same c.args.self.now.groups.items c.args.self.now.has_or read.compared c.in_ok-self.ensures.stack (ap of_test read.test) read.kinds

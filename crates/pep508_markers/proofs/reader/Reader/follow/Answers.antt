@@ -6,12 +6,12 @@ use Rattle.pep508_markers.specs.declared.reader.Group.{Group}
 use Rattle.marker_words.specs.Keyword.{IsKeyword}
 use Rattle.marker_words.proofs.FaultLaws.{fault_of_suffix}
 use Rattle.pep508_markers.proofs.ReadingLaws.{and_on, and_back}
-use Rattle.pep508_markers.proofs.ReaderLaws.{ored, anded, or_same, or_full, close_same, close_full, end_same, fault_end, fault_close, all_before, all_last, not_nil, other_word, fault_of_either}
+use Rattle.pep508_markers.proofs.ReaderLaws.{ored, anded, or_same, or_full, close_same, close_full, ored_postfix, anded_postfix, one_left, end_same, fault_end, fault_close, all_before, all_last, not_nil, other_word, fault_of_either}
 use Rattle.pep508_markers.proofs.reader.Reader.follow.Goals as goal
 
 pub returns-in-And-clause-sound : goal.returns-in-And-clause-sound
 returns-in-And-clause-sound c =
-    record { full = c.requires.full; rest = suffix_then c.requires.rest (suffix_then c.skip_space-text.ensures.suffix c.keyword-word.ensures.suffix); groups = c.requires.groups }
+    record { full = c.requires.full; postfix = c.requires.postfix; rest = suffix_then c.requires.rest (suffix_then c.skip_space-text.ensures.suffix c.keyword-word.ensures.suffix); groups = c.requires.groups }
 
 pub returns-in-And-clause-same : goal.returns-in-And-clause-same
 returns-in-And-clause-same c f k =
@@ -21,7 +21,7 @@ returns-in-And-clause-same c f k =
 pub returns-in-Or-clause-sound : goal.returns-in-Or-clause-sound
 returns-in-Or-clause-sound c =
     let joined = ored c.args.self.now c.requires _ _ c.in_ok-whole.ensures.tokens c.in_ok-whole.ensures.any in
-    record { full = or_full _ joined c.requires.full; rest = suffix_then c.requires.rest (suffix_then c.skip_space-text.ensures.suffix c.keyword-word.ensures.suffix); groups = c.requires.groups }
+    record { full = or_full _ joined c.requires.full; postfix = ored_postfix c.args.self.now c.requires _ c.in_ok-whole.ensures.tokens; rest = suffix_then c.requires.rest (suffix_then c.skip_space-text.ensures.suffix c.keyword-word.ensures.suffix); groups = c.requires.groups }
 
 pub returns-in-Or-clause-same : goal.returns-in-Or-clause-same
 returns-in-Or-clause-same c =
@@ -45,6 +45,13 @@ returns-in_default-pop-clause-ended c =
     let none : items ≡ [] = c.in_default-pop.ensures.items ∙ ap (λ x. x ++ []) (c.in_default-pop.ensures.rest ∙ ap (λ n. take (n - 1) items) c.in_default-pop.ensures.cases.0) in
     end_same items none joined c.requires.full c.skip_space-text.ensures.rest c.in_default-first.ensures.characters
 
+pub returns-in_default-pop-clause-whole : goal.returns-in_default-pop-clause-whole
+returns-in_default-pop-clause-whole c =
+    let joined = ored c.args.self.now c.requires _ _ c.in_ok-whole.ensures.tokens c.in_ok-whole.ensures.any in
+    let items = c.args.self.now.groups.items in
+    let none : items ≡ [] = c.in_default-pop.ensures.items ∙ ap (λ x. x ++ []) (c.in_default-pop.ensures.rest ∙ ap (λ n. take (n - 1) items) c.in_default-pop.ensures.cases.0) in
+    (ored_postfix c.args.self.now c.requires _ c.in_ok-whole.ensures.tokens, one_left c.args.self.now c.requires _ _ none joined)
+
 pub returns-in_default-strip-clause-err : goal.returns-in_default-strip-clause-err
 returns-in_default-strip-clause-err c =
     let popped = c.in-Some.ensures.items in
@@ -60,6 +67,7 @@ returns-clause-sound c =
     let and_joined = anded c.args.self.now c.requires _ c.in-Some.group popped _ _ _ _ or_joined c.in_ok-self.ensures.tokens c.in_ok-self.ensures.any in
     record {
       full = close_full _ c.in-Some.group popped or_joined and_joined c.requires.full;
+      postfix = anded_postfix c.args.self.now c.requires _ c.in-Some.group popped _ _ _ or_joined (ored_postfix c.args.self.now c.requires _ c.in_ok-whole.ensures.tokens) c.in_ok-self.ensures.tokens;
       rest = suffix_then c.requires.rest (suffix_then c.skip_space-text.ensures.suffix c.in-Some-strip.ensures.suffix);
       groups = all_before (λ (g : Group). IsSuffix c.args.self.now.text.now g.text.now) _ _ popped c.requires.groups;
     }

@@ -5,4 +5,4 @@ use Rattle.pep508_markers.proofs.session.Session.parse.Goals as goal
 pub invariant_of-self-2 : goal.invariant_of-self-2
 invariant_of-self-2 c =
     let enough = when_ok c.reserve.result c.if-is_err.ensures.negation c.reserve.ensures.ok in
-    record { room = room_if (is_ok c.push.result) _ c.in-Ok.reading.formula _ _ c.push.ensures.items c.args.self.now.room c.reserve.ensures.capacity (omega (arith, enough, c.len.ensures)) }
+    record { room = room_if (is_ok c.push.result) _ _ _ _ c.push.ensures.items c.args.self.now.room c.reserve.ensures.capacity (omega (arith, enough, c.len.ensures)) }

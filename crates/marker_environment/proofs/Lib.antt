@@ -1,0 +1,2 @@
+mod SubstringLaws
+mod EnvironmentLaws

@@ -1,0 +1,4 @@
+pub mod Written
+pub mod Substring
+pub mod Valuation
+pub mod Environment

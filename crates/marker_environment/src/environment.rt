@@ -1,0 +1,316 @@
+//! The values of an interpreter and its platform.
+
+use crate::builder::MarkerEnvironmentBuilder;
+use crate::string_version::StringVersion;
+use marker_words::{MarkerValueString, MarkerValueVersion, TextVariable};
+use pep440_version::{Version, VersionParseError};
+use refusal::Refusal;
+use serde::{Deserialize, Serialize};
+use std::alloc::{AllocError, Global};
+
+/// The values of an interpreter and its platform, one for each modern key.
+#[derive(Debug, PartialEq, Eq, Hash, Drop, Serialize, Deserialize)]
+pub struct MarkerEnvironment {
+    implementation_name: String,
+    implementation_version: StringVersion,
+    os_name: String,
+    platform_machine: String,
+    platform_python_implementation: String,
+    platform_release: String,
+    platform_system: String,
+    platform_version: String,
+    python_full_version: StringVersion,
+    python_version: StringVersion,
+    sys_platform: String,
+}
+
+impl MarkerEnvironment {
+    ghost use Rattle.std.specs.Prelude.{◌≡◌, IfErr, IfOk, string_bytes};
+    ghost use Rattle.marker_words.specs.declared.key.MarkerValueVersion.{MarkerValueVersion};
+    ghost use Rattle.marker_words.specs.declared.key.TextVariable.{TextVariable};
+    ghost use Rattle.marker_words.specs.Key.{variable_of};
+    ghost use Rattle.marker_environment.specs.Written.{written, Says};
+    ghost use Rattle.marker_environment.specs.Environment.{text_of, version_of, values_of, texts_of, version_texts_of, IsRefusal, SetsText, SetsVersion};
+
+    /// An environment with copies of the builder's texts, and the versions that those of the version keys say.
+    ///
+    /// Where one of these is no version, its fault is the refusal. `SegmentAtEnd` never comes.
+    pub fn try_from(
+        alloc: Global,
+        builder: MarkerEnvironmentBuilder<'_>,
+    ) -> Result<MarkerEnvironment, Refusal<VersionParseError>>
+        ensures texts { IfOk result (λ environment. (variable : TextVariable) → text_of environment variable ≡ texts_of builder.entry variable) }
+        ensures versions { IfOk result (λ environment. (key : MarkerValueVersion) → Says (version_texts_of builder.entry key) (version_of environment key)) }
+        ensures refused { IfErr result (IsRefusal builder.entry) }
+    {
+        Ok(MarkerEnvironment {
+            implementation_name: String::from_str(alloc, builder.implementation_name)?,
+            implementation_version: builder.version(
+                alloc,
+                MarkerValueVersion::ImplementationVersion,
+            )?,
+            os_name: String::from_str(alloc, builder.os_name)?,
+            platform_machine: String::from_str(alloc, builder.platform_machine)?,
+            platform_python_implementation: String::from_str(
+                alloc,
+                builder.platform_python_implementation,
+            )?,
+            platform_release: String::from_str(alloc, builder.platform_release)?,
+            platform_system: String::from_str(alloc, builder.platform_system)?,
+            platform_version: String::from_str(alloc, builder.platform_version)?,
+            python_full_version: builder.version(alloc, MarkerValueVersion::PythonFullVersion)?,
+            python_version: builder.version(alloc, MarkerValueVersion::PythonVersion)?,
+            sys_platform: String::from_str(alloc, builder.sys_platform)?,
+        })
+    }
+
+    /// The value of the variable.
+    pub fn text(&self, variable: TextVariable) -> &str
+        ensures { result.now ≡ text_of self.now variable }
+    {
+        match variable {
+            TextVariable::ImplementationName => &self.implementation_name,
+            TextVariable::OsName => &self.os_name,
+            TextVariable::PlatformMachine => &self.platform_machine,
+            TextVariable::PlatformPythonImplementation => &self.platform_python_implementation,
+            TextVariable::PlatformRelease => &self.platform_release,
+            TextVariable::PlatformSystem => &self.platform_system,
+            TextVariable::PlatformVersion => &self.platform_version,
+            TextVariable::SysPlatform => &self.sys_platform,
+        }
+    }
+
+    /// The value of the version key.
+    pub fn string_version(&self, key: MarkerValueVersion) -> &StringVersion
+        ensures { written result.now ≡ version_of self.now key }
+    {
+        match key {
+            MarkerValueVersion::ImplementationVersion => &self.implementation_version,
+            MarkerValueVersion::PythonFullVersion => &self.python_full_version,
+            MarkerValueVersion::PythonVersion => &self.python_version,
+        }
+    }
+
+    /// The version that is the value of the key: of `python_version` the environment's own.
+    pub fn get_version(&self, key: &MarkerValueVersion) -> &Version
+        ensures { result.now ≡ (version_of self.now key.now).version }
+    {
+        &self.string_version(*key).version
+    }
+
+    /// The value of the key. A deprecated key has the value of the modern one.
+    pub fn get_string(&self, key: &MarkerValueString) -> &str
+        ensures { result.now ≡ text_of self.now (variable_of key.now) }
+    {
+        self.text(key.variable())
+    }
+
+    /// The value of `implementation_name`, as of Python's `sys.implementation.name`.
+    pub fn implementation_name(&self) -> &str
+        ensures { result.now ≡ text_of self.now TextVariable.ImplementationName }
+    {
+        &self.implementation_name
+    }
+
+    /// The value of `implementation_version`, as of Python's `sys.implementation.version`.
+    pub fn implementation_version(&self) -> &StringVersion
+        ensures { written result.now ≡ version_of self.now MarkerValueVersion.ImplementationVersion }
+    {
+        &self.implementation_version
+    }
+
+    /// The value of `os_name`, as of Python's `os.name`.
+    pub fn os_name(&self) -> &str
+        ensures { result.now ≡ text_of self.now TextVariable.OsName }
+    {
+        &self.os_name
+    }
+
+    /// The value of `platform_machine`, as of Python's `platform.machine()`.
+    pub fn platform_machine(&self) -> &str
+        ensures { result.now ≡ text_of self.now TextVariable.PlatformMachine }
+    {
+        &self.platform_machine
+    }
+
+    /// The value of `platform_python_implementation`, as of Python's `platform.python_implementation()`.
+    pub fn platform_python_implementation(&self) -> &str
+        ensures { result.now ≡ text_of self.now TextVariable.PlatformPythonImplementation }
+    {
+        &self.platform_python_implementation
+    }
+
+    /// The value of `platform_release`, as of Python's `platform.release()`.
+    pub fn platform_release(&self) -> &str
+        ensures { result.now ≡ text_of self.now TextVariable.PlatformRelease }
+    {
+        &self.platform_release
+    }
+
+    /// The value of `platform_system`, as of Python's `platform.system()`.
+    pub fn platform_system(&self) -> &str
+        ensures { result.now ≡ text_of self.now TextVariable.PlatformSystem }
+    {
+        &self.platform_system
+    }
+
+    /// The value of `platform_version`, as of Python's `platform.version()`.
+    pub fn platform_version(&self) -> &str
+        ensures { result.now ≡ text_of self.now TextVariable.PlatformVersion }
+    {
+        &self.platform_version
+    }
+
+    /// The value of `python_full_version`, as of Python's `platform.python_version()`.
+    pub fn python_full_version(&self) -> &StringVersion
+        ensures { written result.now ≡ version_of self.now MarkerValueVersion.PythonFullVersion }
+    {
+        &self.python_full_version
+    }
+
+    /// The value of `python_version`, as of the first two of Python's `platform.python_version_tuple()`.
+    pub fn python_version(&self) -> &StringVersion
+        ensures { written result.now ≡ version_of self.now MarkerValueVersion.PythonVersion }
+    {
+        &self.python_version
+    }
+
+    /// The value of `sys_platform`, as of Python's `sys.platform`.
+    pub fn sys_platform(&self) -> &str
+        ensures { result.now ≡ text_of self.now TextVariable.SysPlatform }
+    {
+        &self.sys_platform
+    }
+
+    /// The same environment with another value of the variable.
+    pub fn with_string(self, variable: TextVariable, value: String) -> MarkerEnvironment
+        ensures { SetsText (values_of self) (values_of result) variable (string_bytes value) }
+    {
+        let mut environment = self;
+        match variable {
+            TextVariable::ImplementationName => environment.implementation_name = value,
+            TextVariable::OsName => environment.os_name = value,
+            TextVariable::PlatformMachine => environment.platform_machine = value,
+            TextVariable::PlatformPythonImplementation =>
+                environment.platform_python_implementation = value,
+            TextVariable::PlatformRelease => environment.platform_release = value,
+            TextVariable::PlatformSystem => environment.platform_system = value,
+            TextVariable::PlatformVersion => environment.platform_version = value,
+            TextVariable::SysPlatform => environment.sys_platform = value,
+        }
+        environment
+    }
+
+    /// The same environment with another value of the version key.
+    pub fn with_version(self, key: MarkerValueVersion, value: StringVersion) -> MarkerEnvironment
+        ensures { SetsVersion (values_of self) (values_of result) key (written value) }
+    {
+        let mut environment = self;
+        match key {
+            MarkerValueVersion::ImplementationVersion => environment.implementation_version = value,
+            MarkerValueVersion::PythonFullVersion => environment.python_full_version = value,
+            MarkerValueVersion::PythonVersion => environment.python_version = value,
+        }
+        environment
+    }
+
+    /// The same environment with another value of `implementation_name`.
+    pub fn with_implementation_name(self, value: String) -> MarkerEnvironment
+        ensures { SetsText (values_of self) (values_of result) TextVariable.ImplementationName (string_bytes value) }
+    {
+        self.with_string(TextVariable::ImplementationName, value)
+    }
+
+    /// The same environment with another value of `implementation_version`.
+    pub fn with_implementation_version(self, value: StringVersion) -> MarkerEnvironment
+        ensures { SetsVersion (values_of self) (values_of result) MarkerValueVersion.ImplementationVersion (written value) }
+    {
+        self.with_version(MarkerValueVersion::ImplementationVersion, value)
+    }
+
+    /// The same environment with another value of `os_name`.
+    pub fn with_os_name(self, value: String) -> MarkerEnvironment
+        ensures { SetsText (values_of self) (values_of result) TextVariable.OsName (string_bytes value) }
+    {
+        self.with_string(TextVariable::OsName, value)
+    }
+
+    /// The same environment with another value of `platform_machine`.
+    pub fn with_platform_machine(self, value: String) -> MarkerEnvironment
+        ensures { SetsText (values_of self) (values_of result) TextVariable.PlatformMachine (string_bytes value) }
+    {
+        self.with_string(TextVariable::PlatformMachine, value)
+    }
+
+    /// The same environment with another value of `platform_python_implementation`.
+    pub fn with_platform_python_implementation(self, value: String) -> MarkerEnvironment
+        ensures { SetsText (values_of self) (values_of result) TextVariable.PlatformPythonImplementation (string_bytes value) }
+    {
+        self.with_string(TextVariable::PlatformPythonImplementation, value)
+    }
+
+    /// The same environment with another value of `platform_release`.
+    pub fn with_platform_release(self, value: String) -> MarkerEnvironment
+        ensures { SetsText (values_of self) (values_of result) TextVariable.PlatformRelease (string_bytes value) }
+    {
+        self.with_string(TextVariable::PlatformRelease, value)
+    }
+
+    /// The same environment with another value of `platform_system`.
+    pub fn with_platform_system(self, value: String) -> MarkerEnvironment
+        ensures { SetsText (values_of self) (values_of result) TextVariable.PlatformSystem (string_bytes value) }
+    {
+        self.with_string(TextVariable::PlatformSystem, value)
+    }
+
+    /// The same environment with another value of `platform_version`.
+    pub fn with_platform_version(self, value: String) -> MarkerEnvironment
+        ensures { SetsText (values_of self) (values_of result) TextVariable.PlatformVersion (string_bytes value) }
+    {
+        self.with_string(TextVariable::PlatformVersion, value)
+    }
+
+    /// The same environment with another value of `python_full_version`.
+    pub fn with_python_full_version(self, value: StringVersion) -> MarkerEnvironment
+        ensures { SetsVersion (values_of self) (values_of result) MarkerValueVersion.PythonFullVersion (written value) }
+    {
+        self.with_version(MarkerValueVersion::PythonFullVersion, value)
+    }
+
+    /// The same environment with another value of `python_version`.
+    pub fn with_python_version(self, value: StringVersion) -> MarkerEnvironment
+        ensures { SetsVersion (values_of self) (values_of result) MarkerValueVersion.PythonVersion (written value) }
+    {
+        self.with_version(MarkerValueVersion::PythonVersion, value)
+    }
+
+    /// The same environment with another value of `sys_platform`.
+    pub fn with_sys_platform(self, value: String) -> MarkerEnvironment
+        ensures { SetsText (values_of self) (values_of result) TextVariable.SysPlatform (string_bytes value) }
+    {
+        self.with_string(TextVariable::SysPlatform, value)
+    }
+}
+
+/// A clone has each value of its source. It is refused for want of memory alone.
+impl Clone for MarkerEnvironment {
+    ghost use Rattle.marker_environment.specs.Environment.{values_of, HasSameValues};
+
+    ghost is_clone = { λ environment clone. HasSameValues (values_of clone) (values_of environment) };
+
+    fn clone(&self) -> Result<MarkerEnvironment, AllocError> {
+        Ok(MarkerEnvironment {
+            implementation_name: self.implementation_name.clone()?,
+            implementation_version: self.implementation_version.clone()?,
+            os_name: self.os_name.clone()?,
+            platform_machine: self.platform_machine.clone()?,
+            platform_python_implementation: self.platform_python_implementation.clone()?,
+            platform_release: self.platform_release.clone()?,
+            platform_system: self.platform_system.clone()?,
+            platform_version: self.platform_version.clone()?,
+            python_full_version: self.python_full_version.clone()?,
+            python_version: self.python_version.clone()?,
+            sys_platform: self.sys_platform.clone()?,
+        })
+    }
+}

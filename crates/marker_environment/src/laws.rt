@@ -1,0 +1,23 @@
+//! Laws of environments. Each is a function that does nothing, whose contract is the law.
+
+ghost use Rattle.std.specs.Prelude.{◌≡◌, ◌↔◌, ℕ, List, true};
+ghost use Rattle.std.specs.Str.Iter.{HasSubslice};
+ghost use Rattle.marker_words.specs.declared.key.MarkerValueVersion.TheVariants.{PythonVersion};
+ghost use Rattle.marker_environment.specs.Written.{Written};
+ghost use Rattle.marker_environment.specs.Substring.{is_part_of};
+ghost use Rattle.marker_environment.specs.Environment.{Values, HasSameValues, SetsVersion, valuation_of};
+
+/// A text is a part of another where that is a front, the text and a back.
+pub fn a_part_stands_between_a_front_and_a_back()
+    ensures { (part text : List ℕ) → (is_part_of part text ≡ true) ↔ HasSubslice text part }
+{}
+
+/// What a marker sees of an environment does not change with the value of `python_version`.
+pub fn python_version_is_not_read()
+    ensures { (old new : Values) (value : Written) (extras : List (List ℕ)) → SetsVersion old new PythonVersion value → valuation_of new extras ≡ valuation_of old extras }
+{}
+
+/// Values that are the same key by key are the same.
+pub fn values_are_what_the_keys_show()
+    ensures { (v w : Values) → HasSameValues v w → v ≡ w }
+{}

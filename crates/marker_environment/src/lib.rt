@@ -1,0 +1,17 @@
+//! The values that the keys of markers stand for (PEP 508, "Environment Markers").
+//!
+//! An environment has a text or a version for each modern key. A valuation is what a marker sees of it.
+#![tactic(auto)]
+
+mod builder;
+mod environment;
+pub mod laws;
+mod string_version;
+mod substring;
+
+pub use crate::builder::MarkerEnvironmentBuilder;
+pub use crate::environment::MarkerEnvironment;
+pub use crate::string_version::StringVersion;
+pub use crate::substring::is_part_of;
+pub use pep440_version::{Version, VersionParseError};
+pub use refusal::Refusal;

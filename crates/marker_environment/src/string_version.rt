@@ -1,0 +1,116 @@
+//! A version together with its text.
+
+ghost use Rattle.std.specs.Prelude.{◌≡◌, ◌≢◌, ℕ, List, Some, IfErr, IfOk, string_bytes};
+ghost use Rattle.refusal.specs.declared.Refusal.TheVariants.{SegmentAtEnd};
+ghost use Rattle.serde.specs.Event.{Logs, text};
+ghost use Rattle.serde.specs.Steps.{Gives};
+ghost use Rattle.pep440_version.specs.Grammar.{IsVersionText};
+ghost use Rattle.pep440_version.specs.Parse.{IfFault};
+ghost use Rattle.pep440_version.specs.Parts.{Parts};
+ghost use Rattle.marker_environment.specs.Written.{written, normal, Says, IsSaidUnlessMemory};
+
+use pep440_version::{Version, VersionParseError};
+use refusal::Refusal;
+use serde::{
+    Described, Deserialize, DeserializeOwned, Deserializer, Format, Serialize, Serializer,
+};
+use std::alloc::{AllocError, Global};
+use std::fmt;
+use std::fmt::Display;
+
+/// A version and the text that it was read from, which prints as that text.
+#[derive(Debug, PartialEq, Eq, Hash, Drop)]
+pub struct StringVersion {
+    /// The text as it was given.
+    pub string: String,
+    /// The version that the text says.
+    pub version: Version,
+}
+
+impl StringVersion {
+    /// Reads a version as `Version::parse` does, and keeps the text as it is.
+    ///
+    /// A text that is no version is a `Fault`, which says what was expected at which byte. `SegmentAtEnd` never comes.
+    pub fn parse(alloc: Global, text: &str) -> Result<StringVersion, Refusal<VersionParseError>>
+        // The text is kept, and the version is what it says.
+        ensures found { IfOk result (λ version. Says text.now (written version)) }
+
+        // What the text says is read, unless memory runs out.
+        ensures only { (v : Parts) → IsVersionText text.now v → IsSaidUnlessMemory result text.now v }
+        ensures at_end { IfErr result (λ e. e ≢ SegmentAtEnd) }
+        ensures fault { IfErr result (λ e. IfFault e (λ fault. string_bytes fault.text ≡ text.now)) }
+    {
+        let version = Version::parse(alloc, text)?;
+        let string = String::from_str(alloc, text)?;
+        Ok(StringVersion { string, version })
+    }
+
+    /// The version with its normal text. It is refused for want of memory alone.
+    pub fn from_version(alloc: Global, version: Version) -> Result<StringVersion, AllocError>
+        ensures { IfOk result (λ made. written made ≡ normal version) }
+    {
+        let string = version.to_string(alloc)?;
+        Ok(StringVersion { string, version })
+    }
+}
+
+impl Display for StringVersion {
+    ghost output = { λ version. Some (string_bytes version.string) };
+
+    fn fmt<W: fmt::Write>(&self, f: &mut fmt::Formatter<W>) -> fmt::Result {
+        f.pad(self.string.as_str())
+    }
+}
+
+/// A clone has the text and the version of its source. It is refused for want of memory alone.
+impl Clone for StringVersion {
+    ghost is_clone = { λ version clone. written clone ≡ written version };
+
+    fn clone(&self) -> Result<StringVersion, AllocError> {
+        Ok(StringVersion {
+            string: self.string.clone()?,
+            version: self.version.clone()?,
+        })
+    }
+}
+
+impl Described for StringVersion {
+    ghost writes = { λ version old new. Logs old new (text (string_bytes version.string)) };
+}
+
+/// Writes the text.
+impl Serialize for StringVersion {
+    fn serialize<S: Serializer>(&self, out: &mut S) -> Result<(), S::Error> {
+        out.str(self.string.as_str())
+    }
+}
+
+/// Reads a text that is a version, as `StringVersion::parse` does. The error tells what was expected and where.
+impl DeserializeOwned for StringVersion {
+    fn deserialize_owned<F: Format>(
+        alloc: Global,
+        from: &mut Deserializer<'_, '_, F>,
+    ) -> Result<StringVersion, F::Error>
+        ensures { IfOk result (λ version. (t : List ℕ) × Gives F.gives from.old (text t) from.new × Says t (written version)) }
+    {
+        let text = from.string(alloc)?;
+        match StringVersion::parse(alloc, text.as_str()) {
+            Ok(version) => Ok(version),
+            Err(refusal) => match refusal.to_string(alloc) {
+                Ok(message) => Err(from.custom(message.as_str())),
+                Err(_) => Err(from.no_memory()),
+            },
+        }
+    }
+}
+
+impl<'de> Deserialize<'de> for StringVersion {
+    fn deserialize<F: Format>(
+        alloc: Global,
+        from: &mut Deserializer<'de, '_, F>,
+    ) -> Result<StringVersion, F::Error>
+        ensures { IfOk result (λ version. (t : List ℕ) × Gives F.gives from.old (text t) from.new × Says t (written version)) }
+    {
+        StringVersion::deserialize_owned(alloc, from)
+    }
+}

@@ -1,0 +1,71 @@
+-- A text is one comparison where one is read and white space alone follows.
+use Rattle.std.proofs.Common.{◌≡◌, ◌≢◌, ℕ, Bool, true, false, List, [], ◌∷◌, ◌++◌, length, refl, sym, ap, ◌∙◌, subst, append_assoc, append-nil, Option, Some, None}
+use Rattle.std.specs.Prelude.{IsUtf8, encode_utf8, ◌&&◌}
+use Rattle.std.specs.Str.{chars}
+use Rattle.std.proofs.Math.Utf8.{scalars}
+use Rattle.std.proofs.lemmas.Str.{scalars-chars}
+use Rattle.pep508_text.specs.Run.{after_space}
+use Rattle.pep508_text.specs.Suffix.{IsSuffix}
+use Rattle.pep508_text.proofs.RunLaws.{spaces_end, spaces_from, trimmed_nil}
+use Rattle.marker_warnings.specs.declared.warning.MarkerWarningKind.{MarkerWarningKind}
+use Rattle.marker_warnings.specs.Kinds.{Adds}
+use Rattle.marker_words.specs.declared.fault.Fault.{Fault}
+use Rattle.marker_words.specs.declared.fault.FaultKind.TheVariants.{Trailing}
+use Rattle.marker_words.specs.Fault.{IsFault, IsFaultAt}
+use Rattle.marker_words.proofs.FaultLaws.{fault_of_suffix, fault_in_front}
+use Rattle.marker_parts.specs.declared.expression.MarkerExpression.{MarkerExpression}
+use Rattle.marker_parts.specs.declared.comparison.ComparisonError.{ComparisonError}
+use Rattle.marker_parts.specs.declared.comparison.ComparisonError.TheVariants as errors
+use Rattle.marker_parts.specs.Comparison.{Meaning, Compared}
+use Rattle.marker_parts.specs.Read.{ReadsComparison, IsRefused}
+use Rattle.marker_parts.specs.Whole.{IsRead, IsNoComparison, IsUnread}
+use Rattle.marker_parts.proofs.ComparisonLaws.{compared_same}
+
+second_of : (a b : Bool) → (a && b) ≡ true → b ≡ true
+second_of true b p = p
+second_of false b p = absurd cc
+
+last_scalar : (xs : List ℕ) (c : ℕ) → scalars (xs ++ (c ∷ [])) ≡ true → scalars (c ∷ []) ≡ true
+last_scalar [] c p = p
+last_scalar (x ∷ xs) c p = last_scalar xs c (second_of _ _ p)
+
+-- the last character of a text is a text
+last_utf8 : (text front : List ℕ) (c : ℕ) → IsUtf8 text → chars text ≡ chars front ++ (c ∷ []) → IsUtf8 (encode_utf8 c)
+last_utf8 text front c utf8 e = ((c ∷ []), (last_scalar (chars front) c (ap scalars (sym e) ∙ scalars-chars text utf8), append-nil (encode_utf8 c)))
+
+-- a text that goes on behind a comparison
+pub trailing_at : (text piece others : List ℕ) (c last : ℕ) → IsUtf8 text → text ≡ encode_utf8 c ++ others → text ≡ piece ++ encode_utf8 last → chars text ≡ chars piece ++ (last ∷ []) → IsFaultAt text (Trailing c) piece (length text)
+trailing_at text piece others c last utf8 begins ends last_is =
+    fault_in_front text piece (encode_utf8 last) (Trailing c) (length text) utf8 (last_utf8 text piece last utf8 last_is) ends refl (others, last, sym ends ∙ begins, refl)
+
+pub read_to_the_end : {text rest space : List ℕ} {expression : Option MarkerExpression} {old new : List MarkerWarningKind} → ReadsComparison text rest expression old new → old ≡ [] → space ≡ after_space (chars rest) → space ≡ [] → IsRead text expression new
+read_to_the_end {text} {rest} {space} {expression} {old} {new} read nothing space_is ended = record {
+  meaning = read.meaning;
+  comparison = record { rest = chars rest; compared = read.compared; end = spaces_from (sym space_is ∙ ended) };
+  test = read.test;
+  kinds_are = read.kinds ∙ ap (λ (k : List MarkerWarningKind). k ++ read.meaning.kinds) nothing;
+}
+
+-- more follows the only comparison at the front
+pub more_follows : {text rest space : List ℕ} {m : Meaning} → Compared (chars text) rest m → space ≡ after_space rest → space ≢ [] → IsNoComparison text
+more_follows compared space_is some n whole =
+    let same = compared_same whole.compared compared in
+    some (space_is ∙ ap after_space (sym same.0) ∙ spaces_end whole.end trimmed_nil)
+
+pub none_at_front : (text : List ℕ) (error : ComparisonError) → IsRefused text error → IsUnread text error
+none_at_front text errors.OutOfMemory h = tt
+none_at_front text (errors.Fault fault) h = (λ m whole. h.0.no_compared whole.rest m whole.compared, h.1)
+
+pub unread_behind : {text rest space : List ℕ} {expression : Option MarkerExpression} {old new : List MarkerWarningKind} (fault : Fault) → ReadsComparison text rest expression old new → IsSuffix text rest → IsSuffix rest space → chars space ≡ after_space (chars rest) → chars space ≢ [] → IsFault space fault → IsUnread text (errors.Fault fault)
+unread_behind fault read suffix behind space_is some at = (more_follows read.compared space_is some, fault_of_suffix suffix (fault_of_suffix behind at))
+
+-- nothing is added, and then more
+pub adds_nothing : (kinds : Option (List MarkerWarningKind)) → Adds kinds kinds []
+adds_nothing None = tt
+adds_nothing (Some told) = ap Some (sym (append-nil told))
+
+pub adds_more : (a b c : Option (List MarkerWarningKind)) (ks ls : List MarkerWarningKind) → Adds a b ks → Adds b c ls → Adds a c (ks ++ ls)
+adds_more None b c ks ls h k = tt
+adds_more (Some told) b c ks ls h k =
+    let there : Adds (Some (told ++ ks)) c ls = subst (λ (x : Option (List MarkerWarningKind)). Adds x c ls) h k in
+    there ∙ ap Some (append_assoc told ks ls)

@@ -1,0 +1,64 @@
+-- A text that is one comparison, with white space around it, and how one that is none is told. (PEP 508, "Grammar"; the
+-- messages are this project's.)
+use Rattle.std.specs.Prelude.{◌≡◌, ℕ, List, [], Option, option_map, string_bytes, ⊤}
+use Rattle.std.specs.Str.{chars}
+use Rattle.refusal.specs.declared.Refusal.{Refusal}
+use Rattle.refusal.specs.declared.Refusal.TheVariants as refusals
+use Rattle.pep508_text.specs.Run.{Spaces}
+use Rattle.pep508_errors.specs.declared.error.Pep508Error.{Pep508Error}
+use Rattle.pep508_errors.specs.declared.error.Pep508ErrorSource.{Pep508ErrorSource}
+use Rattle.pep508_errors.specs.declared.error.Pep508ErrorSource.TheVariants as sources
+use Rattle.marker_warnings.specs.declared.warning.MarkerWarningKind.{MarkerWarningKind}
+use Rattle.marker_words.specs.Fault.{IsFault, IsMarkerFault}
+use Rattle.marker_parts.specs.declared.expression.MarkerExpression.{MarkerExpression}
+use Rattle.marker_parts.specs.declared.comparison.ComparisonError.{ComparisonError}
+use Rattle.marker_parts.specs.declared.comparison.ComparisonError.TheVariants as errors
+use Rattle.marker_parts.specs.Expression.{test_of}
+use Rattle.marker_parts.specs.Comparison.{Meaning, Compared}
+
+-- the text is one comparison
+pub record IsComparison (text : List ℕ) (m : Meaning) : Type 0 where
+  pub rest : List ℕ
+  pub compared : Compared (chars text) rest m
+  pub end : Spaces rest []
+
+-- the expression is what the text asks, or nothing where it is dropped, and these are the kinds of its warnings
+pub record IsRead (text : List ℕ) (expression : Option MarkerExpression) (kinds : List MarkerWarningKind) : Type 0 where
+  pub meaning : Meaning
+  pub comparison : IsComparison text meaning
+  pub test : option_map test_of expression ≡ meaning.test
+  pub kinds_are : kinds ≡ meaning.kinds
+
+abbrev pub IsNoComparison : List ℕ → Type 0
+IsNoComparison text = (m : Meaning) → ¬ IsComparison text m
+
+-- why the text is not read
+abbrev pub IsUnread : List ℕ → ComparisonError → Type 0
+IsUnread text errors.OutOfMemory = ⊤
+IsUnread text (errors.Fault fault) = IsNoComparison text × IsFault text fault
+
+module _ {T E : Type 0} where
+  -- the message is this one, and no fault of a URL
+  abbrev pub IsMessage : Pep508ErrorSource T E → List ℕ → Type 0
+  IsMessage (sources.String message) said = string_bytes message ≡ said
+  IsMessage (sources.UrlError fault) said = ⊥
+  IsMessage (sources.UnsupportedRequirement message) said = ⊥
+
+  -- one of the messages of markers, at its place in the text
+  pub record IsTold (text : List ℕ) (error : Pep508Error T E) : Type 0 where
+    pub input : string_bytes error.input ≡ text
+    pub said : List ℕ
+    pub message : IsMessage error.message said
+    pub place : IsMarkerFault text error.start error.len said
+
+  -- memory ran out, or the text is no comparison, and is told so
+  abbrev pub IsRefusal : List ℕ → Refusal (Pep508Error T E) → Type 0
+  IsRefusal text refusals.OutOfMemory = ⊤
+  IsRefusal text refusals.SegmentAtEnd = ⊥
+  IsRefusal text (refusals.Fault error) = IsNoComparison text × IsTold text error
+
+  -- a text at fault has told nothing
+  abbrev pub OnFault : Refusal (Pep508Error T E) → Type 0 → Type 0
+  OnFault refusals.OutOfMemory P = ⊤
+  OnFault refusals.SegmentAtEnd P = ⊤
+  OnFault (refusals.Fault error) P = P

@@ -1,0 +1,66 @@
+//! What stands beside `extra`.
+
+ghost use Rattle.std.specs.Prelude.{◌≡◌};
+
+use pep508_names::ExtraName;
+use std::alloc::AllocError;
+use std::fmt;
+use std::fmt::Display;
+
+/// What stands beside `extra`.
+#[derive(Debug, PartialEq, Eq, PartialOrd, Ord, Hash, Drop)]
+pub enum MarkerValueExtra {
+    /// A name of an extra.
+    Extra(ExtraName),
+    /// A text that is no name, which no list of extras has.
+    Arbitrary(String),
+}
+
+impl Display for MarkerValueExtra {
+    ghost use Rattle.std.specs.Prelude.{Some};
+    ghost use Rattle.marker_parts.specs.Print.{extra_text};
+
+    ghost output = { λ value. Some (extra_text value) };
+
+    fn fmt<W: fmt::Write>(&self, f: &mut fmt::Formatter<W>) -> fmt::Result {
+        f.pad(self.text())
+    }
+}
+
+impl Clone for MarkerValueExtra {
+    ghost use Rattle.marker_parts.specs.Expression.{extra_of};
+
+    ghost is_clone = { λ value clone. extra_of clone ≡ extra_of value };
+
+    fn clone(&self) -> Result<MarkerValueExtra, AllocError> {
+        match self {
+            MarkerValueExtra::Extra(name) => Ok(MarkerValueExtra::Extra(name.clone()?)),
+            MarkerValueExtra::Arbitrary(text) => Ok(MarkerValueExtra::Arbitrary(text.clone()?)),
+        }
+    }
+}
+
+impl MarkerValueExtra {
+    ghost use Rattle.marker_environment.specs.Environment.{Values, valuation_of};
+    ghost use Rattle.marker_parts.specs.Expression.{extra_of, holds_extra};
+    ghost use Rattle.marker_parts.specs.Print.{extra_text};
+
+    pub(crate) fn text(&self) -> &str
+        ensures { result.now ≡ extra_text self.now }
+    {
+        match self {
+            MarkerValueExtra::Extra(name) => name.as_str(),
+            MarkerValueExtra::Arbitrary(text) => text.as_str(),
+        }
+    }
+
+    // A text that is no name is in no list.
+    pub(crate) fn is_in(&self, extras: &[ExtraName]) -> bool
+        ensures { (values : Values) → result ≡ holds_extra (extra_of self.now) (valuation_of values extras.now) }
+    {
+        match self {
+            MarkerValueExtra::Extra(name) => extras.contains(name),
+            MarkerValueExtra::Arbitrary(_) => false,
+        }
+    }
+}

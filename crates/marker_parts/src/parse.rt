@@ -1,0 +1,166 @@
+//! One comparison as a whole text.
+
+ghost use Rattle.std.specs.Prelude.{◌≡◌, ◌≢◌, [], List, IfOk, IfErr, IfSome, IfNone, OnOk};
+ghost use Rattle.std.specs.Str.{chars};
+ghost use Rattle.marker_warnings.specs.declared.warning.MarkerWarningKind.{MarkerWarningKind};
+ghost use Rattle.marker_warnings.specs.Kinds.{Adds, Keeps};
+ghost use Rattle.marker_words.specs.Fault.{IsFault};
+ghost use Rattle.marker_parts.specs.Whole.{IsRead, IsUnread, IsTold, IsRefusal, OnFault};
+
+use crate::comparison::{ComparisonError, read_comparison};
+use crate::expression::MarkerExpression;
+use marker_warnings::{MarkerWarningKind, Reporter};
+use marker_words::{Fault, FaultKind};
+use pep508_errors::{Pep508Error, Pep508ErrorSource, Pep508Url};
+use pep508_text::{first, last, skip_space};
+use refusal::Refusal;
+use std::alloc::{AllocError, Global};
+
+// What is wrong where a text goes on behind its comparison. The last character is left out of the span.
+fn trailing(text: &str) -> Option<Fault<'_>>
+    ensures none { IfNone result (chars text.now ≡ []) }
+    ensures some { IfSome result (λ fault. chars text.now ≢ []) }
+    ensures fault { IfSome result (IsFault text.now) }
+{
+    let Some((found, _)) = first(text) else {
+        return None;
+    };
+    let Some((piece, _)) = last(text) else {
+        return None;
+    };
+    Some(Fault {
+        kind: FaultKind::Trailing(found),
+        piece,
+        left: text.len(),
+    })
+}
+
+// The comparison that the whole text is, and the kinds of its warnings.
+fn read_whole(
+    alloc: Global,
+    text: &str,
+) -> Result<(Option<MarkerExpression>, Vec<MarkerWarningKind>), ComparisonError<'_>>
+    ensures found { IfOk result (λ read. IsRead text.now read.0 read.1.items) }
+    ensures refused { IfErr result (IsUnread text.now) }
+{
+    let mut kinds = Vec::new(alloc);
+    let (expression, rest) = match read_comparison(alloc, text, &mut kinds) {
+        Ok(read) => read,
+        Err(error) => return Err(error),
+    };
+    match trailing(skip_space(rest)) {
+        None => Ok((expression, kinds)),
+        Some(fault) => Err(ComparisonError::Fault(fault)),
+    }
+}
+
+// The fault with its message and its text.
+fn told<T: Pep508Url>(
+    alloc: Global,
+    text: &str,
+    fault: Fault<'_>,
+) -> Result<Pep508Error<T>, AllocError>
+    requires { IsFault text.now fault }
+    ensures { IfOk result (IsTold text.now) }
+{
+    let message = fault.to_string(alloc)?;
+    Ok(Pep508Error {
+        message: Pep508ErrorSource::String(message),
+        start: fault.start(text),
+        len: fault.len(),
+        input: String::from_str(alloc, text)?,
+    })
+}
+
+fn refusal<T: Pep508Url>(
+    alloc: Global,
+    text: &str,
+    error: ComparisonError<'_>,
+) -> Refusal<Pep508Error<T>>
+    requires { IsUnread text.now error }
+    ensures { IsRefusal text.now result }
+{
+    match error {
+        ComparisonError::OutOfMemory => Refusal::OutOfMemory,
+        ComparisonError::Fault(fault) => match told(alloc, text, fault) {
+            Ok(error) => Refusal::Fault(error),
+            Err(AllocError) => Refusal::OutOfMemory,
+        },
+    }
+}
+
+fn warning_of(kind: MarkerWarningKind) -> &'static str {
+    match kind {
+        MarkerWarningKind::DeprecatedMarkerName => {
+            "A deprecated name stands in place of the modern one"
+        }
+        MarkerWarningKind::ExtraInvalidComparison => {
+            "Expected a comparison of extra with a name by == or !="
+        }
+        MarkerWarningKind::LexicographicComparison => "Texts are not compared by ~=",
+        MarkerWarningKind::MarkerMarkerComparison => {
+            "Expected a quoted text beside a key, found another key"
+        }
+        MarkerWarningKind::Pep440Error => "Expected a PEP 440 version beside a version key",
+        MarkerWarningKind::StringStringComparison => "Expected a key beside a quoted text",
+    }
+}
+
+// Tells each kind with a warning of its own.
+#[tactic(auto, using(crate::proofs::WholeLaws::adds_nothing, crate::proofs::WholeLaws::adds_more))]
+fn report_all<R: Reporter>(
+    alloc: Global,
+    kinds: &[MarkerWarningKind],
+    reporter: &mut R,
+) -> Result<(), AllocError>
+    requires { R.can_report reporter.old }
+    ensures added { OnOk result (Adds (R.kinds reporter.old) (R.kinds reporter.new) kinds.now) }
+    ensures again { R.can_report reporter.new }
+{
+    for kind in kinds {
+        let warning = String::from_str(alloc, warning_of(*kind))?;
+        reporter.report(*kind, warning)?;
+    }
+    Ok(())
+}
+
+impl MarkerExpression {
+    /// Reads one comparison with white space around it, which reports nothing. `None` where it is dropped.
+    ///
+    /// Where no comparison stands there, or more follows it, the fault has the message, the place and the text. A refusal
+    /// is never `SegmentAtEnd`.
+    pub fn parse<T: Pep508Url>(
+        alloc: Global,
+        text: &str,
+    ) -> Result<Option<MarkerExpression>, Refusal<Pep508Error<T>>>
+        ensures found { IfOk result (λ expression. (kinds : List MarkerWarningKind) × IsRead text.now expression kinds) }
+        ensures refused { IfErr result (IsRefusal text.now) }
+    {
+        match read_whole(alloc, text) {
+            Ok((expression, _)) => Ok(expression),
+            Err(error) => Err(refusal(alloc, text, error)),
+        }
+    }
+
+    /// The same, with the warnings reported in the order of the text. A text that is at fault has reported nothing. The
+    /// reporter may be told of some of the warnings where memory runs out.
+    pub fn parse_reporter<T: Pep508Url, R: Reporter>(
+        alloc: Global,
+        text: &str,
+        reporter: &mut R,
+    ) -> Result<Option<MarkerExpression>, Refusal<Pep508Error<T>>>
+        requires { R.can_report reporter.old }
+        ensures found { IfOk result (λ expression. (kinds : List MarkerWarningKind) × IsRead text.now expression kinds × Adds (R.kinds reporter.old) (R.kinds reporter.new) kinds) }
+        ensures refused { IfErr result (IsRefusal text.now) }
+        ensures unreported { IfErr result (λ refusal. OnFault refusal (Keeps (R.kinds reporter.old) (R.kinds reporter.new))) }
+        ensures again { R.can_report reporter.new }
+    {
+        match read_whole(alloc, text) {
+            Ok((expression, kinds)) => {
+                report_all(alloc, &kinds, reporter)?;
+                Ok(expression)
+            }
+            Err(error) => Err(refusal(alloc, text, error)),
+        }
+    }
+}

@@ -1,0 +1,154 @@
+//! A version key beside a quoted text.
+
+ghost use Rattle.std.specs.Prelude.{◌≡◌, ◌<◌, ℕ, List, [], Bool, false, IfOk, IfSome, IfNone, length};
+ghost use Rattle.std.specs.Str.{chars};
+ghost use Rattle.pep508_text.specs.Run.{Spaces};
+ghost use Rattle.pep508_text.specs.Suffix.{IsSuffix};
+ghost use Rattle.pep440_version.specs.Grammar.{IsVersionText, IsPatternText};
+ghost use Rattle.pep440_version.specs.Parts.{Parts};
+ghost use Rattle.pep440_specifier.specs.Specifier.{Specifier, Makes};
+ghost use Rattle.marker_parts.specs.Expression.{Test, test_of};
+ghost use Rattle.marker_parts.specs.VersionList.{IsEntry, IsVersionList};
+ghost use Rattle.marker_parts.specs.VersionComparison.{Asks, AsksBefore};
+
+use crate::expression::MarkerExpression;
+use crate::version_operator::VersionOperator;
+use marker_words::MarkerValueVersion;
+use pep440_rs::{Operator, Refusal, Version, VersionPattern, VersionSpecifier};
+use pep508_text::{Class, skip_space, split_run};
+use std::alloc::{AllocError, Global};
+
+// What a version key and a text behind it ask, if anything.
+pub(crate) fn asked_behind(
+    alloc: Global,
+    key: MarkerValueVersion,
+    operator: VersionOperator,
+    text: &str,
+) -> Result<Option<MarkerExpression>, AllocError>
+    ensures found { IfOk result (λ asked. IfSome asked (λ expression. Asks key text.now operator (test_of expression))) }
+    ensures none { IfOk result (λ asked. IfNone asked ((test : Test) → ¬ Asks key text.now operator test)) }
+{
+    match operator {
+        VersionOperator::Compare(operator) => {
+            let Some(pattern) = pattern(alloc, text)? else {
+                return Ok(None);
+            };
+            let Some(specifier) = specifier(operator, pattern) else {
+                return Ok(None);
+            };
+            Ok(Some(MarkerExpression::Version { key, specifier }))
+        }
+        VersionOperator::Among { negated } => {
+            let Some(versions) = version_list(alloc, text)? else {
+                return Ok(None);
+            };
+            Ok(Some(MarkerExpression::VersionIn {
+                key,
+                versions,
+                negated,
+            }))
+        }
+        VersionOperator::Neither => Ok(None),
+    }
+}
+
+// What a version key and a text before it ask, if anything, where the operator is turned.
+pub(crate) fn asked_before(
+    alloc: Global,
+    key: MarkerValueVersion,
+    operator: VersionOperator,
+    text: &str,
+) -> Result<Option<MarkerExpression>, AllocError>
+    ensures found { IfOk result (λ asked. IfSome asked (λ expression. AsksBefore key text.now operator (test_of expression))) }
+    ensures none { IfOk result (λ asked. IfNone asked ((test : Test) → ¬ AsksBefore key text.now operator test)) }
+{
+    match operator {
+        VersionOperator::Compare(operator) => {
+            let Some(version) = version(alloc, text)? else {
+                return Ok(None);
+            };
+            let Some(specifier) = plain_specifier(operator, version) else {
+                return Ok(None);
+            };
+            Ok(Some(MarkerExpression::Version { key, specifier }))
+        }
+        VersionOperator::Among { negated: _ } | VersionOperator::Neither => Ok(None),
+    }
+}
+
+fn pattern(alloc: Global, text: &str) -> Result<Option<VersionPattern>, AllocError>
+    ensures found { IfOk result (λ found. IfSome found (λ pattern. IsPatternText text.now pattern.version pattern.wildcard)) }
+    ensures none { IfOk result (λ found. IfNone found ((v : Parts) (star : Bool) → ¬ IsPatternText text.now v star)) }
+{
+    match VersionPattern::parse(alloc, text) {
+        Ok(pattern) => Ok(Some(pattern)),
+        Err(Refusal::Fault(_)) => Ok(None),
+        Err(Refusal::OutOfMemory | Refusal::SegmentAtEnd) => Err(AllocError),
+    }
+}
+
+fn version(alloc: Global, text: &str) -> Result<Option<Version>, AllocError>
+    ensures found { IfOk result (λ found. IfSome found (λ version. IsVersionText text.now version)) }
+    ensures none { IfOk result (λ found. IfNone found ((v : Parts) → ¬ IsVersionText text.now v)) }
+{
+    match Version::parse(alloc, text) {
+        Ok(version) => Ok(Some(version)),
+        Err(Refusal::Fault(_)) => Ok(None),
+        Err(Refusal::OutOfMemory | Refusal::SegmentAtEnd) => Err(AllocError),
+    }
+}
+
+// The specifier of an operator and a pattern, or `None` where they do not go together.
+fn specifier(operator: Operator, pattern: VersionPattern) -> Option<VersionSpecifier>
+    ensures found { IfSome result (λ s. Makes operator pattern.version pattern.wildcard s) }
+    ensures none { IfNone result ((s : Specifier) → Makes operator pattern.version pattern.wildcard s → ⊥) }
+{
+    match VersionSpecifier::from_pattern(operator, pattern) {
+        Ok(specifier) => Some(specifier),
+        Err(_) => None,
+    }
+}
+
+// The same of a version with no star.
+fn plain_specifier(operator: Operator, version: Version) -> Option<VersionSpecifier>
+    ensures found { IfSome result (λ s. Makes operator version false s) }
+    ensures none { IfNone result ((s : Specifier) → Makes operator version false s → ⊥) }
+{
+    match VersionSpecifier::from_version(operator, version) {
+        Ok(specifier) => Some(specifier),
+        Err(_) => None,
+    }
+}
+
+// The next run of characters that are no white space, and what follows it.
+#[tactic(auto, using(crate::proofs::VersionListLaws::entry_here, crate::proofs::VersionListLaws::no_entry_here, pep508_text::proofs::SuffixLaws::suffix_then))]
+fn next_entry(text: &str) -> Option<(&str, &str)>
+    ensures found { IfSome result (λ x. IsEntry (chars text.now) x.0.now (chars x.1.now)) }
+    ensures none { IfNone result (Spaces (chars text.now) []) }
+    ensures shorter { IfSome result (λ x. length x.1.now < length text.now) }
+    ensures suffix { IfSome result (λ x. IsSuffix text.now x.1.now) }
+{
+    let (entry, rest) = split_run(skip_space(text), Class::NotSpace);
+    if entry.is_empty() {
+        None
+    } else {
+        Some((entry, rest))
+    }
+}
+
+// The versions of a list, or `None` where an entry is no version.
+fn version_list(alloc: Global, text: &str) -> Result<Option<Vec<Version>>, AllocError>
+    ensures found { IfOk result (λ found. IfSome found (λ versions. IsVersionList (chars text.now) versions.items)) }
+    ensures none { IfOk result (λ found. IfNone found ((versions : List Parts) → ¬ IsVersionList (chars text.now) versions)) }
+{
+    let mut versions = Vec::new(alloc);
+    let mut rest = text;
+    'entries: while let Some((entry, after)) = next_entry(rest) {
+        let Some(version) = version(alloc, entry)? else {
+            return Ok(None);
+        };
+        versions.push(version)?;
+        rest = after;
+    }
+    Ok(Some(versions))
+}

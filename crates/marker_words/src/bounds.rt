@@ -1,0 +1,94 @@
+//! The comparisons that a range of texts is.
+
+ghost use Rattle.std.specs.Prelude.{◌≡◌, ℕ, List, true};
+ghost use Rattle.std.specs.Option.{option_map, option_to_list};
+ghost use Rattle.version_ranges.specs.Point.{Point, is_from, is_until, is_in_bounds};
+ghost use Rattle.marker_words.specs.Compare.{pair_of, lower_pair, upper_pair, pairs_of, satisfies_all, text_bound, text_cmp, text_eq};
+
+use crate::operator::MarkerOperator;
+use std::ops::Bound;
+
+/// The comparisons that say together that a text lies in a range, the one of its lower bound first. There are two at
+/// most.
+#[derive(Drop)]
+pub struct MarkerOperatorBounds<'a> {
+    lower: Option<(MarkerOperator, &'a String)>,
+    upper: Option<(MarkerOperator, &'a String)>,
+}
+
+impl<'a> Iterator for MarkerOperatorBounds<'a> {
+    ghost use Rattle.std.specs.Iterator.{YieldsFirstBy, item_count};
+    ghost use Rattle.marker_words.specs.Bounds.{pairs_left};
+
+    type Item = (MarkerOperator, &'a String);
+
+    ghost next_gives = { YieldsFirstBy pair_of pairs_left };
+
+    ghost remaining = { item_count pairs_left };
+
+    fn next(&mut self) -> Option<(MarkerOperator, &'a String)> {
+        match self.lower.take() {
+            Some(pair) => Some(pair),
+            None => self.upper.take(),
+        }
+    }
+}
+
+impl MarkerOperator {
+    ghost use Rattle.marker_words.specs.Bounds.{pairs_left};
+
+    /// The comparisons that a text satisfies exactly where it lies between the bounds: one `==` where both include the
+    /// same text, and else one for each bound that there is. Where no text lies between the bounds, none satisfies all of
+    /// them.
+    pub fn from_bounds<'a>(
+        bounds: (Bound<&'a String>, Bound<&'a String>),
+    ) -> MarkerOperatorBounds<'a>
+        ensures pairs { pairs_left result ≡ pairs_of text_eq (text_bound bounds.entry.0) (text_bound bounds.entry.1) }
+
+        // The conjunction is the range, at each point.
+        ensures range { (p : Point (List ℕ)) → satisfies_all text_cmp (pairs_left result) p
+            ≡ is_in_bounds text_cmp (text_bound bounds.entry.0) (text_bound bounds.entry.1) p }
+    {
+        let (lower, upper) = bounds;
+        match (&lower, &upper) {
+            (Bound::Included(first), Bound::Included(last)) if first == last => {
+                MarkerOperatorBounds {
+                    lower: Some((MarkerOperator::Equal, *first)),
+                    upper: None,
+                }
+            }
+            _ => MarkerOperatorBounds {
+                lower: MarkerOperator::from_lower_bound(lower),
+                upper: MarkerOperator::from_upper_bound(upper),
+            },
+        }
+    }
+
+    /// The comparison that a text satisfies exactly where it does not lie below the bound: `>=` where the bound is
+    /// included, `>` where it is excluded, and none where there is no bound.
+    pub fn from_lower_bound<'a>(bound: Bound<&'a String>) -> Option<(MarkerOperator, &'a String)>
+        ensures pair { option_map pair_of result ≡ lower_pair (text_bound bound.entry) }
+        ensures range { (p : Point (List ℕ)) → satisfies_all text_cmp (option_to_list (option_map pair_of result)) p
+            ≡ is_from text_cmp (text_bound bound.entry) p }
+    {
+        match bound {
+            Bound::Included(text) => Some((MarkerOperator::GreaterEqual, text)),
+            Bound::Excluded(text) => Some((MarkerOperator::GreaterThan, text)),
+            Bound::Unbounded => None,
+        }
+    }
+
+    /// The comparison that a text satisfies exactly where it does not lie above the bound: `<=` where the bound is
+    /// included, `<` where it is excluded, and none where there is no bound.
+    pub fn from_upper_bound<'a>(bound: Bound<&'a String>) -> Option<(MarkerOperator, &'a String)>
+        ensures pair { option_map pair_of result ≡ upper_pair (text_bound bound.entry) }
+        ensures range { (p : Point (List ℕ)) → satisfies_all text_cmp (option_to_list (option_map pair_of result)) p
+            ≡ is_until text_cmp (text_bound bound.entry) p }
+    {
+        match bound {
+            Bound::Included(text) => Some((MarkerOperator::LessEqual, text)),
+            Bound::Excluded(text) => Some((MarkerOperator::LessThan, text)),
+            Bound::Unbounded => None,
+        }
+    }
+}

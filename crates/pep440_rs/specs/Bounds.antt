@@ -1,0 +1,30 @@
+-- Ranges of releases, and the specifiers that mean them (this project's own).
+use Rattle.std.specs.Prelude.{◌≡◌, ⊤, Bool, List}
+use Rattle.std.specs.Borrow.{Bor}
+use Rattle.std.specs.List.{list_all}
+use Rattle.std.specs.Range.Bound.{bound_map}
+use Rattle.std.specs.declared.ops.Bound.{Bound}
+use Rattle.std.specs.declared.ops.Bound.TheVariants.{Included, Excluded, Unbounded}
+use Rattle.version_ranges.specs.Point.{Point, is_in_bounds}
+use Rattle.pep440_version.specs.Order.{version_cmp}
+use Rattle.pep440_version.specs.Parts.{Parts, release_only}
+use Rattle.pep440_specifier.specs.Specifier.{Specifier}
+use Rattle.pep440_rs.specs.Intervals.{is_in}
+
+-- whether a point is in the set of each specifier
+abbrev pub is_in_all : List Specifier → Point Parts → Bool
+is_in_all specifiers p = list_all (λ s. is_in s.operator s.version.release p) specifiers
+
+-- a version of release numbers alone
+abbrev pub IsRelease : Parts → Type 0
+IsRelease v = v ≡ release_only v.release
+
+-- a bound at such a version, or none
+abbrev pub IsAtRelease : Bound (Bor Parts) → Type 0
+IsAtRelease (Included v) = IsRelease v.now
+IsAtRelease (Excluded v) = IsRelease v.now
+IsAtRelease Unbounded = ⊤
+
+-- whether a point lies between two bounds at versions that are lent
+abbrev pub is_within : Bound (Bor Parts) → Bound (Bor Parts) → Point Parts → Bool
+is_within lower upper p = is_in_bounds version_cmp (bound_map (λ v. v.now) lower) (bound_map (λ v. v.now) upper) p

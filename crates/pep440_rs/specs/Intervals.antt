@@ -1,0 +1,79 @@
+-- The sets of versions that version specifiers stand for (PEP 440, "Version specifiers"), as sets of points. That the release alone
+-- counts, without epoch, pre-release, post-release, development release and local part, is this project's own.
+use Rattle.std.specs.Prelude.{◌≡◌, ◌⊎◌, ⊤, ℕ, ◌+◌, ◌-◌, ◌<◌, Bool, not, List, [], ◌∷◌, length, take, None, Option, Some}
+use Rattle.std.specs.Range.Bound.{bound_map}
+use Rattle.std.specs.declared.cmp.Ordering.TheVariants.{Equal}
+use Rattle.std.specs.declared.ops.Bound.{Bound}
+use Rattle.std.specs.declared.ops.Bound.TheVariants.{Included, Excluded, Unbounded}
+use Rattle.refusal.specs.declared.Refusal.{Refusal}
+use Rattle.refusal.specs.declared.Refusal.TheVariants.{OutOfMemory, SegmentAtEnd}
+use Rattle.version_ranges.specs.Point.{Point, is_in_bounds}
+use Rattle.pep440_version.specs.Order.{version_cmp}
+use Rattle.pep440_version.specs.Parts.{Parts, release_only}
+use Rattle.pep440_specifier.specs.declared.operator.Operator.{Operator}
+use Rattle.pep440_specifier.specs.declared.operator.Operator.TheVariants as operator
+
+-- a release with its last number raised by one
+abbrev pub raised : List ℕ → List ℕ
+raised [] = []
+raised (x ∷ []) = (x + 1) ∷ []
+raised (x ∷ y ∷ r) = x ∷ raised (y ∷ r)
+
+-- a release with its last number dropped
+abbrev pub front : List ℕ → List ℕ
+front r = take (length r - 1) r
+
+-- the last number of a release
+abbrev pub last_number : List ℕ → Option ℕ
+last_number [] = None
+last_number (x ∷ []) = Some x
+last_number (x ∷ y ∷ r) = last_number (y ∷ r)
+
+-- whether a point lies between two bounds that are releases
+abbrev pub is_between : Bound (List ℕ) → Bound (List ℕ) → Point Parts → Bool
+is_between lower upper p = is_in_bounds version_cmp (bound_map release_only lower) (bound_map release_only upper) p
+
+-- whether a point is in the set that an operator and a release stand for
+abbrev pub is_in : Operator → List ℕ → Point Parts → Bool
+is_in operator.Equal r p = is_between (Included r) (Included r) p
+is_in operator.ExactEqual r p = is_between (Included r) (Included r) p
+is_in operator.NotEqual r p = not (is_between (Included r) (Included r) p)
+is_in operator.LessThan r p = is_between Unbounded (Excluded r) p
+is_in operator.LessThanEqual r p = is_between Unbounded (Included r) p
+is_in operator.GreaterThan r p = is_between (Excluded r) Unbounded p
+is_in operator.GreaterThanEqual r p = is_between (Included r) Unbounded p
+is_in operator.TildeEqual r p = is_between (Included r) (Excluded (raised (front r))) p
+is_in operator.EqualStar r p = is_between (Included r) (Excluded (raised r)) p
+is_in operator.NotEqualStar r p = not (is_between (Included r) (Excluded (raised r)) p)
+
+-- the number that a comparison raises, if any
+abbrev pub raised_number : Operator → List ℕ → Option ℕ
+raised_number operator.TildeEqual r = last_number (front r)
+raised_number operator.EqualStar r = last_number r
+raised_number operator.NotEqualStar r = last_number r
+raised_number o r = None
+
+-- the largest number of a version, which cannot be raised
+abbrev pub IsGreatest : Option ℕ → Type 0
+IsGreatest n = n ≡ Some 18446744073709551615
+
+-- a comparison would raise the largest number
+abbrev pub IsAtEnd : Operator → List ℕ → Type 0
+IsAtEnd o r = IsGreatest (raised_number o r)
+
+-- a call is refused where there is no memory, or where the largest number would be raised
+abbrev pub IsRefusedAt : {E : Type 0} → Type 0 → Refusal E → Type 0
+IsRefusedAt AtEnd e = (e ≡ OutOfMemory) ⊎ ((e ≡ SegmentAtEnd) × AtEnd)
+
+-- a bound is at a release with a number
+abbrev pub HasNumbers : Bound (List ℕ) → Type 0
+HasNumbers (Included r) = 0 < length r
+HasNumbers (Excluded r) = 0 < length r
+HasNumbers Unbounded = ⊤
+
+-- two bounds are alike, at versions that the order ties
+abbrev pub IsSameBound : Bound Parts → Bound Parts → Type 0
+IsSameBound (Included v) (Included w) = version_cmp v w ≡ Equal
+IsSameBound (Excluded v) (Excluded w) = version_cmp v w ≡ Equal
+IsSameBound Unbounded Unbounded = ⊤
+IsSameBound lower upper = ⊥

@@ -1,0 +1,4 @@
+pub mod Intervals
+pub mod Bounds
+pub mod PythonVersion
+pub mod Lists

@@ -1,0 +1,32 @@
+-- The sets of versions that `in` and `not in` a list of versions stand for (this project's own).
+use Rattle.std.specs.Prelude.{◌≡◌, ◌==◌, Bool, true, false, not, ◌&&◌, if◌then◌else◌, List}
+use Rattle.std.specs.List.{list_any}
+use Rattle.std.specs.declared.ops.Bound.TheVariants.{Included}
+use Rattle.version_ranges.specs.Point.{Point, is_in_bounds}
+use Rattle.pep440_version.specs.Order.{version_cmp}
+use Rattle.pep440_version.specs.Parts.{Parts}
+use Rattle.pep440_rs.specs.PythonVersion.{has_more, is_in_minor, minor_number}
+
+-- the listed versions, with all their parts
+abbrev pub is_listed : List Parts → Point Parts → Bool
+is_listed versions p = list_any (λ v. is_in_bounds version_cmp (Included v) (Included v) p) versions
+
+-- whether an entry has more release numbers than `python_version` has
+abbrev pub has_long : List Parts → Bool
+has_long versions = list_any (λ v. has_more v.release) versions
+
+-- the full versions whose `python_version` is one of the releases as they are written: none where an entry has too many numbers
+abbrev pub is_minor_listed : List Parts → Point Parts → Bool
+is_minor_listed versions p = not (has_long versions) && list_any (λ v. is_in_minor v.release p) versions
+
+-- `in`, or `not in` where it is negated
+abbrev pub is_in_or_not : Bool → Bool → Bool
+is_in_or_not negated listed = if negated then not listed else listed
+
+-- whether the largest number would be raised for an entry
+abbrev pub raises_greatest : List Parts → Bool
+raises_greatest versions = list_any (λ v. minor_number v.release == 18446744073709551615) versions
+
+-- a list would raise the largest number; one with an entry of too many numbers raises nothing
+abbrev pub IsListAtEnd : List Parts → Type 0
+IsListAtEnd versions = (has_long versions ≡ false) × (raises_greatest versions ≡ true)

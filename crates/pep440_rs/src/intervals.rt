@@ -1,0 +1,147 @@
+//! The sets of versions that version specifiers stand for, by the release alone.
+
+ghost use Rattle.std.specs.Prelude.{◌≡◌, ◌<◌, ◌≤◌, ℕ, not, length, IfOk, IfErr, OnOk};
+ghost use Rattle.std.specs.Range.Bound.{bound_map};
+ghost use Rattle.std.specs.declared.cmp.Ordering.TheVariants.{Equal};
+ghost use Rattle.std.specs.declared.ops.Bound.TheVariants.{Included, Excluded};
+ghost use Rattle.version_ranges.specs.Point.{Point};
+ghost use Rattle.version_ranges.specs.Ranges.{contains_point};
+ghost use Rattle.pep440_version.specs.Order.{trimmed, version_cmp};
+ghost use Rattle.pep440_version.specs.Parts.{Parts, release_only};
+ghost use Rattle.pep440_rs.specs.Intervals.{HasNumbers, IsAtEnd, IsGreatest, IsRefusedAt, IsSameBound, is_between, is_in, last_number, raised};
+
+use pep440_specifier::{Operator, VersionSpecifier};
+use pep440_version::{Refusal, Version};
+use std::alloc::{AllocError, Global};
+use std::convert::Infallible;
+use std::ops::Bound;
+use version_ranges::Ranges;
+
+// The version of these release numbers without the zeros at their end, as it stands at a bound.
+fn trimmed_version(alloc: Global, release: &[u64]) -> Result<Version, AllocError>
+    requires { 0 < length release.now }
+    ensures value { IfOk result (λ v. v ≡ release_only (trimmed release.now)) }
+    ensures same { IfOk result (λ v. version_cmp v (release_only release.now) ≡ Equal) }
+{
+    Version::new(alloc, release)?.trimmed()
+}
+
+// A bound at these release numbers.
+fn release_bound(alloc: Global, bound: Bound<&[u64]>) -> Result<Bound<Version>, AllocError>
+    requires { HasNumbers (bound_map (λ r. r.now) bound) }
+    ensures value { IfOk result (λ b. b ≡ bound_map (λ r. release_only (trimmed r.now)) bound.entry) }
+    ensures same { IfOk result (λ b. IsSameBound b (bound_map release_only (bound_map (λ r. r.now) bound.entry))) }
+{
+    match bound {
+        Bound::Included(release) => Ok(Bound::Included(trimmed_version(alloc, release)?)),
+        Bound::Excluded(release) => Ok(Bound::Excluded(trimmed_version(alloc, release)?)),
+        Bound::Unbounded => Ok(Bound::Unbounded),
+    }
+}
+
+// The versions between two bounds.
+pub(crate) fn between(
+    alloc: Global,
+    lower: Bound<&[u64]>,
+    upper: Bound<&[u64]>,
+) -> Result<Ranges<Version>, AllocError>
+    requires lower { HasNumbers (bound_map (λ r. r.now) lower) }
+    requires upper { HasNumbers (bound_map (λ r. r.now) upper) }
+    ensures { IfOk result (λ r. (p : Point Parts) → contains_point version_cmp r p ≡ is_between (bound_map (λ r. r.now) lower.entry) (bound_map (λ r. r.now) upper.entry) p) }
+{
+    let lower = release_bound(alloc, lower)?;
+    let upper = release_bound(alloc, upper)?;
+    Ranges::from_range_bounds(alloc, (lower, upper))
+}
+
+// The versions that are not in a set.
+pub(crate) fn outside(
+    alloc: Global,
+    inside: &Ranges<Version>,
+) -> Result<Ranges<Version>, AllocError>
+    ensures { IfOk result (λ r. (p : Point Parts) → contains_point version_cmp r p ≡ not (contains_point version_cmp inside.now p)) }
+{
+    inside.complement(alloc)
+}
+
+// The release with its last number raised by one.
+fn raise(alloc: Global, release: &[u64]) -> Result<Vec<u64>, Refusal<Infallible>>
+    requires { 0 < length release.now }
+    ensures value { IfOk result (λ r. r.items ≡ raised release.now) }
+    ensures some { IfOk result (λ r. 0 < length r.items) }
+    ensures not_at_end { OnOk result (¬ IsGreatest (last_number release.now)) }
+    ensures err { IfErr result (λ e. IsRefusedAt (IsGreatest (last_number release.now)) e) }
+{
+    let last = release.len() - 1;
+    let Some(next) = release[last].checked_add(1) else {
+        return Err(Refusal::SegmentAtEnd);
+    };
+    let mut numbers = Vec::from_slice(alloc, release)?;
+    numbers[last] = next;
+    Ok(numbers)
+}
+
+// The versions from a release up to where the last number of another one is raised.
+fn up_to_raised(
+    alloc: Global,
+    release: &[u64],
+    prefix: &[u64],
+) -> Result<Ranges<Version>, Refusal<Infallible>>
+    requires release { 0 < length release.now }
+    requires prefix { 0 < length prefix.now }
+    ensures set { IfOk result (λ r. (p : Point Parts) → contains_point version_cmp r p ≡ is_between (Included release.now) (Excluded (raised prefix.now)) p) }
+    ensures not_at_end { OnOk result (¬ IsGreatest (last_number prefix.now)) }
+    ensures err { IfErr result (λ e. IsRefusedAt (IsGreatest (last_number prefix.now)) e) }
+{
+    let end = raise(alloc, prefix)?;
+    let range = between(alloc, Bound::Included(release), Bound::Excluded(&end))?;
+    Ok(range)
+}
+
+// The set of a comparison with a release.
+pub(crate) fn release_to_range(
+    alloc: Global,
+    operator: Operator,
+    release: &[u64],
+) -> Result<Ranges<Version>, Refusal<Infallible>>
+    requires some { 0 < length release.now }
+    requires compatible { operator ≡ Operator.TildeEqual → 2 ≤ length release.now }
+    ensures set { IfOk result (λ r. (p : Point Parts) → contains_point version_cmp r p ≡ is_in operator release.now p) }
+    ensures not_at_end { OnOk result (¬ IsAtEnd operator release.now) }
+    ensures err { IfErr result (λ e. IsRefusedAt (IsAtEnd operator release.now) e) }
+{
+    let included = Bound::Included(release);
+    let excluded = Bound::Excluded(release);
+    match operator {
+        Operator::Equal | Operator::ExactEqual => Ok(between(alloc, included, included)?),
+        Operator::NotEqual => Ok(outside(alloc, &between(alloc, included, included)?)?),
+        Operator::LessThan => Ok(between(alloc, Bound::Unbounded, excluded)?),
+        Operator::LessThanEqual => Ok(between(alloc, Bound::Unbounded, included)?),
+        Operator::GreaterThan => Ok(between(alloc, excluded, Bound::Unbounded)?),
+        Operator::GreaterThanEqual => Ok(between(alloc, included, Bound::Unbounded)?),
+        Operator::TildeEqual => up_to_raised(alloc, release, &release[..release.len() - 1]),
+        Operator::EqualStar => up_to_raised(alloc, release, release),
+        Operator::NotEqualStar => Ok(outside(alloc, &up_to_raised(alloc, release, release)?)?),
+    }
+}
+
+/// The versions that a specifier stands for where it is compared with a whole version, such as
+/// `implementation_version` or `python_full_version`.
+///
+/// Its release alone counts: epoch, pre-release, post-release, development release and local part are dropped.
+/// `== 3.9.*` is from 3.9 up to 3.10, and `~= 3.9.1` from 3.9.1 up to 3.10, both without their end.
+///
+/// It is refused as `SegmentAtEnd` where 18446744073709551615 would be raised for such an end, which `!=` of a star
+/// asks for too, and else for want of memory alone.
+pub fn release_specifier_to_range(
+    alloc: Global,
+    specifier: &VersionSpecifier,
+) -> Result<Ranges<Version>, Refusal<Infallible>>
+    ensures set { IfOk result (λ r. (p : Point Parts) → contains_point version_cmp r p ≡ is_in specifier.now.operator specifier.now.version.release p) }
+
+    // Only where the largest number would be raised is there none.
+    ensures not_at_end { OnOk result (¬ IsAtEnd specifier.now.operator specifier.now.version.release) }
+    ensures err { IfErr result (λ e. IsRefusedAt (IsAtEnd specifier.now.operator specifier.now.version.release) e) }
+{
+    release_to_range(alloc, specifier.operator(), specifier.version().release())
+}

@@ -1,0 +1,188 @@
+//! The sets of full versions of Python that comparisons of `python_version` stand for.
+
+ghost use Rattle.std.specs.Prelude.{◌≡◌, ◌<◌, ◌≤◌, ◌&&◌, ℕ, None, get_or, length, not, IfErr, IfOk, OnOk};
+ghost use Rattle.std.specs.declared.ops.Bound.TheVariants.{Excluded, Included, Unbounded};
+ghost use Rattle.refusal.specs.declared.Refusal.TheVariants.{OutOfMemory};
+ghost use Rattle.version_ranges.specs.Point.{Point};
+ghost use Rattle.version_ranges.specs.Ranges.{contains_point};
+ghost use Rattle.pep440_version.specs.Order.{trimmed as trimmed_of, version_cmp};
+ghost use Rattle.pep440_version.specs.Parts.{Parts};
+ghost use Rattle.pep440_rs.specs.Intervals.{IsGreatest, IsRefusedAt, is_between, is_in, raised_number};
+ghost use Rattle.pep440_rs.specs.PythonVersion.{IsPythonAtEnd, first_minor, has_more, is_in_minor, is_same_minor, minor_raised, minor_release, next_minor, python_is_in, raised_by};
+
+use crate::intervals::{between, outside, release_to_range};
+use pep440_specifier::{Operator, VersionSpecifier};
+use pep440_version::{Refusal, Version};
+use std::alloc::Global;
+use std::convert::Infallible;
+use std::ops::Bound;
+use version_ranges::Ranges;
+
+// The number at an index, 0 where there is none.
+fn number_at(release: &[u64], index: usize) -> u64
+    ensures { result ≡ get_or release.now index 0 }
+{
+    release.get(index).copied().unwrap_or(0)
+}
+
+// Whether a release has more numbers than `python_version` has.
+pub(crate) fn has_more(release: &[u64]) -> bool
+    ensures { result ≡ has_more release.now }
+{
+    release.len() > 2
+}
+
+// `M.m` of a release.
+fn minor_release(release: &[u64]) -> [u64; 2]
+    ensures { result ≡ minor_release release.now }
+{
+    [number_at(release, 0), number_at(release, 1)]
+}
+
+// `M.(m+1)` of a release.
+fn next_minor(release: &[u64]) -> Result<[u64; 2], Refusal<Infallible>>
+    ensures value { IfOk result (λ next. next ≡ next_minor release.now) }
+    ensures not_at_end { OnOk result (¬ IsGreatest (minor_raised release.now)) }
+    ensures err { IfErr result (λ e. IsRefusedAt (IsGreatest (minor_raised release.now)) e) }
+{
+    let Some(next) = number_at(release, 1).checked_add(1) else {
+        return Err(Refusal::SegmentAtEnd);
+    };
+    Ok([number_at(release, 0), next])
+}
+
+// The first `M.m` that is not below a release.
+fn first_minor(release: &[u64]) -> Result<[u64; 2], Refusal<Infallible>>
+    ensures value { IfOk result (λ first. first ≡ first_minor release.now) }
+    ensures not_at_end { OnOk result (¬ IsGreatest (raised_by release.now None (minor_raised release.now))) }
+    ensures err { IfErr result (λ e. IsRefusedAt (IsGreatest (raised_by release.now None (minor_raised release.now))) e) }
+{
+    if has_more(release) {
+        next_minor(release)
+    } else {
+        Ok(minor_release(release))
+    }
+}
+
+// The full versions from `M.m` up to `M.(m+1)`.
+pub(crate) fn minor_to_range(
+    alloc: Global,
+    release: &[u64],
+) -> Result<Ranges<Version>, Refusal<Infallible>>
+    ensures set { IfOk result (λ r. (p : Point Parts) → contains_point version_cmp r p ≡ is_in_minor release.now p) }
+    ensures not_at_end { OnOk result (¬ IsGreatest (minor_raised release.now)) }
+    ensures err { IfErr result (λ e. IsRefusedAt (IsGreatest (minor_raised release.now)) e) }
+{
+    let minor = minor_release(release);
+    let next = next_minor(release)?;
+    let range = between(alloc, Bound::Included(&minor), Bound::Excluded(&next))?;
+    Ok(range)
+}
+
+// The full versions whose `python_version` is a release.
+fn same_minor_to_range(
+    alloc: Global,
+    release: &[u64],
+) -> Result<Ranges<Version>, Refusal<Infallible>>
+    ensures set { IfOk result (λ r. (p : Point Parts) → contains_point version_cmp r p ≡ is_same_minor release.now p) }
+    ensures not_at_end { OnOk result (¬ IsGreatest (raised_by release.now (minor_raised release.now) None)) }
+    ensures err { IfErr result (λ e. IsRefusedAt (IsGreatest (raised_by release.now (minor_raised release.now) None)) e) }
+{
+    if has_more(release) {
+        return Ok(Ranges::empty(alloc));
+    }
+    minor_to_range(alloc, release)
+}
+
+// The set of a comparison as written, which is none where the release has more numbers than `python_version` has.
+fn written_to_range(
+    alloc: Global,
+    operator: Operator,
+    release: &[u64],
+) -> Result<Ranges<Version>, Refusal<Infallible>>
+    requires some { 0 < length release.now }
+    requires compatible { operator ≡ Operator.TildeEqual → 2 ≤ length release.now }
+    ensures set { IfOk result (λ r. (p : Point Parts) → contains_point version_cmp r p ≡ (not (has_more release.now) && is_in operator release.now p)) }
+    ensures not_at_end { OnOk result (¬ IsGreatest (raised_by release.now (raised_number operator release.now) None)) }
+    ensures err { IfErr result (λ e. IsRefusedAt (IsGreatest (raised_by release.now (raised_number operator release.now) None)) e) }
+{
+    if has_more(release) {
+        return Ok(Ranges::empty(alloc));
+    }
+    release_to_range(alloc, operator, release)
+}
+
+// The full versions from `M.m` on.
+fn from_minor(alloc: Global, minor: [u64; 2]) -> Result<Ranges<Version>, Refusal<Infallible>>
+    ensures set { IfOk result (λ r. (p : Point Parts) → contains_point version_cmp r p ≡ is_between (Included minor) Unbounded p) }
+    ensures err { IfErr result (λ e. e ≡ OutOfMemory) }
+{
+    let range = between(alloc, Bound::Included(&minor), Bound::Unbounded)?;
+    Ok(range)
+}
+
+// The full versions below `M.m`.
+fn below_minor(alloc: Global, minor: [u64; 2]) -> Result<Ranges<Version>, Refusal<Infallible>>
+    ensures set { IfOk result (λ r. (p : Point Parts) → contains_point version_cmp r p ≡ is_between Unbounded (Excluded minor) p) }
+    ensures err { IfErr result (λ e. e ≡ OutOfMemory) }
+{
+    let range = between(alloc, Bound::Unbounded, Bound::Excluded(&minor))?;
+    Ok(range)
+}
+
+// The set of a comparison, from the release as written and without the zeros at its end.
+fn python_to_range(
+    alloc: Global,
+    operator: Operator,
+    release: &[u64],
+    trimmed: &[u64],
+) -> Result<Ranges<Version>, Refusal<Infallible>>
+    requires some { 0 < length release.now }
+    requires compatible { operator ≡ Operator.TildeEqual → 2 ≤ length release.now }
+    requires trimmed { trimmed.now ≡ trimmed_of release.now }
+    ensures set { IfOk result (λ r. (p : Point Parts) → contains_point version_cmp r p ≡ python_is_in operator release.now p) }
+    ensures not_at_end { OnOk result (¬ IsPythonAtEnd operator release.now) }
+    ensures err { IfErr result (λ e. IsRefusedAt (IsPythonAtEnd operator release.now) e) }
+{
+    match operator {
+        Operator::Equal | Operator::ExactEqual => same_minor_to_range(alloc, trimmed),
+        Operator::NotEqual => Ok(outside(alloc, &same_minor_to_range(alloc, trimmed)?)?),
+        Operator::LessThan => below_minor(alloc, first_minor(trimmed)?),
+        Operator::LessThanEqual => below_minor(alloc, next_minor(trimmed)?),
+        Operator::GreaterThan => from_minor(alloc, next_minor(trimmed)?),
+        Operator::GreaterThanEqual => from_minor(alloc, first_minor(trimmed)?),
+        Operator::TildeEqual => written_to_range(alloc, operator, release),
+        Operator::EqualStar => written_to_range(alloc, operator, release),
+        Operator::NotEqualStar => {
+            let star = written_to_range(alloc, Operator::EqualStar, release)?;
+            Ok(outside(alloc, &star)?)
+        }
+    }
+}
+
+/// The full versions of Python, as `python_full_version` has them, whose `python_version` a specifier stands for.
+///
+/// The release of the specifier alone counts, as for `release_specifier_to_range`. But for stars and `~=` it is taken
+/// without the zeros at its end, and `3` counts as `3.0`. `== 3.9` is from 3.9 up to 3.10, without its end; no version
+/// has a `python_version` of three numbers, so `== 3.9.1` is none and `< 3.9.1` is below 3.10.
+///
+/// It is refused as `SegmentAtEnd` where 18446744073709551615 would be raised for an end, which `!=` asks for as `==`
+/// does, and else for want of memory alone.
+pub fn python_version_specifier_to_range(
+    alloc: Global,
+    specifier: &VersionSpecifier,
+) -> Result<Ranges<Version>, Refusal<Infallible>>
+    ensures set { IfOk result (λ r. (p : Point Parts) → contains_point version_cmp r p ≡ python_is_in specifier.now.operator specifier.now.version.release p) }
+
+    // Only where the largest number would be raised is there none.
+    ensures not_at_end { OnOk result (¬ IsPythonAtEnd specifier.now.operator specifier.now.version.release) }
+    ensures err { IfErr result (λ e. IsRefusedAt (IsPythonAtEnd specifier.now.operator specifier.now.version.release) e) }
+{
+    let version = specifier.version();
+    python_to_range(
+        alloc,
+        specifier.operator(),
+        version.release(),
+        version.trimmed_release(),
+    )
+}

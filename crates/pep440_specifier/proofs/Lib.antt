@@ -1,0 +1,4 @@
+pub mod Ties
+pub mod Operators
+pub mod Faults
+pub mod Texts

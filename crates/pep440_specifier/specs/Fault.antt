@@ -1,0 +1,41 @@
+-- What is wrong with an operator and a version, or with a text, that are no specifier.
+use Rattle.std.specs.Prelude.{◌≡◌, ◌≢◌, ◌<◌, ◌||◌, ℕ, Bool, true, false, List, [], ◌++◌, length, Option, None, Some, codes, string_bytes}
+use Rattle.pep440_version.specs.Parts.{Parts}
+use Rattle.pep440_specifier.specs.declared.operator.Operator.{Operator}
+use Rattle.pep440_specifier.specs.declared.operator.Operator.TheVariants.{TildeEqual}
+use Rattle.pep440_specifier.specs.declared.place.Place.{Place}
+use Rattle.pep440_specifier.specs.declared.error.SpecifierFault.{SpecifierFault}
+use Rattle.pep440_specifier.specs.declared.error.SpecifierFault.TheVariants as fault
+use Rattle.pep440_specifier.specs.declared.error.VersionSpecifierError.{VersionSpecifierError}
+use Rattle.pep440_specifier.specs.Operator.{is_star, operator_text, starred, takes_local}
+use Rattle.pep440_specifier.specs.Specifier.{IsReleaseAlone}
+
+-- the text of a fault; what a version lacks is told in the words of versions
+abbrev pub fault_text : SpecifierFault → Option (List ℕ)
+fault_text fault.Operator = Some (codes "Expected one of `==`, `!=`, `<`, `<=`, `>`, `>=`, `~=` and `===`")
+fault_text (fault.Version expected) = None
+fault_text (fault.NoStar operator) = Some (codes "Expected a version without `.*` after `" ++ (operator_text operator ++ codes "`"))
+fault_text fault.ReleaseAlone = Some (codes "Expected a release without a suffix before `.*`")
+fault_text fault.SecondNumber = Some (codes "Expected at least two release numbers after `~=`")
+fault_text (fault.NoLocal operator) = Some (codes "Expected a version without a local part after `" ++ (operator_text operator ++ codes "`"))
+
+abbrev pub offset_of : Option Place → Option ℕ
+offset_of None = None
+offset_of (Some place) = Some place.offset
+
+-- the error keeps this text
+abbrev pub IsAt : Option Place → List ℕ → Type 0
+IsAt None text = ⊥
+IsAt (Some place) text = string_bytes place.text ≡ text
+
+abbrev pub IsToldOf : VersionSpecifierError → List ℕ → Type 0
+IsToldOf error text = IsAt error.place text
+
+-- what is wrong with an operator and a pattern, that is a version and whether `.*` follows it
+abbrev pub IsFault : SpecifierFault → Operator → Parts → Bool → Type 0
+IsFault fault.Operator operator v star = ⊥
+IsFault (fault.Version expected) operator v star = ⊥
+IsFault (fault.NoStar told) operator v star = (told ≡ operator) × (star ≡ true) × (starred operator ≡ None)
+IsFault fault.ReleaseAlone operator v star = ((is_star operator || star) ≡ true) × (IsReleaseAlone v → ⊥)
+IsFault fault.SecondNumber operator v star = (operator ≡ TildeEqual) × (length v.release < 2)
+IsFault (fault.NoLocal told) operator v star = (told ≡ operator) × (is_star operator ≡ false) × (takes_local operator ≡ false) × (v.locals ≢ [])

@@ -1,0 +1,13 @@
+pub mod Operator
+pub mod Specifier
+pub mod View
+pub mod Order
+pub mod HashInput
+pub mod OrderLaws
+pub mod Text
+pub mod Alone
+pub mod Fault
+pub mod Grammar
+pub mod Set
+pub mod SetView
+pub mod Bounds

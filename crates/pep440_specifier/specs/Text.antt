@@ -1,0 +1,9 @@
+-- The text of a specifier.
+use Rattle.std.specs.Prelude.{ℕ, List, [], ◌++◌, codes, if◌then◌else◌}
+use Rattle.pep440_version.specs.Text.{version_text}
+use Rattle.pep440_specifier.specs.Operator.{is_star, operator_text}
+use Rattle.pep440_specifier.specs.Specifier.{Specifier}
+
+-- the operator, the version, and `.*` for a star
+abbrev pub specifier_text : Specifier → List ℕ
+specifier_text s = operator_text s.operator ++ (version_text s.version ++ (if is_star s.operator then codes ".*" else []))

@@ -1,0 +1,120 @@
+//! Why an operator and a version, or a text, are no specifier, told in one line.
+
+ghost use Rattle.std.specs.Prelude.{◌≡◌, IfOk};
+ghost use Rattle.pep440_specifier.specs.Fault.{IsToldOf, fault_text, offset_of};
+
+use crate::operator::Operator;
+use crate::place::Place;
+use pep440_version::Expected;
+use std::alloc::{AllocError, Global};
+use std::error::Error;
+use std::fmt;
+
+/// What a specifier lacks.
+#[derive(Clone, Copy, Debug, PartialEq, Eq)]
+pub enum SpecifierFault {
+    /// One of the eight operators, `=>` for one being none.
+    Operator,
+    /// A version, or a release with `.*` after it.
+    Version(Expected),
+    /// A version in place of a release with `.*` after it: that goes with `==` and `!=` alone.
+    NoStar(Operator),
+    /// A release without anything more before `.*`, an epoch apart.
+    ReleaseAlone,
+    /// A second release number after `~=`, as the `2` of `~=1.2`.
+    SecondNumber,
+    /// A version without a local part: that goes with `==`, `!=` and `===` alone.
+    NoLocal(Operator),
+}
+
+impl fmt::Display for SpecifierFault {
+    ghost output = { λ fault. fault_text fault };
+
+    fn fmt<W: fmt::Write>(&self, f: &mut fmt::Formatter<W>) -> fmt::Result {
+        match self {
+            SpecifierFault::Operator => {
+                f.write_str("Expected one of `==`, `!=`, `<`, `<=`, `>`, `>=`, `~=` and `===`")
+            }
+            SpecifierFault::Version(expected) => write!(f, "Expected {expected}"),
+            SpecifierFault::NoStar(operator) => {
+                write!(f, "Expected a version without `.*` after `{operator}`")
+            }
+            SpecifierFault::ReleaseAlone => {
+                f.write_str("Expected a release without a suffix before `.*`")
+            }
+            SpecifierFault::SecondNumber => {
+                f.write_str("Expected at least two release numbers after `~=`")
+            }
+            SpecifierFault::NoLocal(operator) => {
+                write!(
+                    f,
+                    "Expected a version without a local part after `{operator}`"
+                )
+            }
+        }
+    }
+}
+
+/// Why an operator and a version are no specifier, or why a text is none: what was expected, and for a text
+/// at which byte of it.
+#[derive(Debug, Drop, PartialEq, Eq)]
+pub struct VersionSpecifierError {
+    pub(crate) fault: SpecifierFault,
+    pub(crate) place: Option<Place>,
+}
+
+impl VersionSpecifierError {
+    // The fault of an operator and a version that were not read from a text.
+    pub(crate) fn without_text(fault: SpecifierFault) -> VersionSpecifierError
+        ensures { result.fault ≡ fault }
+    {
+        VersionSpecifierError { fault, place: None }
+    }
+
+    // A fault with so many bytes from it to the end of the text, white space at the end apart.
+    pub(crate) fn before_rest(
+        alloc: Global,
+        text: &str,
+        rest: usize,
+        fault: SpecifierFault,
+    ) -> Result<VersionSpecifierError, AllocError>
+        ensures { IfOk result (λ error. IsToldOf error text.now) }
+    {
+        let end = text.trim_end().len();
+        let offset = text.floor_char_boundary(end.saturating_sub(rest));
+        let text = String::from_str(alloc, text)?;
+        Ok(VersionSpecifierError {
+            fault,
+            place: Some(Place { text, offset }),
+        })
+    }
+
+    /// What was expected.
+    pub fn fault(&self) -> SpecifierFault
+        ensures { result ≡ self.now.fault }
+    {
+        self.fault
+    }
+
+    /// How many bytes of the text stand before the fault, None where no text was read.
+    pub fn offset(&self) -> Option<usize>
+        ensures { result ≡ offset_of self.now.place }
+    {
+        match &self.place {
+            Some(place) => Some(place.offset),
+            None => None,
+        }
+    }
+}
+
+impl fmt::Display for VersionSpecifierError {
+    fn fmt<W: fmt::Write>(&self, f: &mut fmt::Formatter<W>) -> fmt::Result {
+        let fault = self.fault;
+        match &self.place {
+            Some(place) => write!(f, "{fault}, found {place}"),
+            None => write!(f, "{fault}"),
+        }
+    }
+}
+
+impl Error for VersionSpecifierError {}

@@ -1,0 +1,20 @@
+//! Version specifiers of PEP 440, such as `>=3.8`: their operators, their texts and their order.
+#![tactic(auto)]
+
+mod bounds;
+mod display;
+mod error;
+pub mod laws;
+mod operator;
+mod order;
+mod parse;
+mod place;
+mod specifier;
+mod specifiers;
+
+pub use crate::bounds::BoundSpecifiers;
+pub use crate::error::{SpecifierFault, VersionSpecifierError};
+pub use crate::operator::Operator;
+pub use crate::specifier::VersionSpecifier;
+pub use crate::specifiers::VersionSpecifiers;
+pub use pep440_version::{Expected, Refusal, Version, VersionPattern};

@@ -1,0 +1,86 @@
+//! The order, the equality and the hash of specifiers. Each looks at each part once, and allocates nothing.
+
+ghost use Rattle.std.specs.Prelude.{◌≡◌, Some, refl};
+ghost use Rattle.std.specs.Cmp.{eq_by_cmp_equiv, partial_equiv_from_equiv, po};
+ghost use Rattle.std.specs.Ordering.{eq_by_cmp, nat_cmp};
+ghost use Rattle.pep440_specifier.specs.HashInput.{specifier_writes};
+ghost use Rattle.pep440_specifier.specs.Operator.{rank};
+ghost use Rattle.pep440_specifier.specs.Order.{counted, specifier_cmp};
+ghost use Rattle.pep440_specifier.specs.OrderLaws.{specifier_alike, specifier_total};
+
+use crate::operator::Operator;
+use crate::specifier::VersionSpecifier;
+use std::cmp::Ordering;
+use std::hash::{Hash, Hasher};
+
+// The number of release numbers, where it tells one specifier from another.
+fn counted(specifier: &VersionSpecifier) -> usize
+    ensures { result ≡ counted specifier.now }
+{
+    match specifier.operator {
+        Operator::EqualStar | Operator::NotEqualStar | Operator::TildeEqual => {
+            specifier.version.release().len()
+        }
+        _ => 0,
+    }
+}
+
+fn cmp_operators(a: Operator, b: Operator) -> Ordering
+    ensures { result ≡ nat_cmp (rank a) (rank b) }
+{
+    a.cmp(&b)
+}
+
+impl PartialEq for VersionSpecifier {
+    ghost eq = { eq_by_cmp specifier_cmp };
+
+    ghost laws = { partial_equiv_from_equiv (eq_by_cmp_equiv specifier_total) };
+
+    fn eq(&self, other: &VersionSpecifier) -> bool {
+        cmp_operators(self.operator, other.operator).is_eq()
+            && self.version == other.version
+            && counted(self) == counted(other)
+    }
+}
+
+impl Eq for VersionSpecifier {
+    ghost laws = { eq_by_cmp_equiv specifier_total };
+}
+
+impl PartialOrd for VersionSpecifier {
+    ghost partial_cmp = { λ a b. Some (specifier_cmp a b) };
+
+    ghost laws = { po specifier_total (λ a b. refl) };
+
+    fn partial_cmp(&self, other: &VersionSpecifier) -> Option<Ordering> {
+        Some(self.cmp(other))
+    }
+}
+
+impl Ord for VersionSpecifier {
+    ghost cmp = { specifier_cmp };
+
+    ghost total = { specifier_total };
+
+    ghost matches_partial_cmp = { λ a b. refl };
+
+    ghost matches_eq = { λ a b. refl };
+
+    fn cmp(&self, other: &VersionSpecifier) -> Ordering {
+        cmp_operators(self.operator, other.operator)
+            .then_with(|| self.version.cmp(&other.version))
+            .then_with(|| counted(self).cmp(&counted(other)))
+    }
+}
+
+impl Hash for VersionSpecifier {
+    ghost hash_input = { specifier_writes };
+
+    ghost respects_eq = { specifier_alike.fed };
+
+    fn hash<H: Hasher>(&self, state: &mut H) {
+        self.operator.hash(state);
+        self.version.hash(state);
+        counted(self).hash(state);
+    }
+}

@@ -1,0 +1,5 @@
+use Rattle.pep508_errors.proofs.UnderlineLaws.{underline_within}
+use Rattle.pep508_errors.proofs.laws.underline_of_a_span.Goals as goal
+
+pub returns : goal.returns
+returns c text start len utf8 inside begins ends = underline_within text start len utf8 inside begins ends

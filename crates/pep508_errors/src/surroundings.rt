@@ -1,0 +1,15 @@
+//! What a URL is read in.
+
+use std::collections::BTreeMap;
+
+/// What a text may speak of without saying it: the variables that it names, and the folders that its
+/// paths start from.
+#[derive(Clone, Copy, Debug)]
+pub struct Surroundings<'a> {
+    /// The values of variables, by their names, as `HOME` for `${HOME}`.
+    pub vars: &'a BTreeMap<String, String>,
+    /// What `${PROJECT_ROOT}` stands for, unless `vars` has it.
+    pub project_root: &'a str,
+    /// The folder that a relative path starts from, if there is one.
+    pub working_dir: Option<&'a str>,
+}
