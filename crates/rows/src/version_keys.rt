@@ -164,7 +164,11 @@ const DROPPED: [(&str, &[MarkerWarningKind]); 58] = [
 fn comparisons_that_are_kept(rt: HostRuntime) -> Result<(), Fail> {
     for (text, expected) in KEPT {
         let mut kinds = Vec::new(rt.alloc());
-        let Ok((Some(expression), rest)) = read_comparison(rt.alloc(), text, &mut kinds) else {
+        let Ok(read) = read_comparison(rt.alloc(), text, &mut kinds) else {
+            return Err("a text that is no comparison".into());
+        };
+        let (found, rest) = read;
+        let Some(expression) = found else {
             return Err("a comparison that is not kept".into());
         };
         let printed = expression.to_string(rt.alloc())?;
@@ -179,9 +183,11 @@ fn comparisons_that_are_kept(rt: HostRuntime) -> Result<(), Fail> {
 fn comparisons_that_are_dropped(rt: HostRuntime) -> Result<(), Fail> {
     for (text, expected) in DROPPED {
         let mut kinds = Vec::new(rt.alloc());
-        let Ok((None, rest)) = read_comparison(rt.alloc(), text, &mut kinds) else {
-            return Err("a comparison that is not dropped".into());
+        let Ok(read) = read_comparison(rt.alloc(), text, &mut kinds) else {
+            return Err("a text that is no comparison".into());
         };
+        let (found, rest) = read;
+        assert!(rt; found.is_none(), "{text}");
         assert_eq!(rt; kinds.as_slice(), expected, "{text}");
         assert_eq!(rt; rest, "", "{text}");
     }
@@ -194,9 +200,10 @@ fn kinds_come_behind_the_old_ones(rt: HostRuntime) -> Result<(), Fail> {
     let mut kinds = Vec::new(rt.alloc());
     kinds.push(TWO_KEYS)?;
     let text = "python_version in 'x'";
-    let Ok((None, _)) = read_comparison(rt.alloc(), text, &mut kinds) else {
-        return Err("a comparison that is not dropped".into());
+    let Ok((found, _)) = read_comparison(rt.alloc(), text, &mut kinds) else {
+        return Err("a text that is no comparison".into());
     };
+    assert!(rt; found.is_none());
     assert_eq!(rt;
         kinds.as_slice(),
         [TWO_KEYS, NO_VERSION, NO_VERSION].as_slice()
