@@ -1,0 +1,97 @@
+//! The ids of nodes.
+
+/// The id of a node of a diagram, or of its negation. Ids of one list of nodes are equal exactly where they mean the same.
+#[derive(Clone, Copy, Debug, PartialEq, Eq, Hash)]
+pub struct NodeId {
+    // 0 is the truth, and k + 1 the node of index k, counted from the oldest.
+    place: usize,
+    complement: bool,
+}
+
+impl NodeId {
+    ghost use Rattle.std.specs.Prelude.{◌≡◌, ◌<◌, ◌↔◌, IsTrue};
+    ghost use Rattle.marker_diagrams.specs.Id.{id_of, index_of, is_negated, opposite, signed_id};
+
+    /// True everywhere.
+    pub const TRUE: NodeId = NodeId {
+        place: 0,
+        complement: false,
+    };
+
+    /// False everywhere.
+    pub const FALSE: NodeId = NodeId {
+        place: 0,
+        complement: true,
+    };
+
+    /// The id of the node of this index, counted from the oldest, or of its negation.
+    pub fn new(index: usize, complement: bool) -> Self
+        requires { index < usize.MAX }
+        ensures { result ≡ id_of index complement }
+    {
+        NodeId {
+            place: index + 1,
+            complement,
+        }
+    }
+
+    /// The index of the node, or `None` for `TRUE` and `FALSE`.
+    pub fn index(self) -> Option<usize>
+        ensures { result ≡ index_of self }
+    {
+        if self.place == 0 {
+            None
+        } else {
+            Some(self.place - 1)
+        }
+    }
+
+    /// Whether this is the negation of a node. `FALSE` is that of `TRUE`.
+    pub fn is_complement(self) -> bool
+        ensures { result ≡ is_negated self }
+    {
+        self.complement
+    }
+
+    /// Whether this is true everywhere.
+    pub fn is_true(self) -> bool
+        ensures { IsTrue result ↔ (self ≡ NodeId.TRUE) }
+    {
+        self == NodeId::TRUE
+    }
+
+    /// Whether this is false everywhere.
+    pub fn is_false(self) -> bool
+        ensures { IsTrue result ↔ (self ≡ NodeId.FALSE) }
+    {
+        self == NodeId::FALSE
+    }
+
+    /// The id that is true where this one is false.
+    pub fn not(self) -> Self
+        ensures { result ≡ opposite self }
+    {
+        NodeId {
+            place: self.place,
+            complement: !self.complement,
+        }
+    }
+
+    /// This id, negated where the parent is: what a child of the parent's node is as a child of the parent.
+    pub fn negate(self, parent: NodeId) -> Self
+        ensures { result ≡ signed_id (is_negated parent) self }
+    {
+        if parent.complement { self.not() } else { self }
+    }
+}
+
+impl Default for NodeId {
+    ghost use Rattle.std.specs.Prelude.{◌≡◌};
+
+    /// True everywhere.
+    fn default() -> Self
+        ensures { result ≡ NodeId.TRUE }
+    {
+        Self::TRUE
+    }
+}
