@@ -47,14 +47,25 @@ impl LentSets {
 
     /// Whether each set has its points, and each function its values.
     pub fn is_as_made(&self, versions: &LentVersions) -> bool {
-        let until = (Bound::Unbounded, Bound::Included(&versions.new));
-        let from = (Bound::Included(&versions.old), Bound::Unbounded);
-        has_intervals(&self.low, &[(Bound::Unbounded, Bound::Included(&3))])
-            && has_intervals(&self.middle, &[(Bound::Included(&2), Bound::Included(&12))])
-            && has_intervals(&self.until, &[until])
-            && has_intervals(&self.from, &[from])
+        is_interval(&self.low, Bound::Unbounded, Bound::Included(&3))
+            && is_interval(&self.middle, Bound::Included(&2), Bound::Included(&12))
+            && is_interval(
+                &self.until,
+                Bound::Unbounded,
+                Bound::Included(&versions.new),
+            )
+            && is_interval(&self.from, Bound::Included(&versions.old), Bound::Unbounded)
             && has_values(&self.steps, 2, [7, 7, 7, 8, 8, 8])
             && has_values(&self.others, 3, [6, 5, 5, 5, 5, 6])
+    }
+}
+
+// Whether a set is one interval, with these bounds.
+fn is_interval<T: Ord>(set: &Ranges<T>, lower: Bound<&T>, upper: Bound<&T>) -> bool {
+    let mut intervals = set.iter();
+    match intervals.next() {
+        Some(found) => found.0 == lower && found.1 == upper && intervals.next().is_none(),
+        None => false,
     }
 }
 
