@@ -1,9 +1,40 @@
 //! Commands, each given again where it was refused for want of memory.
 
 use crate::given::{FaultRow, Given, READ, REFUSED, ReadRow};
-use crate::met::Met;
 use pep508_markers::{Command, Reason, Reply, Session};
 use std::alloc::Global;
+use std::fmt;
+use std::fmt::Display;
+
+/// What the refused growth met.
+#[derive(Clone, Copy, Debug, PartialEq, Eq)]
+pub enum Met {
+    /// None was refused.
+    Nothing,
+    /// What comes before the commands.
+    NoCommand,
+    /// The reading of a text that is read.
+    Reading,
+    /// The reading of a text that is refused.
+    Telling,
+    /// The room for replies.
+    Replies,
+    /// An answer changed in place of the refusal, or after it.
+    WrongAnswer,
+}
+
+impl Display for Met {
+    fn fmt<W: fmt::Write>(&self, f: &mut fmt::Formatter<W>) -> fmt::Result {
+        f.write_str(match self {
+            Met::Nothing => "nothing was refused",
+            Met::NoCommand => "refused before the commands",
+            Met::Reading => "refused while a text was read",
+            Met::Telling => "refused while a fault was told",
+            Met::Replies => "refused room for replies",
+            Met::WrongAnswer => "WRONG ANSWER",
+        })
+    }
+}
 
 // Whether a command answered as it must, or was refused for want of memory.
 #[derive(Clone, Copy, PartialEq, Eq)]
@@ -117,9 +148,11 @@ pub fn run_commands(alloc: Global) -> Met {
         refuse_all(&mut session, &given),
         run_both(&mut session, &given),
     ];
-    if has_cells(&mut session, READ.len(), &given) {
-        Met::first_of(&parts)
-    } else {
-        Met::WrongAnswer
+    if !has_cells(&mut session, READ.len(), &given) || parts.contains(&Met::WrongAnswer) {
+        return Met::WrongAnswer;
+    }
+    match parts.iter().find(|part| **part != Met::Nothing) {
+        Some(part) => *part,
+        None => Met::Nothing,
     }
 }

@@ -1,24 +1,13 @@
-//! Runs commands of a session, or calls of the library, where one growth is refused, and says what it met.
+//! Runs commands of a session where one growth is refused, and says which command it met.
 //!
-//! The input is a number, and behind it `calls` for the calls of the library. So many times memory is asked for before
-//! the commands or calls begin. Where the same growth of the whole run is refused each time, another growth of them is
-//! refused for each number.
+//! The input is a number. So many times memory is asked for before the commands begin. Where the same growth of the
+//! whole run is refused each time, another growth of the commands is refused for each number.
 #![tactic(auto)]
 
-mod calls;
 mod commands;
-mod environments;
 mod given;
-mod intervals;
-mod lent;
-mod met;
-mod names;
-mod sets;
-mod versions;
 
-use calls::make_calls;
-use commands::run_commands;
-use met::Met;
+use commands::{Met, run_commands};
 use std::alloc::{AllocError, Global};
 use std::io;
 
@@ -33,23 +22,13 @@ fn hold(alloc: Global, count: usize) -> Result<Vec<String>, AllocError> {
 
 fn main(rt: HostRuntime) -> io::Result<()> {
     let mut count = 0;
-    let mut is_of_calls = false;
     for line in rt.lines(rt.alloc()) {
-        let line = line?;
-        for word in line.as_str().split_ascii_whitespace() {
-            match word.parse::<usize>() {
-                Ok(number) => count = number,
-                Err(_) => is_of_calls = word == "calls",
-            }
-        }
+        count = line?.as_str().parse().unwrap_or(0);
     }
     let (held, met) = match hold(rt.alloc(), count) {
-        Ok(held) if is_of_calls => (held.len(), make_calls(rt.alloc())),
         Ok(held) => (held.len(), run_commands(rt.alloc())),
-        Err(_) if is_of_calls => (0, Met::NoCall),
         Err(_) => (0, Met::NoCommand),
     };
-    let family = if is_of_calls { " calls" } else { "" };
-    println!(rt; "{held}{family}: {met}")?;
+    println!(rt; "{held}: {met}")?;
     Ok(())
 }

@@ -6,8 +6,6 @@ mod bounds;
 #[cfg(test)]
 mod connectives;
 #[cfg(test)]
-mod environments;
-#[cfg(test)]
 mod faults;
 #[cfg(test)]
 mod intervals;
@@ -17,8 +15,6 @@ mod keys;
 mod operators;
 #[cfg(test)]
 mod plain;
-#[cfg(test)]
-mod serialized;
 #[cfg(test)]
 mod sessions;
 #[cfg(test)]
