@@ -1,0 +1,268 @@
+//! The nodes of many markers.
+
+ghost use Rattle.std.specs.Prelude.{◌≡◌, ◌↔◌, ◌<◌, false, length, IfOk, IsTrue, vec_len};
+ghost use Rattle.marker_environment.specs.Valuation.{Valuation};
+ghost use Rattle.marker_environment.specs.Environment.{valuation_of, values_of};
+ghost use Rattle.marker_diagrams.specs.Diagram.{IsStore};
+ghost use Rattle.marker_diagrams.specs.Diagram as diagram;
+ghost use Rattle.marker_diagrams.specs.Id.{place_of};
+ghost use Rattle.marker_nodes.specs.Variable.{of_version, of_text, truth_variable, answer};
+ghost use Rattle.marker_nodes.specs.Node.{markers};
+ghost use Rattle.marker_graph.specs.Contents.{nothing, IsAnd, IsHeld, IsKept, Separated};
+ghost use Rattle.marker_graph.specs.Branch.{AreAnds, AreBelow, IsFirst};
+
+use crate::child::child_in;
+use crate::first::{first_node, short_cut};
+use crate::pairs::{halves, piece_values, text_pairs, version_pairs};
+use crate::tree::MarkerTree;
+use marker_environment::MarkerEnvironment;
+use marker_nodes::{Node, NodeId, NodeTable, TruthVariable};
+use marker_words::{TextVariable, VersionVariable};
+use pep508_names::ExtraName;
+use std::alloc::{AllocError, Global};
+use std::collections::HashMap;
+use std::marker::Model;
+
+/// The nodes of many markers, and the conjunctions that were computed.
+///
+/// An interner only grows: what a marker means stays, also where a call is refused for want of memory.
+#[derive(Drop)]
+pub struct Interner {
+    nodes: NodeTable,
+    // The conjunctions that are known.
+    memo: HashMap<(NodeId, NodeId), NodeId>,
+    // How many conjunctions of nodes were computed.
+    expansions: u64,
+    alloc: Global,
+}
+
+impl Model for Interner {
+    ghost use Rattle.marker_graph.specs.Contents.{Contents, IsWellKept};
+
+    ghost Value = { Contents };
+
+    ghost view = { λ s. record { nodes = s.nodes; memo = s.memo.entries; expansions = s.expansions } };
+
+    ghost invariant = { λ s. IsWellKept record { nodes = s.nodes; memo = s.memo.entries; expansions = s.expansions } };
+}
+
+impl Interner {
+    /// An interner without nodes.
+    pub fn new(alloc: Global) -> Self
+        ensures { result ≡ nothing }
+    {
+        let nodes = NodeTable::new(alloc);
+        nodes.keeps_the_rules();
+        Interner {
+            nodes,
+            memo: HashMap::new(alloc),
+            expansions: 0,
+            alloc,
+        }
+    }
+
+    /// Whether the marker stands here. `TRUE` and `FALSE` stand in every interner.
+    pub fn holds(&self, tree: &MarkerTree) -> bool
+        ensures { IsTrue result ↔ IsHeld self.now tree.now }
+    {
+        self.nodes.holds(tree.id)
+    }
+
+    /// Whether two markers mean the same. This takes no memory.
+    pub fn equivalent(&self, a: MarkerTree, b: MarkerTree) -> bool
+        requires a { IsHeld self.now a }
+        requires b { IsHeld self.now b }
+        ensures same { IsTrue result ↔ (a ≡ b) }
+        ensures separated { result ≡ false → Separated self.now a b }
+    {
+        self.nodes.equivalent(a.id, b.id)
+    }
+
+    /// How many conjunctions of nodes were computed.
+    pub fn expansions(&self) -> u64
+        ensures { result ≡ self.now.expansions }
+    {
+        self.expansions
+    }
+
+    /// The nodes keep the rules of diagrams. This is a law, and the call does nothing.
+    pub fn keeps_the_rules(&self)
+        ensures { IsStore markers self.now.nodes }
+    {
+        let _nodes = &self.nodes;
+    }
+
+    // Whether an id is true in the environment with these extras.
+    pub(crate) fn evaluate(
+        &self,
+        id: NodeId,
+        environment: &MarkerEnvironment,
+        extras: &[ExtraName],
+    ) -> bool
+        requires { diagram.IsHeld self.now.nodes id }
+        ensures { result ≡ diagram.truth markers self.now.nodes id (valuation_of (values_of environment.now) extras.now) }
+    {
+        let mut at = id;
+        while let Some(node) = self.nodes.node(at) {
+            at = child_in(node, environment, extras).negate(at);
+        }
+        !at.is_complement()
+    }
+}
+
+impl Interner {
+    // The conjunction of two ids.
+    #[cycle(and)]
+    pub(crate) fn and(&mut self, a: NodeId, b: NodeId) -> Result<NodeId, AllocError>
+        requires a { diagram.IsHeld self.old.nodes a }
+        requires b { diagram.IsHeld self.old.nodes b }
+        ensures kept { IsKept self.old self.new }
+        ensures and { IfOk result (IsAnd self.new.nodes a b) }
+    {
+        let _nodes = &self.nodes;
+        if let Some(id) = short_cut(a, b) {
+            return Ok(id);
+        }
+        if let Some(id) = self.memo.get(&(a, b)) {
+            return Ok(*id);
+        }
+        let id = self.expanded(a, b)?;
+        self.memo.insert((a, b), id)?;
+        self.expansions = self.expansions.saturating_add(1);
+        Ok(id)
+    }
+
+    // The conjunction of two ids, each of a node.
+    #[cycle(and)]
+    fn expanded(&mut self, a: NodeId, b: NodeId) -> Result<NodeId, AllocError>
+        requires a { diagram.IsHeld self.old.nodes a }
+        requires b { diagram.IsHeld self.old.nodes b }
+        requires a_node { 0 < place_of a }
+        requires b_node { 0 < place_of b }
+        ensures kept { IsKept self.old self.new }
+        ensures and { IfOk result (IsAnd self.new.nodes a b) }
+    {
+        match first_node(&self.nodes, a, b) {
+            Node::Version(variable, _) => {
+                let variable = *variable;
+                self.and_version(variable, a, b)
+            }
+            Node::Text(variable, _) => {
+                let variable = *variable;
+                self.and_text(variable, a, b)
+            }
+            Node::Truth(variable, _, _) => {
+                let variable = variable.clone()?;
+                self.and_truth(variable, a, b)
+            }
+        }
+    }
+
+    // The conjunction of two ids whose first variable is one of versions.
+    #[cycle(and)]
+    fn and_version(
+        &mut self,
+        variable: VersionVariable,
+        a: NodeId,
+        b: NodeId,
+    ) -> Result<NodeId, AllocError>
+        requires a { diagram.IsHeld self.old.nodes a }
+        requires b { diagram.IsHeld self.old.nodes b }
+        requires first { IsFirst self.old.nodes (of_version variable) a b }
+        ensures kept { IsKept self.old self.new }
+        ensures and { IfOk result (IsAnd self.new.nodes a b) }
+    {
+        let pieces = version_pairs(self.alloc, &self.nodes, variable, a, b)?;
+        let pairs = piece_values(self.alloc, &pieces)?;
+        let children = self.and_all(a, b, &pairs)?;
+        let placed = self.nodes.place_versions(variable, pieces, children);
+        self.nodes.keeps_the_rules();
+        placed
+    }
+
+    // The conjunction of two ids whose first variable is one of texts.
+    #[cycle(and)]
+    fn and_text(
+        &mut self,
+        variable: TextVariable,
+        a: NodeId,
+        b: NodeId,
+    ) -> Result<NodeId, AllocError>
+        requires a { diagram.IsHeld self.old.nodes a }
+        requires b { diagram.IsHeld self.old.nodes b }
+        requires first { IsFirst self.old.nodes (of_text variable) a b }
+        ensures kept { IsKept self.old self.new }
+        ensures and { IfOk result (IsAnd self.new.nodes a b) }
+    {
+        let pieces = text_pairs(self.alloc, &self.nodes, variable, a, b)?;
+        let pairs = piece_values(self.alloc, &pieces)?;
+        let children = self.and_all(a, b, &pairs)?;
+        let placed = self.nodes.place_texts(variable, pieces, children);
+        self.nodes.keeps_the_rules();
+        placed
+    }
+
+    // The conjunction of two ids whose first variable is whether something is so.
+    #[cycle(and)]
+    fn and_truth(
+        &mut self,
+        variable: TruthVariable,
+        a: NodeId,
+        b: NodeId,
+    ) -> Result<NodeId, AllocError>
+        requires a { diagram.IsHeld self.old.nodes a }
+        requires b { diagram.IsHeld self.old.nodes b }
+        requires first { IsFirst self.old.nodes (truth_variable variable) a b }
+        ensures kept { IsKept self.old self.new }
+        ensures and { IfOk result (IsAnd self.new.nodes a b) }
+    {
+        let (high_a, low_a) = halves(&self.nodes, &variable, a);
+        let (high_b, low_b) = halves(&self.nodes, &variable, b);
+        let pairs = [(high_a, high_b), (low_a, low_b)];
+        let children = self.and_all(a, b, &pairs)?;
+        let high = children[0];
+        let low = children[1];
+        let placed = self.nodes.place_truth(variable, high, low);
+        self.nodes.keeps_the_rules();
+        placed
+    }
+
+    // The conjunctions of pairs of children of two ids, under the signs of the ids.
+    #[cycle(and)]
+    fn and_all(
+        &mut self,
+        a: NodeId,
+        b: NodeId,
+        pairs: &[(NodeId, NodeId)],
+    ) -> Result<Vec<NodeId>, AllocError>
+        requires { AreBelow self.old.nodes a b pairs.now }
+        ensures kept { IsKept self.old self.new }
+        ensures count { IfOk result (λ r. vec_len r ≡ length pairs.now) }
+        ensures ands { IfOk result (λ r. AreAnds self.new.nodes a b pairs.now r.items) }
+    {
+        let mut children = Vec::with_capacity(self.alloc, pairs.len())?;
+        for i in 0..pairs.len() {
+            let pair = pairs[i];
+            let left = pair.0.negate(a);
+            let right = pair.1.negate(b);
+            let child = self.and(left, right)?;
+            children.push(child)?;
+        }
+        Ok(children)
+    }
+}
+
+impl Interner {
+    // The id that is true where it is so.
+    pub(crate) fn asks(&mut self, variable: TruthVariable) -> Result<NodeId, AllocError>
+        ensures kept { IsKept self.old self.new }
+        ensures held { IfOk result (diagram.IsHeld self.new.nodes) }
+        ensures means { IfOk result (λ id. (v : Valuation) → diagram.truth markers self.new.nodes id v ≡ answer variable v) }
+    {
+        let placed = self
+            .nodes
+            .place_truth(variable, NodeId::TRUE, NodeId::FALSE);
+        self.nodes.keeps_the_rules();
+        placed
+    }
+}
