@@ -1,5 +1,5 @@
 -- The conjunction of two ids from those of their children, and what is known of conjunctions.
-use Rattle.std.proofs.Common.{◌≡◌, ◌≢◌, ℕ, zero, suc, ◌+◌, ◌<◌, ◌≤◌, Bool, true, false, cond, ◌&&◌, ◌==◌, List, [], ◌∷◌, ◌++◌, length, get_or, Option, Some, None, Result, Ok, Err, string_bytes, refl, sym, ap, ◌∙◌, subst, arith}
+use Rattle.std.proofs.Common.{◌≡◌, ℕ, zero, suc, ◌+◌, ◌<◌, Bool, true, false, cond, ◌&&◌, List, [], ◌∷◌, ◌++◌, length, get_or, Some, Result, Ok, Err, string_bytes, refl, sym, ap, ◌∙◌, subst, arith}
 use Rattle.std.specs.Prelude.{slice_get, String, IfOk}
 use Rattle.std.specs.Global.{Global}
 use Rattle.std.specs.Map.{lookup}
@@ -7,7 +7,7 @@ use Rattle.std.specs.declared.alloc.AllocError.{AllocError}
 use Rattle.std.specs.Cmp.Lexicographic.{nat_list_cmp_total}
 use Rattle.std.specs.String.{string_cmp, string_cmp_total}
 use lib.Dec.{eqb}
-use Rattle.std.proofs.lemmas.Bool.{true≢false, and_parts, eqb-true}
+use Rattle.std.proofs.lemmas.Bool.{and_parts, eqb-true}
 use Rattle.std.proofs.lemmas.Option.{slice_get-get_or, slice_get_within}
 use Rattle.version_ranges.specs.declared.cuts.Cuts.{Cuts}
 use Rattle.version_ranges.specs.Point.{Point, bottom, point_map}
@@ -21,19 +21,20 @@ use Rattle.marker_environment.specs.Valuation.{Valuation}
 use Rattle.marker_diagrams.specs.declared.node_id.NodeId.{NodeId}
 use Rattle.marker_diagrams.specs.declared.node_id.TheConstants.NodeId.{TRUE}
 use Rattle.marker_diagrams.specs.Id.{place_of, is_negated, signed_id, same_id}
-use Rattle.marker_diagrams.specs.Diagram.{IsHeld, IsStore, Keeps, IsChoice, AreChildren, truth, IsAfter}
+use Rattle.marker_diagrams.specs.Diagram.{IsHeld, IsStore, Keeps, IsChoice, AreChildren, truth}
+use Rattle.marker_diagrams.specs.Residue.{IsSubtree}
 use Rattle.marker_diagrams.proofs.IdLaws.{same_id_is}
 use Rattle.marker_diagrams.proofs.KeyLaws.{get_last}
-use Rattle.marker_diagrams.proofs.NodeLaws.{same_some, none_some, keeps_both, truth_still, after_still, after_before}
+use Rattle.marker_diagrams.proofs.NodeLaws.{same_some, none_some, truth_still, after_still, after_before}
 use Rattle.marker_nodes.specs.declared.node.Node.{Node}
 use Rattle.marker_nodes.specs.declared.variable.TruthVariable.{TruthVariable}
 use Rattle.marker_diagrams.proofs.ChoiceLaws.{choice_same}
 use Rattle.marker_nodes.specs.declared.variable.TruthVariable.TheVariants.{In, Contains, Extra, Arbitrary}
-use Rattle.marker_nodes.specs.Variable.{Variable, of_version, of_text, truth_variable, answer}
-use Rattle.marker_nodes.specs.Node.{markers, text_cmp, child_at, version_child, text_child, truth_child, lowest}
-use Rattle.marker_graph.specs.Contents.{Contents, IsAnd, IsKept, IsWellKept, same_pair}
+use Rattle.marker_nodes.specs.Variable.{Variable, truth_variable, answer}
+use Rattle.marker_nodes.specs.Node.{markers, text_cmp, child_at, truth_child, lowest}
+use Rattle.marker_graph.specs.Contents.{Contents, IsAnd, IsWellKept, same_pair}
 use Rattle.marker_graph.specs.Branch.{branch, HasBranches, AreBelow, AreAnds, IsFirst}
-use Rattle.marker_graph.proofs.Branches.{left_held, right_held, both_smaller, and_children, joined}
+use Rattle.marker_graph.proofs.Branches.{branch_under, left_held, right_held, both_smaller, and_children, joined}
 
 -- a conjunction stays one
 pub and_kept : (old new : List Node) (a b t : NodeId) → Keeps markers old new → IsHeld old a → IsHeld old b → IsAnd old a b t → IsAnd new a b t
@@ -76,13 +77,14 @@ well_kept_longer d new w s k = record {
 -- ---- children of two ids
 module _ (old : List Node) (store : IsStore markers old) (a b : NodeId) (i : IsHeld old a) (j : IsHeld old b) (x : Variable) (first : IsFirst old x a b) where
   pub pair_below : (v : Valuation) (p : NodeId × NodeId) → HasBranches old x a b v p → IsHeld old p.0 × IsHeld old p.1 × (place_of p.0 + place_of p.1 < place_of a + place_of b)
+      × IsSubtree markers old a (signed_id (is_negated a) p.0) × IsSubtree markers old b (signed_id (is_negated b) p.1)
   pair_below v p h =
       let e : place_of p.0 ≡ place_of (branch old x a v) = ap place_of h.0 in
       let f : place_of p.1 ≡ place_of (branch old x b v) = ap place_of h.1 in
       let l = left_held old store a b i j x first v in
       let r = right_held old store a b i j x first v in
       let s = both_smaller old store a b i j x first v in
-      (omega arith, omega arith, omega arith)
+      (omega arith, omega arith, omega arith, subst (IsSubtree markers old a) (sym h.0) (branch_under old store x a v), subst (IsSubtree markers old b) (sym h.1) (branch_under old store x b v))
 
   pub pairs_below : (pair : Valuation → NodeId × NodeId) → ((v : Valuation) → HasBranches old x a b v (pair v)) → (pairs : List (NodeId × NodeId)) →
       ((k : ℕ) (p : NodeId × NodeId) → slice_get pairs k ≡ Some p → (v : Valuation) × (pair v ≡ p)) → AreBelow old a b pairs

@@ -1,10 +1,10 @@
 -- The piece that a text lies in, as the first whose upper bound is not passed.
-use Rattle.std.proofs.Common.{◌≡◌, ℕ, Bool, true, false, cond, List, [], ◌∷◌, refl, sym, ap, ◌∙◌}
+use Rattle.std.proofs.Common.{◌≡◌, Bool, true, false, cond, List, [], ◌∷◌, refl, ap, ◌∙◌}
 use Rattle.std.specs.declared.cmp.Ordering.{Ordering}
 use Rattle.std.specs.declared.ops.Bound.{Bound}
 use Rattle.version_ranges.specs.declared.cut.Cut.{Cut}
-use Rattle.version_ranges.specs.Point.{Point, is_until, point_lt, at, above}
-use Rattle.version_ranges.specs.Cut.{stands_before, cut_point, lower_of, upper_of}
+use Rattle.version_ranges.specs.Point.{Point, is_until}
+use Rattle.version_ranges.specs.Cut.{stands_before, lower_of, upper_of}
 use Rattle.version_ranges.specs.Steps.{value_at}
 use Rattle.version_ranges.specs.Parts.{Part, parts_from}
 use Rattle.std.specs.Range.Bound.{bound_map}

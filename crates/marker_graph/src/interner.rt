@@ -1,17 +1,19 @@
 //! The nodes of many markers.
 
-ghost use Rattle.std.specs.Prelude.{◌≡◌, ◌↔◌, ◌<◌, false, length, IfOk, IsTrue, vec_len};
+ghost use Rattle.std.specs.Prelude.{◌≡◌, ◌↔◌, ◌<◌, ◌+◌, false, length, IfOk, IsOk, IsTrue, vec_len};
 ghost use Rattle.marker_environment.specs.Valuation.{Valuation};
 ghost use Rattle.marker_environment.specs.Environment.{valuation_of, values_of};
 ghost use Rattle.marker_diagrams.specs.Diagram.{IsStore};
 ghost use Rattle.marker_diagrams.specs.Diagram as diagram;
 ghost use Rattle.marker_diagrams.specs.Id.{place_of};
 ghost use Rattle.marker_nodes.specs.Variable.{of_version, of_text, truth_variable, answer};
-ghost use Rattle.marker_nodes.specs.Node.{markers};
+ghost use Rattle.marker_nodes.specs.Node.{markers, pick, variable};
 ghost use Rattle.marker_graph.specs.Contents.{nothing, IsAnd, IsHeld, IsKept, Separated};
 ghost use Rattle.marker_graph.specs.Branch.{AreAnds, AreBelow, IsFirst};
+ghost use Rattle.marker_graph.specs.Count.{IsCounted, IsShort, Spends};
 
 use crate::child::child_in;
+use crate::disjoint::are_disjoint;
 use crate::first::{first_node, short_cut};
 use crate::pairs::{halves, piece_values, text_pairs, version_pairs};
 use crate::tree::MarkerTree;
@@ -78,7 +80,7 @@ impl Interner {
         self.nodes.equivalent(a.id, b.id)
     }
 
-    /// How many conjunctions of nodes were computed.
+    /// How many conjunctions of nodes were computed. Where it has reached its greatest value it stays there.
     pub fn expansions(&self) -> u64
         ensures { result ≡ self.now.expansions }
     {
@@ -118,6 +120,9 @@ impl Interner {
         requires b { diagram.IsHeld self.old.nodes b }
         ensures kept { IsKept self.old self.new }
         ensures and { IfOk result (IsAnd self.new.nodes a b) }
+        ensures spends { Spends self.old self.new (place_of a + place_of b + 1) a b }
+        ensures counted { IfOk result (IsCounted self.old self.new) }
+        ensures short { IsShort a b → IsOk result × (self.new ≡ self.old) }
     {
         let _nodes = &self.nodes;
         if let Some(id) = short_cut(a, b) {
@@ -141,6 +146,7 @@ impl Interner {
         requires b_node { 0 < place_of b }
         ensures kept { IsKept self.old self.new }
         ensures and { IfOk result (IsAnd self.new.nodes a b) }
+        ensures spends { Spends self.old self.new (place_of a + place_of b) a b }
     {
         match first_node(&self.nodes, a, b) {
             Node::Version(variable, _) => {
@@ -171,6 +177,7 @@ impl Interner {
         requires first { IsFirst self.old.nodes (of_version variable) a b }
         ensures kept { IsKept self.old self.new }
         ensures and { IfOk result (IsAnd self.new.nodes a b) }
+        ensures spends { Spends self.old self.new (place_of a + place_of b) a b }
     {
         let pieces = version_pairs(self.alloc, &self.nodes, variable, a, b)?;
         let pairs = piece_values(self.alloc, &pieces)?;
@@ -193,6 +200,7 @@ impl Interner {
         requires first { IsFirst self.old.nodes (of_text variable) a b }
         ensures kept { IsKept self.old self.new }
         ensures and { IfOk result (IsAnd self.new.nodes a b) }
+        ensures spends { Spends self.old self.new (place_of a + place_of b) a b }
     {
         let pieces = text_pairs(self.alloc, &self.nodes, variable, a, b)?;
         let pairs = piece_values(self.alloc, &pieces)?;
@@ -215,6 +223,7 @@ impl Interner {
         requires first { IsFirst self.old.nodes (truth_variable variable) a b }
         ensures kept { IsKept self.old self.new }
         ensures and { IfOk result (IsAnd self.new.nodes a b) }
+        ensures spends { Spends self.old self.new (place_of a + place_of b) a b }
     {
         let (high_a, low_a) = halves(&self.nodes, &variable, a);
         let (high_b, low_b) = halves(&self.nodes, &variable, b);
@@ -239,6 +248,7 @@ impl Interner {
         ensures kept { IsKept self.old self.new }
         ensures count { IfOk result (λ r. vec_len r ≡ length pairs.now) }
         ensures ands { IfOk result (λ r. AreAnds self.new.nodes a b pairs.now r.items) }
+        ensures spends { Spends self.old self.new (place_of a + place_of b) a b }
     {
         let mut children = Vec::with_capacity(self.alloc, pairs.len())?;
         for i in 0..pairs.len() {
@@ -264,5 +274,35 @@ impl Interner {
             .place_truth(variable, NodeId::TRUE, NodeId::FALSE);
         self.nodes.keeps_the_rules();
         placed
+    }
+
+    // The id that means what the node does.
+    pub(crate) fn place(&mut self, node: Node) -> Result<NodeId, AllocError>
+        requires { diagram.AreChildren markers self.old.nodes (variable node) (pick node) }
+        ensures kept { IsKept self.old self.new }
+        ensures rules { IsStore markers self.new.nodes }
+        ensures id { IfOk result (diagram.IsChoice markers self.new.nodes (variable node) (pick node)) }
+    {
+        let placed = self.nodes.place(node);
+        self.nodes.keeps_the_rules();
+        placed
+    }
+
+    // Where the memory of the nodes is taken from.
+    pub(crate) fn alloc(&self) -> Global {
+        self.alloc
+    }
+}
+
+impl Interner {
+    ghost use Rattle.marker_graph.specs.Disjoint.{TellsDisjoint};
+
+    // Whether no valuation satisfies both ids.
+    pub(crate) fn is_disjoint(&self, a: NodeId, b: NodeId) -> bool
+        requires a { diagram.IsHeld self.now.nodes a }
+        requires b { diagram.IsHeld self.now.nodes b }
+        ensures { TellsDisjoint self.now.nodes a b result }
+    {
+        are_disjoint(self.alloc, &self.nodes, a, b)
     }
 }

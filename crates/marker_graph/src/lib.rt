@@ -4,10 +4,14 @@
 #![tactic(auto)]
 
 mod child;
+mod disjoint;
+mod expression;
 mod first;
 mod interner;
+pub mod laws;
 mod pairs;
 mod tree;
 
+pub use expression::InvalidExpression;
 pub use interner::Interner;
 pub use tree::MarkerTree;

@@ -38,7 +38,7 @@ fn truth_order(variable: &TruthVariable, other: &TruthVariable) -> Ordering
 }
 
 // The children of the id's node on versions, before the id's sign: `whole` where it asks about something else.
-fn version_edges<'a>(
+pub(crate) fn version_edges<'a>(
     nodes: &'a NodeTable,
     variable: VersionVariable,
     id: NodeId,
@@ -62,7 +62,7 @@ fn version_edges<'a>(
 }
 
 // As `version_edges`, on texts.
-fn text_edges<'a>(
+pub(crate) fn text_edges<'a>(
     nodes: &'a NodeTable,
     variable: TextVariable,
     id: NodeId,

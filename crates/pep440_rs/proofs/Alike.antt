@@ -27,11 +27,11 @@ first-zero [] some h = absurd (omega arith)
 first-zero (x ∷ xs) some h = ap (λ (z : ℕ). z ∷ []) (keep-zero x (significant xs) h)
 
 -- what a release is down to one number
-shape : List ℕ → List ℕ
+unfoldable pub shape : List ℕ → List ℕ
 shape [] = 0 ∷ []
 shape (y ∷ s) = y ∷ s
 
-trimmed-of : (xs s : List ℕ) → 0 < length xs → significant xs ≡ s → take (max 1 (length s)) xs ≡ shape s
+pub trimmed-of : (xs s : List ℕ) → 0 < length xs → significant xs ≡ s → take (max 1 (length s)) xs ≡ shape s
 unfolding shape
 trimmed-of xs [] some e = first-zero xs some e
 trimmed-of xs (y ∷ s) some e =

@@ -4,3 +4,4 @@ pub mod Complements
 pub mod Listed
 pub mod Raised
 pub mod Specified
+pub mod Trimmed

@@ -1,14 +1,16 @@
 -- The sets of versions that version specifiers stand for (PEP 440, "Version specifiers"), as sets of points. That the release alone
 -- counts, without epoch, pre-release, post-release, development release and local part, is this project's own.
-use Rattle.std.specs.Prelude.{◌≡◌, ◌⊎◌, ⊤, ℕ, ◌+◌, ◌-◌, ◌<◌, Bool, not, List, [], ◌∷◌, length, take, None, Option, Some}
+use Rattle.std.specs.Prelude.{◌≡◌, ◌⊎◌, ⊤, ℕ, ◌+◌, ◌-◌, ◌<◌, ◌==◌, Bool, true, not, List, [], ◌∷◌, length, take, None, Option, Some}
 use Rattle.std.specs.Range.Bound.{bound_map}
 use Rattle.std.specs.declared.cmp.Ordering.TheVariants.{Equal}
 use Rattle.std.specs.declared.ops.Bound.{Bound}
 use Rattle.std.specs.declared.ops.Bound.TheVariants.{Included, Excluded, Unbounded}
 use Rattle.refusal.specs.declared.Refusal.{Refusal}
 use Rattle.refusal.specs.declared.Refusal.TheVariants.{OutOfMemory, SegmentAtEnd}
+use Rattle.version_ranges.specs.declared.ranges.Ranges.{Ranges}
+use Rattle.version_ranges.specs.Bounds.{all_bounds}
 use Rattle.version_ranges.specs.Point.{Point, is_in_bounds}
-use Rattle.pep440_version.specs.Order.{version_cmp}
+use Rattle.pep440_version.specs.Order.{trimmed, version_cmp}
 use Rattle.pep440_version.specs.Parts.{Parts, release_only}
 use Rattle.pep440_specifier.specs.declared.operator.Operator.{Operator}
 use Rattle.pep440_specifier.specs.declared.operator.Operator.TheVariants as operator
@@ -77,3 +79,12 @@ IsSameBound (Included v) (Included w) = version_cmp v w ≡ Equal
 IsSameBound (Excluded v) (Excluded w) = version_cmp v w ≡ Equal
 IsSameBound Unbounded Unbounded = ⊤
 IsSameBound lower upper = ⊥
+
+-- whether a version is written without zeros at the end of its release, down to one number
+abbrev pub is_trimmed : Parts → Bool
+is_trimmed v = length v.release == length (trimmed v.release)
+
+module _ {a : _} {b : _} {c : _} where
+  -- each bound of a set is written without zeros at the end of its release
+  unfoldable pub HasTrimmedBounds : Ranges Parts a b c → Type 0
+  HasTrimmedBounds set = all_bounds is_trimmed set ≡ true

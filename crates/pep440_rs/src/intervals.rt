@@ -1,14 +1,15 @@
 //! The sets of versions that version specifiers stand for, by the release alone.
 
-ghost use Rattle.std.specs.Prelude.{◌≡◌, ◌<◌, ◌≤◌, ℕ, not, length, IfOk, IfErr, OnOk};
+ghost use Rattle.std.specs.Prelude.{◌≡◌, ◌<◌, ◌≤◌, ℕ, not, true, length, IfOk, IfErr, OnOk};
 ghost use Rattle.std.specs.Range.Bound.{bound_map};
 ghost use Rattle.std.specs.declared.cmp.Ordering.TheVariants.{Equal};
 ghost use Rattle.std.specs.declared.ops.Bound.TheVariants.{Included, Excluded};
+ghost use Rattle.version_ranges.specs.Bounds.{passes_at};
 ghost use Rattle.version_ranges.specs.Point.{Point};
 ghost use Rattle.version_ranges.specs.Ranges.{contains_point};
 ghost use Rattle.pep440_version.specs.Order.{trimmed, version_cmp};
 ghost use Rattle.pep440_version.specs.Parts.{Parts, release_only};
-ghost use Rattle.pep440_rs.specs.Intervals.{HasNumbers, IsAtEnd, IsGreatest, IsRefusedAt, IsSameBound, is_between, is_in, last_number, raised};
+ghost use Rattle.pep440_rs.specs.Intervals.{HasNumbers, HasTrimmedBounds, IsAtEnd, IsGreatest, IsRefusedAt, IsSameBound, is_between, is_in, is_trimmed, last_number, raised};
 
 use pep440_specifier::{Operator, VersionSpecifier};
 use pep440_version::{Refusal, Version};
@@ -22,6 +23,7 @@ fn trimmed_version(alloc: Global, release: &[u64]) -> Result<Version, AllocError
     requires { 0 < length release.now }
     ensures value { IfOk result (λ v. v ≡ release_only (trimmed release.now)) }
     ensures same { IfOk result (λ v. version_cmp v (release_only release.now) ≡ Equal) }
+    ensures trimmed { IfOk result (λ v. is_trimmed v ≡ true) }
 {
     Version::new(alloc, release)?.trimmed()
 }
@@ -31,6 +33,7 @@ fn release_bound(alloc: Global, bound: Bound<&[u64]>) -> Result<Bound<Version>, 
     requires { HasNumbers (bound_map (λ r. r.now) bound) }
     ensures value { IfOk result (λ b. b ≡ bound_map (λ r. release_only (trimmed r.now)) bound.entry) }
     ensures same { IfOk result (λ b. IsSameBound b (bound_map release_only (bound_map (λ r. r.now) bound.entry))) }
+    ensures trimmed { IfOk result (λ b. passes_at is_trimmed b ≡ true) }
 {
     match bound {
         Bound::Included(release) => Ok(Bound::Included(trimmed_version(alloc, release)?)),
@@ -47,7 +50,8 @@ pub(crate) fn between(
 ) -> Result<Ranges<Version>, AllocError>
     requires lower { HasNumbers (bound_map (λ r. r.now) lower) }
     requires upper { HasNumbers (bound_map (λ r. r.now) upper) }
-    ensures { IfOk result (λ r. (p : Point Parts) → contains_point version_cmp r p ≡ is_between (bound_map (λ r. r.now) lower.entry) (bound_map (λ r. r.now) upper.entry) p) }
+    ensures set { IfOk result (λ r. (p : Point Parts) → contains_point version_cmp r p ≡ is_between (bound_map (λ r. r.now) lower.entry) (bound_map (λ r. r.now) upper.entry) p) }
+    ensures bounds { IfOk result HasTrimmedBounds }
 {
     let lower = release_bound(alloc, lower)?;
     let upper = release_bound(alloc, upper)?;
@@ -59,7 +63,9 @@ pub(crate) fn outside(
     alloc: Global,
     inside: &Ranges<Version>,
 ) -> Result<Ranges<Version>, AllocError>
-    ensures { IfOk result (λ r. (p : Point Parts) → contains_point version_cmp r p ≡ not (contains_point version_cmp inside.now p)) }
+    requires { HasTrimmedBounds inside.now }
+    ensures set { IfOk result (λ r. (p : Point Parts) → contains_point version_cmp r p ≡ not (contains_point version_cmp inside.now p)) }
+    ensures bounds { IfOk result HasTrimmedBounds }
 {
     inside.complement(alloc)
 }
@@ -90,6 +96,7 @@ fn up_to_raised(
     requires release { 0 < length release.now }
     requires prefix { 0 < length prefix.now }
     ensures set { IfOk result (λ r. (p : Point Parts) → contains_point version_cmp r p ≡ is_between (Included release.now) (Excluded (raised prefix.now)) p) }
+    ensures bounds { IfOk result HasTrimmedBounds }
     ensures not_at_end { OnOk result (¬ IsGreatest (last_number prefix.now)) }
     ensures err { IfErr result (λ e. IsRefusedAt (IsGreatest (last_number prefix.now)) e) }
 {
@@ -107,6 +114,7 @@ pub(crate) fn release_to_range(
     requires some { 0 < length release.now }
     requires compatible { operator ≡ Operator.TildeEqual → 2 ≤ length release.now }
     ensures set { IfOk result (λ r. (p : Point Parts) → contains_point version_cmp r p ≡ is_in operator release.now p) }
+    ensures bounds { IfOk result HasTrimmedBounds }
     ensures not_at_end { OnOk result (¬ IsAtEnd operator release.now) }
     ensures err { IfErr result (λ e. IsRefusedAt (IsAtEnd operator release.now) e) }
 {
@@ -129,7 +137,8 @@ pub(crate) fn release_to_range(
 /// `implementation_version` or `python_full_version`.
 ///
 /// Its release alone counts: epoch, pre-release, post-release, development release and local part are dropped.
-/// `== 3.9.*` is from 3.9 up to 3.10, and `~= 3.9.1` from 3.9.1 up to 3.10, both without their end.
+/// `== 3.9.*` is from 3.9 up to 3.10, and `~= 3.9.1` from 3.9.1 up to 3.10, both without their end. The bounds are
+/// written without zeros at the end of their releases: `>= 3.0` is from 3 on.
 ///
 /// It is refused as `SegmentAtEnd` where 18446744073709551615 would be raised for such an end, which `!=` of a star
 /// asks for too, and else for want of memory alone.
@@ -138,6 +147,7 @@ pub fn release_specifier_to_range(
     specifier: &VersionSpecifier,
 ) -> Result<Ranges<Version>, Refusal<Infallible>>
     ensures set { IfOk result (λ r. (p : Point Parts) → contains_point version_cmp r p ≡ is_in specifier.now.operator specifier.now.version.release p) }
+    ensures bounds { IfOk result HasTrimmedBounds }
 
     // Only where the largest number would be raised is there none.
     ensures not_at_end { OnOk result (¬ IsAtEnd specifier.now.operator specifier.now.version.release) }

@@ -1,12 +1,12 @@
 //! The sets of versions that `in` and `not in` a list of versions stand for.
 
 ghost use Rattle.std.specs.Prelude.{◌≡◌, ◌||◌, false, map, true, IfErr, IfOk, OnOk};
-ghost use Rattle.std.specs.List.{list_any};
+ghost use Rattle.std.specs.List.{list_all, list_any};
 ghost use Rattle.version_ranges.specs.Point.{Point};
 ghost use Rattle.version_ranges.specs.Ranges.{contains_point};
 ghost use Rattle.pep440_version.specs.Order.{trimmed_parts, version_cmp};
 ghost use Rattle.pep440_version.specs.Parts.{Parts};
-ghost use Rattle.pep440_rs.specs.Intervals.{IsRefusedAt};
+ghost use Rattle.pep440_rs.specs.Intervals.{HasTrimmedBounds, IsRefusedAt, is_trimmed};
 ghost use Rattle.pep440_rs.specs.Lists.{IsListAtEnd, has_long, is_in_or_not, is_listed, is_minor_listed, raises_greatest};
 ghost use Rattle.pep440_rs.specs.PythonVersion.{is_in_minor};
 
@@ -21,6 +21,7 @@ use version_ranges::Ranges;
 fn trimmed_versions(alloc: Global, versions: &[Version]) -> Result<Vec<Version>, AllocError>
     ensures value { IfOk result (λ r. r.items ≡ map trimmed_parts versions.now) }
     ensures same { IfOk result (λ r. (p : Point Parts) → is_listed r.items p ≡ is_listed versions.now p) }
+    ensures trimmed { IfOk result (λ r. list_all is_trimmed r.items ≡ true) }
 {
     let mut trimmed = Vec::with_capacity(alloc, versions.len())?;
     for version in versions {
@@ -30,7 +31,7 @@ fn trimmed_versions(alloc: Global, versions: &[Version]) -> Result<Vec<Version>,
 }
 
 /// The listed versions, with all their parts, or the versions that are not listed where it is negated. The empty list
-/// is none.
+/// is none. The bounds are written without zeros at the end of their releases.
 ///
 /// It is refused for want of memory alone.
 pub fn version_list_to_range(
@@ -38,7 +39,8 @@ pub fn version_list_to_range(
     versions: &[Version],
     negated: bool,
 ) -> Result<Ranges<Version>, AllocError>
-    ensures { IfOk result (λ r. (p : Point Parts) → contains_point version_cmp r p ≡ is_in_or_not negated (is_listed versions.now p)) }
+    ensures set { IfOk result (λ r. (p : Point Parts) → contains_point version_cmp r p ≡ is_in_or_not negated (is_listed versions.now p)) }
+    ensures bounds { IfOk result HasTrimmedBounds }
 {
     let listed = listed_versions(alloc, versions)?;
     if negated {
@@ -50,7 +52,8 @@ pub fn version_list_to_range(
 
 // The listed versions.
 fn listed_versions(alloc: Global, versions: &[Version]) -> Result<Ranges<Version>, AllocError>
-    ensures { IfOk result (λ r. (p : Point Parts) → contains_point version_cmp r p ≡ is_listed versions.now p) }
+    ensures set { IfOk result (λ r. (p : Point Parts) → contains_point version_cmp r p ≡ is_listed versions.now p) }
+    ensures bounds { IfOk result HasTrimmedBounds }
 {
     let trimmed = trimmed_versions(alloc, versions)?;
     let listed = Ranges::from_points(trimmed)?;
@@ -70,7 +73,10 @@ fn either(
     left: &Ranges<Version>,
     right: &Ranges<Version>,
 ) -> Result<Ranges<Version>, AllocError>
-    ensures { IfOk result (λ r. (p : Point Parts) → contains_point version_cmp r p ≡ (contains_point version_cmp left.now p || contains_point version_cmp right.now p)) }
+    requires left { HasTrimmedBounds left.now }
+    requires right { HasTrimmedBounds right.now }
+    ensures set { IfOk result (λ r. (p : Point Parts) → contains_point version_cmp r p ≡ (contains_point version_cmp left.now p || contains_point version_cmp right.now p)) }
+    ensures bounds { IfOk result HasTrimmedBounds }
 {
     left.union(alloc, right)
 }
@@ -82,6 +88,7 @@ fn minors_to_range(
     versions: &[Version],
 ) -> Result<Ranges<Version>, Refusal<Infallible>>
     ensures set { IfOk result (λ r. (p : Point Parts) → contains_point version_cmp r p ≡ list_any (λ v. is_in_minor v.release p) versions.now) }
+    ensures bounds { IfOk result HasTrimmedBounds }
     ensures not_at_end { OnOk result (raises_greatest versions.now ≡ false) }
     ensures err { IfErr result (λ e. IsRefusedAt (raises_greatest versions.now ≡ true) e) }
 {
@@ -103,6 +110,7 @@ fn listed_minors(
     versions: &[Version],
 ) -> Result<Ranges<Version>, Refusal<Infallible>>
     ensures set { IfOk result (λ r. (p : Point Parts) → contains_point version_cmp r p ≡ is_minor_listed versions.now p) }
+    ensures bounds { IfOk result HasTrimmedBounds }
     ensures not_at_end { OnOk result (¬ IsListAtEnd versions.now) }
     ensures err { IfErr result (λ e. IsRefusedAt (IsListAtEnd versions.now) e) }
 {
@@ -116,7 +124,8 @@ fn listed_minors(
 /// where it is negated. The empty list is none.
 ///
 /// The entries' releases alone count, as they are written: `3.9a1` is as `3.9`, and where an entry has more than two
-/// numbers, as `3.9.0` has, the list is none as a whole.
+/// numbers, as `3.9.0` has, the list is none as a whole. The bounds are written without zeros at the end of their
+/// releases.
 ///
 /// It is refused as `SegmentAtEnd` where 18446744073709551615 is the second number of an entry, and none has more
 /// than two, also where it is negated. Else it is refused for want of memory alone.
@@ -126,6 +135,7 @@ pub fn python_version_list_to_range(
     negated: bool,
 ) -> Result<Ranges<Version>, Refusal<Infallible>>
     ensures set { IfOk result (λ r. (p : Point Parts) → contains_point version_cmp r p ≡ is_in_or_not negated (is_minor_listed versions.now p)) }
+    ensures bounds { IfOk result HasTrimmedBounds }
 
     // Only where the largest number would be raised is there none.
     ensures not_at_end { OnOk result (¬ IsListAtEnd versions.now) }

@@ -7,7 +7,7 @@ ghost use Rattle.version_ranges.specs.Point.{Point};
 ghost use Rattle.version_ranges.specs.Ranges.{contains_point};
 ghost use Rattle.pep440_version.specs.Order.{trimmed as trimmed_of, version_cmp};
 ghost use Rattle.pep440_version.specs.Parts.{Parts};
-ghost use Rattle.pep440_rs.specs.Intervals.{IsGreatest, IsRefusedAt, is_between, is_in, raised_number};
+ghost use Rattle.pep440_rs.specs.Intervals.{HasTrimmedBounds, IsGreatest, IsRefusedAt, is_between, is_in, raised_number};
 ghost use Rattle.pep440_rs.specs.PythonVersion.{IsPythonAtEnd, first_minor, has_more, is_in_minor, is_same_minor, minor_raised, minor_release, next_minor, python_is_in, raised_by};
 
 use crate::intervals::{between, outside, release_to_range};
@@ -70,6 +70,7 @@ pub(crate) fn minor_to_range(
     release: &[u64],
 ) -> Result<Ranges<Version>, Refusal<Infallible>>
     ensures set { IfOk result (λ r. (p : Point Parts) → contains_point version_cmp r p ≡ is_in_minor release.now p) }
+    ensures bounds { IfOk result HasTrimmedBounds }
     ensures not_at_end { OnOk result (¬ IsGreatest (minor_raised release.now)) }
     ensures err { IfErr result (λ e. IsRefusedAt (IsGreatest (minor_raised release.now)) e) }
 {
@@ -85,6 +86,7 @@ fn same_minor_to_range(
     release: &[u64],
 ) -> Result<Ranges<Version>, Refusal<Infallible>>
     ensures set { IfOk result (λ r. (p : Point Parts) → contains_point version_cmp r p ≡ is_same_minor release.now p) }
+    ensures bounds { IfOk result HasTrimmedBounds }
     ensures not_at_end { OnOk result (¬ IsGreatest (raised_by release.now (minor_raised release.now) None)) }
     ensures err { IfErr result (λ e. IsRefusedAt (IsGreatest (raised_by release.now (minor_raised release.now) None)) e) }
 {
@@ -103,6 +105,7 @@ fn written_to_range(
     requires some { 0 < length release.now }
     requires compatible { operator ≡ Operator.TildeEqual → 2 ≤ length release.now }
     ensures set { IfOk result (λ r. (p : Point Parts) → contains_point version_cmp r p ≡ (not (has_more release.now) && is_in operator release.now p)) }
+    ensures bounds { IfOk result HasTrimmedBounds }
     ensures not_at_end { OnOk result (¬ IsGreatest (raised_by release.now (raised_number operator release.now) None)) }
     ensures err { IfErr result (λ e. IsRefusedAt (IsGreatest (raised_by release.now (raised_number operator release.now) None)) e) }
 {
@@ -115,6 +118,7 @@ fn written_to_range(
 // The full versions from `M.m` on.
 fn from_minor(alloc: Global, minor: [u64; 2]) -> Result<Ranges<Version>, Refusal<Infallible>>
     ensures set { IfOk result (λ r. (p : Point Parts) → contains_point version_cmp r p ≡ is_between (Included minor) Unbounded p) }
+    ensures bounds { IfOk result HasTrimmedBounds }
     ensures err { IfErr result (λ e. e ≡ OutOfMemory) }
 {
     let range = between(alloc, Bound::Included(&minor), Bound::Unbounded)?;
@@ -124,6 +128,7 @@ fn from_minor(alloc: Global, minor: [u64; 2]) -> Result<Ranges<Version>, Refusal
 // The full versions below `M.m`.
 fn below_minor(alloc: Global, minor: [u64; 2]) -> Result<Ranges<Version>, Refusal<Infallible>>
     ensures set { IfOk result (λ r. (p : Point Parts) → contains_point version_cmp r p ≡ is_between Unbounded (Excluded minor) p) }
+    ensures bounds { IfOk result HasTrimmedBounds }
     ensures err { IfErr result (λ e. e ≡ OutOfMemory) }
 {
     let range = between(alloc, Bound::Unbounded, Bound::Excluded(&minor))?;
@@ -141,6 +146,7 @@ fn python_to_range(
     requires compatible { operator ≡ Operator.TildeEqual → 2 ≤ length release.now }
     requires trimmed { trimmed.now ≡ trimmed_of release.now }
     ensures set { IfOk result (λ r. (p : Point Parts) → contains_point version_cmp r p ≡ python_is_in operator release.now p) }
+    ensures bounds { IfOk result HasTrimmedBounds }
     ensures not_at_end { OnOk result (¬ IsPythonAtEnd operator release.now) }
     ensures err { IfErr result (λ e. IsRefusedAt (IsPythonAtEnd operator release.now) e) }
 {
@@ -164,7 +170,8 @@ fn python_to_range(
 ///
 /// The release of the specifier alone counts, as for `release_specifier_to_range`. But for stars and `~=` it is taken
 /// without the zeros at its end, and `3` counts as `3.0`. `== 3.9` is from 3.9 up to 3.10, without its end; no version
-/// has a `python_version` of three numbers, so `== 3.9.1` is none and `< 3.9.1` is below 3.10.
+/// has a `python_version` of three numbers, so `== 3.9.1` is none and `< 3.9.1` is below 3.10. The bounds are written
+/// without zeros at the end of their releases.
 ///
 /// It is refused as `SegmentAtEnd` where 18446744073709551615 would be raised for an end, which `!=` asks for as `==`
 /// does, and else for want of memory alone.
@@ -173,6 +180,7 @@ pub fn python_version_specifier_to_range(
     specifier: &VersionSpecifier,
 ) -> Result<Ranges<Version>, Refusal<Infallible>>
     ensures set { IfOk result (λ r. (p : Point Parts) → contains_point version_cmp r p ≡ python_is_in specifier.now.operator specifier.now.version.release p) }
+    ensures bounds { IfOk result HasTrimmedBounds }
 
     // Only where the largest number would be raised is there none.
     ensures not_at_end { OnOk result (¬ IsPythonAtEnd specifier.now.operator specifier.now.version.release) }

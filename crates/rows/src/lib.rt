@@ -1,4 +1,4 @@
-//! Tests of the public calls, over texts and answers that were worked out by hand.
+//! Tests of words, comparisons, marker texts and sessions, over texts and answers that were worked out by hand.
 #![tactic(auto)]
 
 #[cfg(test)]
@@ -7,8 +7,6 @@ mod bounds;
 mod connectives;
 #[cfg(test)]
 mod faults;
-#[cfg(test)]
-mod intervals;
 #[cfg(test)]
 mod keys;
 #[cfg(test)]
@@ -20,15 +18,11 @@ mod sessions;
 #[cfg(test)]
 mod sizes;
 #[cfg(test)]
-mod specifiers;
-#[cfg(test)]
 mod values;
 #[cfg(test)]
 mod version_keys;
 #[cfg(test)]
 mod version_texts;
-#[cfg(test)]
-mod versions;
 #[cfg(test)]
 mod warnings;
 #[cfg(test)]

@@ -1,3 +1,4 @@
+pub mod BoundLaws
 pub mod Collected
 pub mod EachPiece
 pub mod Elsewhere
@@ -6,6 +7,7 @@ pub mod Gathers
 pub mod IntervalLaws
 pub mod MapLaws
 pub mod Merges
+pub mod PairSteps
 pub mod PartLaws
 pub mod Picks
 pub mod PieceLaws
@@ -16,6 +18,7 @@ pub mod Seen
 pub mod SetLaws
 pub mod Sides
 pub mod SingleLaws
+pub mod SpanLaws
 pub mod SpotLaws
 pub mod StepLaws
 pub mod Turns

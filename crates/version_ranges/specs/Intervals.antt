@@ -6,8 +6,11 @@ use Rattle.std.specs.Range.Bound.{bound_map}
 use Rattle.std.specs.declared.cmp.Ordering.{Ordering}
 use Rattle.std.specs.declared.cmp.Ordering.TheVariants.{Less}
 use Rattle.std.specs.declared.ops.Bound.{Bound}
+use Rattle.std.specs.declared.ops.Bound.TheVariants.{Unbounded}
+use Rattle.version_ranges.specs.declared.cut.Cut.{Cut}
 use Rattle.version_ranges.specs.declared.ranges.Ranges.{Ranges}
 use Rattle.version_ranges.specs.declared.intervals.Intervals.{Intervals}
+use Rattle.version_ranges.specs.Cut.{lower_of, upper_of}
 use Rattle.version_ranges.specs.Point.{Point, point_cmp, is_in_bounds}
 use Rattle.version_ranges.specs.Parts.{Part, parts_of, parts_left, same_bound}
 use Rattle.version_ranges.specs.Ranges.{contains_point}
@@ -46,6 +49,18 @@ module _ {T : Type 0} where
   abbrev pub span_of : List (Bound T × Bound T) → Option (Bound T × Bound T)
   span_of [] = None
   span_of (i ∷ is) = Some (i.0, last_upper i.1 is)
+
+  -- the lower bound of the first interval, by the value before all cuts, and the cuts
+  abbrev pub lower_from : Bool → List (Cut T × Bool) → Option (Bound T)
+  lower_from true steps = Some Unbounded
+  lower_from false [] = None
+  lower_from false (s ∷ steps) = Some (lower_of s.0)
+
+  -- the upper bound of the last interval, by the cuts
+  abbrev pub upper_after : List (Cut T × Bool) → Bound T
+  upper_after [] = Unbounded
+  upper_after (s ∷ []) = if s.1 then Unbounded else upper_of s.0
+  upper_after (s ∷ t ∷ steps) = upper_after (t ∷ steps)
 
   module _ (cmp : T → T → Ordering) where
     -- whether a point lies in an interval

@@ -1,7 +1,9 @@
+pub mod Bounds
 pub mod Cut
 pub mod Cuts
 pub mod Gather
 pub mod Intervals
+pub mod Pairs
 pub mod Parts
 pub mod Point
 pub mod Ranges

@@ -17,7 +17,8 @@ pub struct Cuts<T: Ord, V> {
 }
 
 impl<T: Ord, V> Cuts<T, V> {
-    ghost use Rattle.std.specs.Prelude.{◌≡◌, ◌+◌, ◌<◌, vec_len};
+    ghost use Rattle.std.specs.Prelude.{◌≡◌, ◌+◌, ◌<◌, Bool, true, vec_len};
+    ghost use Rattle.version_ranges.specs.Bounds.{all_cuts};
     ghost use Rattle.version_ranges.specs.Point.{Point, at};
     ghost use Rattle.version_ranges.specs.Cuts.{value_of, piece_of, piece_count};
 
@@ -25,6 +26,7 @@ impl<T: Ord, V> Cuts<T, V> {
     pub fn constant(alloc: Global, value: V) -> Self
         ensures value { (p : Point T) → value_of T.cmp result p ≡ value }
         ensures count { piece_count result ≡ 1 }
+        ensures bounds { (test : T → Bool) → all_cuts test result ≡ true }
     {
         Cuts {
             first: value,
@@ -61,7 +63,8 @@ impl<T: Ord, V> Cuts<T, V> {
 }
 
 impl<T: Ord + Drop, V: Drop> Cuts<T, V> {
-    ghost use Rattle.std.specs.Prelude.{ℕ, IfOk, ◌≡◌, true, slice_get, Some, vec_len};
+    ghost use Rattle.std.specs.Prelude.{ℕ, IfOk, ◌≡◌, Bool, true, slice_get, Some, vec_len};
+    ghost use Rattle.version_ranges.specs.Bounds.{all_cuts};
     ghost use Rattle.version_ranges.specs.Point.{Point};
     ghost use Rattle.version_ranges.specs.Cuts.{value_of, piece_of, piece_count, IsMerged};
 
@@ -71,6 +74,7 @@ impl<T: Ord + Drop, V: Drop> Cuts<T, V> {
         requires { vec_len values ≡ piece_count self }
         ensures value { IfOk result (λ r. (p : Point T) (w : W) → slice_get values.items (piece_of T.cmp self p) ≡ Some w → W.eq (value_of T.cmp r p) w ≡ true) }
         ensures merged { IfOk result (IsMerged W.eq) }
+        ensures bounds { IfOk result (λ r. (test : T → Bool) → all_cuts test self ≡ true → all_cuts test r ≡ true) }
     {
         let Cuts {
             first: _,
@@ -95,7 +99,8 @@ impl<T: Ord + Drop, V: Drop> Cuts<T, V> {
 }
 
 impl<T: Ord + Drop, V: Copy> Cuts<T, V> {
-    ghost use Rattle.std.specs.Prelude.{IfOk, ◌≡◌, true};
+    ghost use Rattle.std.specs.Prelude.{IfOk, ◌≡◌, Bool, true};
+    ghost use Rattle.version_ranges.specs.Bounds.{all_cuts};
     ghost use Rattle.version_ranges.specs.Point.{Point};
     ghost use Rattle.version_ranges.specs.Cuts.{value_of, IsMerged};
 
@@ -107,6 +112,7 @@ impl<T: Ord + Drop, V: Copy> Cuts<T, V> {
         requires { F.IsAlwaysCallable f }
         ensures value { IfOk result (λ r. (g : V → W) → ((v : V) (w : W) → F.post f v w → w ≡ g v) → (p : Point T) → W.eq (value_of T.cmp r p) (g (value_of T.cmp self p)) ≡ true) }
         ensures merged { IfOk result (IsMerged W.eq) }
+        ensures bounds { IfOk result (λ r. (test : T → Bool) → all_cuts test self ≡ true → all_cuts test r ≡ true) }
     {
         let mut values = Vec::with_capacity(*self.rest.allocator(), self.piece_count())?;
         values.push(f(self.first))?;

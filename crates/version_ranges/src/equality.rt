@@ -1,5 +1,6 @@
 //! Equality and clones of functions.
-ghost use Rattle.std.specs.Prelude.{◌≡◌, ◌≢◌, true, false};
+ghost use Rattle.std.specs.Prelude.{◌≡◌, ◌≢◌, Bool, true, false};
+ghost use Rattle.version_ranges.specs.Bounds.{IsKeptByClones, all_bounds, all_cuts};
 ghost use Rattle.version_ranges.specs.Point.{Point};
 ghost use Rattle.version_ranges.specs.Cuts.{value_of, IsMerged};
 ghost use Rattle.version_ranges.specs.Ranges.{contains_point};
@@ -9,9 +10,10 @@ use crate::ranges::Ranges;
 use std::alloc::AllocError;
 
 impl<T: Ord + Clone, V: Eq + Clone> Clone for Cuts<T, V> {
-    // A clone is equal to its source, and the same function of points.
+    // A clone is equal to its source, the same function of points, and its cuts are at clones of the values.
     ghost is_clone = { λ f g. (⟦<Cuts<T, V> as PartialEq>⟧.eq f g ≡ true)
-        × ((p : Point T) → V.eq (value_of T.cmp f p) (value_of T.cmp g p) ≡ true) };
+        × ((p : Point T) → V.eq (value_of T.cmp f p) (value_of T.cmp g p) ≡ true)
+        × ((test : T → Bool) → IsKeptByClones T.is_clone test → all_cuts test f ≡ true → all_cuts test g ≡ true) };
 
     // `Clone` has no law that a clone is equal to its source, so this is refused too where it is not.
     fn clone(&self) -> Result<Self, AllocError> {
@@ -28,9 +30,10 @@ impl<T: Ord + Clone, V: Eq + Clone> Clone for Cuts<T, V> {
 }
 
 impl<T: Ord + Clone> Clone for Ranges<T> {
-    // A clone is equal to its source, and has the same points.
+    // A clone is equal to its source, has the same points, and its bounds are at clones of the values.
     ghost is_clone = { λ f g. (⟦<Ranges<T> as PartialEq>⟧.eq f g ≡ true)
-        × ((p : Point T) → contains_point T.cmp f p ≡ contains_point T.cmp g p) };
+        × ((p : Point T) → contains_point T.cmp f p ≡ contains_point T.cmp g p)
+        × ((test : T → Bool) → IsKeptByClones T.is_clone test → all_bounds test f ≡ true → all_bounds test g ≡ true) };
 
     fn clone(&self) -> Result<Self, AllocError> {
         let cuts = self.cuts.clone()?;

@@ -32,13 +32,18 @@ impl<'a, T> Iterator for Intervals<'a, T> {
 }
 
 impl<T: Ord> Ranges<T> {
+    ghost use Rattle.std.specs.List.{list_all};
     ghost use Rattle.std.specs.Option.{option_map};
-    ghost use Rattle.version_ranges.specs.Intervals.{interval_of, intervals_of, intervals_left, span_of, AreIntervals};
+    ghost use Rattle.std.specs.Prelude.{◌≡◌, Bool, true};
+    ghost use Rattle.version_ranges.specs.Bounds.{all_bounds, passes_at_both};
+    ghost use Rattle.std.specs.Range.Bound.{bound_map};
+    ghost use Rattle.version_ranges.specs.Intervals.{interval_of, intervals_of, intervals_left, lower_from, span_of, upper_after, AreIntervals};
 
     /// The intervals of the set, in ascending order: none is empty, and no two touch.
     pub fn iter(&self) -> Intervals<'_, T>
         ensures items { intervals_left result ≡ intervals_of self.now }
         ensures intervals { AreIntervals T.cmp self.now (intervals_of self.now) }
+        ensures bounds { (test : T → Bool) → all_bounds test self.now ≡ true → list_all (passes_at_both test) (intervals_of self.now) ≡ true }
     {
         Intervals {
             pieces: self.cuts.pieces(),
@@ -51,12 +56,36 @@ impl<T: Ord> Ranges<T> {
         ensures span { option_map interval_of result ≡ span_of (intervals_of self.now) }
         ensures intervals { AreIntervals T.cmp self.now (intervals_of self.now) }
     {
-        let mut intervals = self.iter();
-        let (lower, first_upper) = intervals.next()?;
-        let mut upper = first_upper;
-        while let Some((_, later)) = intervals.next() {
-            upper = later;
+        let lower = self.first_lower()?;
+        Some((lower, self.last_upper()))
+    }
+
+    // The lower bound of the first interval, if there is one.
+    fn first_lower(&self) -> Option<Bound<&T>>
+        ensures { option_map (bound_map (λ v. v.now)) result ≡ lower_from self.now.cuts.first self.now.cuts.rest.items }
+    {
+        if self.cuts.first {
+            return Some(Bound::Unbounded);
         }
-        Some((lower, upper))
+        match self.cuts.rest.split_first() {
+            Some((step, _)) => Some(step.0.lower()),
+            None => None,
+        }
+    }
+
+    // The upper bound of the last interval, if there is one.
+    fn last_upper(&self) -> Bound<&T>
+        ensures { bound_map (λ v. v.now) result ≡ upper_after self.now.cuts.rest.items }
+    {
+        match self.cuts.rest.split_last() {
+            Some((step, _)) => {
+                if step.1 {
+                    Bound::Unbounded
+                } else {
+                    step.0.upper()
+                }
+            }
+            None => Bound::Unbounded,
+        }
     }
 }

@@ -13,6 +13,7 @@ mod gather;
 mod intervals;
 pub mod laws;
 mod overlay;
+mod pairs;
 mod pieces;
 mod ranges;
 #[cfg(test)]
@@ -21,5 +22,6 @@ mod tests;
 pub use cuts::Cuts;
 pub use equality::{equal_where_same, equal_where_same_points};
 pub use intervals::Intervals;
+pub use pairs::Pairs;
 pub use pieces::{Piece, Pieces};
 pub use ranges::Ranges;

@@ -84,7 +84,8 @@ impl<T: Ord + Clone, V: Eq + Clone> Cuts<T, V> {
     ghost use Rattle.version_ranges.specs.Point.{Point};
     ghost use Rattle.version_ranges.specs.Cuts.{value_of, piece_count};
     ghost use Rattle.std.specs.Set.{ClonesAreEqual};
-    ghost use Rattle.std.specs.Prelude.{◌≡◌, ◌+◌, ◌≤◌, true, IfOk};
+    ghost use Rattle.std.specs.Prelude.{◌≡◌, ◌+◌, ◌≤◌, Bool, true, IfOk};
+    ghost use Rattle.version_ranges.specs.Bounds.{IsKeptByClones, all_cuts};
 
     /// Both functions side by side, and how many pairs of cuts were compared to make this.
     pub fn overlay<W: Eq + Clone>(
@@ -99,6 +100,7 @@ impl<T: Ord + Clone, V: Eq + Clone> Cuts<T, V> {
         ensures right { IfOk result (λ r. (p : Point T) → W.eq (value_of T.cmp r.0 p).1 (value_of T.cmp other.now p) ≡ true) }
         ensures pieces { IfOk result (λ r. piece_count r.0 + 1 ≤ piece_count self.now + piece_count other.now) }
         ensures comparisons { IfOk result (λ r. r.1 + 2 ≤ piece_count self.now + piece_count other.now) }
+        ensures bounds { IfOk result (λ r. (test : T → Bool) → IsKeptByClones T.is_clone test → all_cuts test self.now ≡ true → all_cuts test other.now ≡ true → all_cuts test r.0 ≡ true) }
     {
         let most = self
             .rest

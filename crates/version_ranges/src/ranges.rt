@@ -21,14 +21,16 @@ pub struct Ranges<T: Ord> {
 }
 
 impl<T: Ord> Ranges<T> {
-    ghost use Rattle.std.specs.Prelude.{◌≡◌, true, false, IfOk, IfSome, IfNone, IsTrue, ◌↔◌};
+    ghost use Rattle.std.specs.Prelude.{◌≡◌, Bool, true, false, IfOk, IfSome, IfNone, IsTrue, ◌↔◌};
+    ghost use Rattle.version_ranges.specs.Bounds.{all_bounds};
     ghost use Rattle.version_ranges.specs.Point.{Point, at, is_in_bounds};
     ghost use Rattle.version_ranges.specs.Ranges.{contains_point};
     ghost use Rattle.std.specs.declared.ops.Bound.TheVariants.{Included, Excluded, Unbounded};
 
     /// The set of no point.
     pub fn empty(alloc: Global) -> Self
-        ensures { (p : Point T) → contains_point T.cmp result p ≡ false }
+        ensures set { (p : Point T) → contains_point T.cmp result p ≡ false }
+        ensures bounds { (test : T → Bool) → all_bounds test result ≡ true }
     {
         Ranges {
             cuts: Cuts::constant(alloc, false),
@@ -37,7 +39,8 @@ impl<T: Ord> Ranges<T> {
 
     /// The set of all points.
     pub fn full(alloc: Global) -> Self
-        ensures { (p : Point T) → contains_point T.cmp result p ≡ true }
+        ensures set { (p : Point T) → contains_point T.cmp result p ≡ true }
+        ensures bounds { (test : T → Bool) → all_bounds test result ≡ true }
     {
         Ranges {
             cuts: Cuts::constant(alloc, true),
@@ -78,7 +81,8 @@ impl<T: Ord> Ranges<T> {
 }
 
 impl<T: Ord + Drop> Ranges<T> {
-    ghost use Rattle.std.specs.Prelude.{◌≡◌, ◌&&◌, true, false, not, IfOk, if◌then◌else◌};
+    ghost use Rattle.std.specs.Prelude.{◌≡◌, ◌&&◌, Bool, true, false, not, IfOk, if◌then◌else◌};
+    ghost use Rattle.version_ranges.specs.Bounds.{all_bounds, passes_at};
     ghost use Rattle.std.specs.declared.cmp.Ordering.TheVariants.{Less};
     ghost use Rattle.std.specs.declared.ops.Bound.TheVariants.{Included, Excluded, Unbounded};
     ghost use Rattle.version_ranges.specs.Point.{Point, is_in_bounds};
@@ -90,7 +94,8 @@ impl<T: Ord + Drop> Ranges<T> {
         alloc: Global,
         bounds: (Bound<T>, Bound<T>),
     ) -> Result<Self, AllocError>
-        ensures { IfOk result (λ r. (p : Point T) → contains_point T.cmp r p ≡ is_in_bounds T.cmp bounds.0 bounds.1 p) }
+        ensures set { IfOk result (λ r. (p : Point T) → contains_point T.cmp r p ≡ is_in_bounds T.cmp bounds.0 bounds.1 p) }
+        ensures bounds { IfOk result (λ r. (test : T → Bool) → passes_at test bounds.0 ≡ true → passes_at test bounds.1 ≡ true → all_bounds test r ≡ true) }
     {
         let (lower, upper) = bounds;
         match (begin_of(lower), end_of(upper)) {
@@ -109,35 +114,40 @@ impl<T: Ord + Drop> Ranges<T> {
 
     /// The set of a value and all after it.
     pub fn higher_than(alloc: Global, value: T) -> Result<Self, AllocError>
-        ensures { IfOk result (λ r. (p : Point T) → contains_point T.cmp r p ≡ is_in_bounds T.cmp (Included value) Unbounded p) }
+        ensures set { IfOk result (λ r. (p : Point T) → contains_point T.cmp r p ≡ is_in_bounds T.cmp (Included value) Unbounded p) }
+        ensures bounds { IfOk result (λ r. (test : T → Bool) → test value ≡ true → all_bounds test r ≡ true) }
     {
         Ranges::from_range_bounds(alloc, (Bound::Included(value), Bound::Unbounded))
     }
 
     /// The set of all after a value.
     pub fn strictly_higher_than(alloc: Global, value: T) -> Result<Self, AllocError>
-        ensures { IfOk result (λ r. (p : Point T) → contains_point T.cmp r p ≡ is_in_bounds T.cmp (Excluded value) Unbounded p) }
+        ensures set { IfOk result (λ r. (p : Point T) → contains_point T.cmp r p ≡ is_in_bounds T.cmp (Excluded value) Unbounded p) }
+        ensures bounds { IfOk result (λ r. (test : T → Bool) → test value ≡ true → all_bounds test r ≡ true) }
     {
         Ranges::from_range_bounds(alloc, (Bound::Excluded(value), Bound::Unbounded))
     }
 
     /// The set of a value and all before it.
     pub fn lower_than(alloc: Global, value: T) -> Result<Self, AllocError>
-        ensures { IfOk result (λ r. (p : Point T) → contains_point T.cmp r p ≡ is_in_bounds T.cmp Unbounded (Included value) p) }
+        ensures set { IfOk result (λ r. (p : Point T) → contains_point T.cmp r p ≡ is_in_bounds T.cmp Unbounded (Included value) p) }
+        ensures bounds { IfOk result (λ r. (test : T → Bool) → test value ≡ true → all_bounds test r ≡ true) }
     {
         Ranges::from_range_bounds(alloc, (Bound::Unbounded, Bound::Included(value)))
     }
 
     /// The set of all before a value.
     pub fn strictly_lower_than(alloc: Global, value: T) -> Result<Self, AllocError>
-        ensures { IfOk result (λ r. (p : Point T) → contains_point T.cmp r p ≡ is_in_bounds T.cmp Unbounded (Excluded value) p) }
+        ensures set { IfOk result (λ r. (p : Point T) → contains_point T.cmp r p ≡ is_in_bounds T.cmp Unbounded (Excluded value) p) }
+        ensures bounds { IfOk result (λ r. (test : T → Bool) → test value ≡ true → all_bounds test r ≡ true) }
     {
         Ranges::from_range_bounds(alloc, (Bound::Unbounded, Bound::Excluded(value)))
     }
 
     // The points before a cut where `first` is true, and else those from it on.
     fn divided(alloc: Global, first: bool, cut: Cut<T>) -> Result<Self, AllocError>
-        ensures { IfOk result (λ r. (p : Point T) → contains_point T.cmp r p ≡ (if stands_before (λ v. v) T.cmp p cut then first else not first)) }
+        ensures set { IfOk result (λ r. (p : Point T) → contains_point T.cmp r p ≡ (if stands_before (λ v. v) T.cmp p cut then first else not first)) }
+        ensures bounds { IfOk result (λ r. (test : T → Bool) → test cut.value ≡ true → all_bounds test r ≡ true) }
     {
         let mut rest = Vec::with_capacity(alloc, 1)?;
         rest.push((cut, !first))?;
@@ -149,7 +159,8 @@ impl<T: Ord + Drop> Ranges<T> {
     // The points from one cut to a later one.
     fn between(alloc: Global, begin: Cut<T>, end: Cut<T>) -> Result<Self, AllocError>
         requires { cut_cmp T.cmp begin end ≡ Less }
-        ensures { IfOk result (λ r. (p : Point T) → contains_point T.cmp r p ≡ (not (stands_before (λ v. v) T.cmp p begin) && stands_before (λ v. v) T.cmp p end)) }
+        ensures set { IfOk result (λ r. (p : Point T) → contains_point T.cmp r p ≡ (not (stands_before (λ v. v) T.cmp p begin) && stands_before (λ v. v) T.cmp p end)) }
+        ensures bounds { IfOk result (λ r. (test : T → Bool) → test begin.value ≡ true → test end.value ≡ true → all_bounds test r ≡ true) }
     {
         let mut rest = Vec::with_capacity(alloc, 2)?;
         rest.push((begin, true))?;
@@ -162,16 +173,18 @@ impl<T: Ord + Drop> Ranges<T> {
 
 impl<T: Ord + Clone> Ranges<T> {
     ghost use Rattle.std.specs.Prelude.{◌≡◌, ◌&&◌, ◌||◌, Bool, true, false, not, IfOk};
-    ghost use Rattle.std.specs.List.{list_any};
+    ghost use Rattle.std.specs.List.{list_all, list_any};
     ghost use Rattle.std.specs.Set.{ClonesAreEqual};
     ghost use Rattle.std.specs.declared.ops.Bound.TheVariants.{Included};
+    ghost use Rattle.version_ranges.specs.Bounds.{IsKeptByClones, all_bounds};
     ghost use Rattle.version_ranges.specs.Point.{Point, is_in_bounds};
     ghost use Rattle.version_ranges.specs.Ranges.{contains_point};
 
     /// The set of one value.
     pub fn singleton(alloc: Global, value: T) -> Result<Self, AllocError>
         requires clones { ClonesAreEqual T.eq T.is_clone }
-        ensures { IfOk result (λ r. (p : Point T) → contains_point T.cmp r p ≡ is_in_bounds T.cmp (Included value) (Included value) p) }
+        ensures set { IfOk result (λ r. (p : Point T) → contains_point T.cmp r p ≡ is_in_bounds T.cmp (Included value) (Included value) p) }
+        ensures bounds { IfOk result (λ r. (test : T → Bool) → IsKeptByClones T.is_clone test → test value ≡ true → all_bounds test r ≡ true) }
     {
         let lower = value.clone()?;
         Ranges::from_range_bounds(alloc, (Bound::Included(lower), Bound::Included(value)))
@@ -180,7 +193,8 @@ impl<T: Ord + Clone> Ranges<T> {
     /// The set of these values.
     pub fn from_points(points: Vec<T>) -> Result<Self, AllocError>
         requires clones { ClonesAreEqual T.eq T.is_clone }
-        ensures { IfOk result (λ r. (p : Point T) → contains_point T.cmp r p ≡ list_any (λ v. is_in_bounds T.cmp (Included v) (Included v) p) points.items) }
+        ensures set { IfOk result (λ r. (p : Point T) → contains_point T.cmp r p ≡ list_any (λ v. is_in_bounds T.cmp (Included v) (Included v) p) points.items) }
+        ensures bounds { IfOk result (λ r. (test : T → Bool) → IsKeptByClones T.is_clone test → list_all test points.items ≡ true → all_bounds test r ≡ true) }
     {
         let mut points = points;
         points.sort()?;
@@ -213,7 +227,8 @@ impl<T: Ord + Clone> Ranges<T> {
     /// The points that are in one of two sets.
     pub fn union(&self, alloc: Global, other: &Self) -> Result<Self, AllocError>
         requires clones { ClonesAreEqual T.eq T.is_clone }
-        ensures { IfOk result (λ r. (p : Point T) → contains_point T.cmp r p ≡ (contains_point T.cmp self.now p || contains_point T.cmp other.now p)) }
+        ensures set { IfOk result (λ r. (p : Point T) → contains_point T.cmp r p ≡ (contains_point T.cmp self.now p || contains_point T.cmp other.now p)) }
+        ensures bounds { IfOk result (λ r. (test : T → Bool) → IsKeptByClones T.is_clone test → all_bounds test self.now ≡ true → all_bounds test other.now ≡ true → all_bounds test r ≡ true) }
     {
         self.combined(alloc, other, |sides| sides.0 || sides.1)
     }
@@ -221,7 +236,8 @@ impl<T: Ord + Clone> Ranges<T> {
     /// The points that are in both of two sets.
     pub fn intersection(&self, alloc: Global, other: &Self) -> Result<Self, AllocError>
         requires clones { ClonesAreEqual T.eq T.is_clone }
-        ensures { IfOk result (λ r. (p : Point T) → contains_point T.cmp r p ≡ (contains_point T.cmp self.now p && contains_point T.cmp other.now p)) }
+        ensures set { IfOk result (λ r. (p : Point T) → contains_point T.cmp r p ≡ (contains_point T.cmp self.now p && contains_point T.cmp other.now p)) }
+        ensures bounds { IfOk result (λ r. (test : T → Bool) → IsKeptByClones T.is_clone test → all_bounds test self.now ≡ true → all_bounds test other.now ≡ true → all_bounds test r ≡ true) }
     {
         self.combined(alloc, other, |sides| sides.0 && sides.1)
     }
@@ -229,7 +245,8 @@ impl<T: Ord + Clone> Ranges<T> {
     /// The points that are not in the set.
     pub fn complement(&self, alloc: Global) -> Result<Self, AllocError>
         requires clones { ClonesAreEqual T.eq T.is_clone }
-        ensures { IfOk result (λ r. (p : Point T) → contains_point T.cmp r p ≡ not (contains_point T.cmp self.now p)) }
+        ensures set { IfOk result (λ r. (p : Point T) → contains_point T.cmp r p ≡ not (contains_point T.cmp self.now p)) }
+        ensures bounds { IfOk result (λ r. (test : T → Bool) → IsKeptByClones T.is_clone test → all_bounds test self.now ≡ true → all_bounds test r ≡ true) }
     {
         self.combined(alloc, &Ranges::full(alloc), |sides| !sides.0)
     }
@@ -243,7 +260,8 @@ impl<T: Ord + Clone> Ranges<T> {
     ) -> Result<Self, AllocError>
         requires callable { F.IsAlwaysCallable f }
         requires clones { ClonesAreEqual T.eq T.is_clone }
-        ensures { IfOk result (λ r. (g : Bool × Bool → Bool) → ((v : Bool × Bool) (w : Bool) → F.post f v w → w ≡ g v) → (p : Point T) → contains_point T.cmp r p ≡ g (contains_point T.cmp self.now p, contains_point T.cmp other.now p)) }
+        ensures set { IfOk result (λ r. (g : Bool × Bool → Bool) → ((v : Bool × Bool) (w : Bool) → F.post f v w → w ≡ g v) → (p : Point T) → contains_point T.cmp r p ≡ g (contains_point T.cmp self.now p, contains_point T.cmp other.now p)) }
+        ensures bounds { IfOk result (λ r. (test : T → Bool) → IsKeptByClones T.is_clone test → all_bounds test self.now ≡ true → all_bounds test other.now ≡ true → all_bounds test r ≡ true) }
     {
         let (sides, _) = self.cuts.overlay(alloc, &other.cuts)?;
         Ok(Ranges {

@@ -119,6 +119,19 @@ fn overlay_counts_comparisons(rt: HostRuntime) -> Result<(), Fail> {
 }
 
 #[test]
+fn pairs_are_given_in_order(rt: HostRuntime) -> Result<(), Fail> {
+    let alloc = rt.alloc();
+    let one = Cuts::from_ranges(alloc, &Ranges::singleton(alloc, 1u8)?, 7u8, 8)?;
+    let from_one = Cuts::from_ranges(alloc, &Ranges::higher_than(alloc, 1u8)?, 5u8, 6)?;
+    let mut pairs = one.pairs(&from_one);
+    assert!(rt; pairs.next() == Some((&8, &6)));
+    assert!(rt; pairs.next() == Some((&7, &5)));
+    assert!(rt; pairs.next() == Some((&8, &5)));
+    assert!(rt; pairs.next().is_none());
+    Ok(())
+}
+
+#[test]
 fn bounds_of_both_kinds(rt: HostRuntime) -> Result<(), Fail> {
     let alloc = rt.alloc();
     for (lower, upper, held) in [

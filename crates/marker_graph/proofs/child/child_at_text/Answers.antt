@@ -1,4 +1,4 @@
-use Rattle.std.proofs.Common.{◌∙◌, sym, ap, string_bytes}
+use Rattle.std.proofs.Common.{◌∙◌, ap, string_bytes}
 use Rattle.std.specs.declared.ops.Bound.TheVariants.{Unbounded}
 use Rattle.version_ranges.specs.Point.{at}
 use Rattle.marker_diagrams.specs.declared.node_id.TheConstants.NodeId.{TRUE}

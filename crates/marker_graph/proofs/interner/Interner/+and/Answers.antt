@@ -1,4 +1,4 @@
-use Rattle.std.proofs.Common.{◌≡◌, sym, ap, refl, ◌∙◌, ◌∷◌, [], ◌<◌, length, arith, string_bytes}
+use Rattle.std.proofs.Common.{◌≡◌, sym, ap, refl, ◌∙◌, ◌∷◌, [], arith, string_bytes}
 use Rattle.pep440_version.specs.Order.{version_cmp}
 use Rattle.version_ranges.specs.Cuts.{value_of, value_by, piece_of, piece_by}
 use Rattle.marker_diagrams.proofs.NodeLaws.{keeps_both}
@@ -9,6 +9,7 @@ use Rattle.marker_diagrams.proofs.ChoiceLaws.{children_same}
 use Rattle.marker_nodes.proofs.PieceChildren.{one_default}
 use Rattle.marker_graph.proofs.Descents.{kept_store}
 use Rattle.marker_graph.proofs.AndLaws.{known_is, known_more, held_kept, well_kept_longer, next_below, next_ands, step_below, step_children, step_placed, version_found, text_found, text_listed, truth_pair, truth_index, truth_found, truth_listed, truth_has, truth_same, truth_choice}
+use Rattle.marker_graph.proofs.CountLaws.{descends_of, spends_end, spends_placed, next_spends}
 use Rattle.marker_graph.proofs.interner.Interner.+and.Goals as goal
 
 pub and-returns-in-Some-clause-and : goal.and-returns-in-Some-clause-and
@@ -23,6 +24,15 @@ and-invariant_of-self-2 t c =
     known_more c.expanded.new.self _ c.args.a c.args.b c.in_ok-id.id _ _ c.self-2.invariant c.self-2.view_is (held_kept c.args.self.now.nodes c.expanded.new.self.nodes c.args.a kept c.requires.a)
     (held_kept c.args.self.now.nodes c.expanded.new.self.nodes c.args.b kept c.requires.b) c.in_ok-id.ensures.and (let u = c.in_ok-insert.ensures.updates in u.0)
 
+pub and-returns-in-Some-get-clause-counted : goal.and-returns-in-Some-get-clause-counted
+and-returns-in-Some-get-clause-counted t c = λ fresh room. absurd (fresh (known_is c.args.self.now _ c.args.a c.args.b _ c.self.invariant c.self.view_is c.in-Some-get.ensures.value).held)
+
+pub and-returns-clause-spends : goal.and-returns-clause-spends
+and-returns-clause-spends t c =
+    let x = c.saturating_add-self-inside.ensures in
+    spends_end c.args.self.now _ c.expanded.new.self c.args.a c.args.b c.in_ok-id.id c.in_ok-id.ensures.spends c.self-2.view_is c.self.inside.memo.entries (ap (λ z. z.memo) c.self.view_is) c.in_default-get.ensures.value (let u = c.in_ok-insert.ensures.updates in u.0)
+    (omega (arith, x)) (omega (arith, x, c.self-2.ranges))
+
 pub and_all-and-requires : goal.and_all-and-requires
 and_all-and-requires t c =
     let s = next_below c.args.self.now.nodes c.loop-i.self.nodes c.args.a c.args.b c.args.pairs.now c.requires c.loop-i.invariant.kept c.loop-i.i c.loop-i-test.true _ c.negate-left.result c.negate-right.result c.negate-left.ensures c.negate-right.ensures in
@@ -31,10 +41,22 @@ and_all-and-requires t c =
 pub and_all-loop-i-preserved : goal.and_all-loop-i-preserved
 and_all-loop-i-preserved t c = record {
   kept = keeps_both markers c.args.self.now.nodes c.loop-i.self.nodes c.and.new.self.nodes c.loop-i.invariant.kept c.in_ok-child.ensures.kept;
+  spent = next_spends c.args.self.now c.loop-i.self c.args.a c.args.b c.args.pairs.now c.requires c.loop-i.invariant.kept (descends_of c.args.self.now _ c.self.invariant c.self.view_is) c.loop-i.i c.loop-i-test.true _ c.negate-left.result c.negate-right.result c.negate-left.ensures c.negate-right.ensures
+      c.and.new.self c.loop-i.invariant.spent c.in_ok-child.ensures.spends;
   len = omega (arith, c.loop-i.invariant.len, c.in_ok-push.ensures.len);
   done = next_ands c.args.self.now.nodes c.loop-i.self.nodes c.args.a c.args.b c.args.pairs.now c.requires c.loop-i.invariant.kept c.loop-i.i c.loop-i-test.true _ c.negate-left.result c.negate-right.result c.negate-left.ensures c.negate-right.ensures
       c.and.new.self.nodes c.in_ok-child.child c.loop-i.children.items _ c.in_ok-child.ensures.kept (sym c.loop-i.children.ok.0 ∙ c.loop-i.invariant.len) c.loop-i.invariant.done c.in_ok-child.ensures.and c.in_ok-push.ensures.items;
 }
+
+pub and_all-returns-in_err-child-clause-spends : goal.and_all-returns-in_err-child-clause-spends
+and_all-returns-in_err-child-clause-spends t c =
+    next_spends c.args.self.now c.loop-i.self c.args.a c.args.b c.args.pairs.now c.requires c.loop-i.invariant.kept (descends_of c.args.self.now _ c.self.invariant c.self.view_is) c.loop-i.i c.loop-i-test.true _ c.negate-left.result c.negate-right.result c.negate-left.ensures c.negate-right.ensures
+    c.and.new.self c.loop-i.invariant.spent c.and.ensures.spends
+
+pub and_all-returns-in_err-push-clause-spends : goal.and_all-returns-in_err-push-clause-spends
+and_all-returns-in_err-push-clause-spends t c =
+    next_spends c.args.self.now c.loop-i.self c.args.a c.args.b c.args.pairs.now c.requires c.loop-i.invariant.kept (descends_of c.args.self.now _ c.self.invariant c.self.view_is) c.loop-i.i c.loop-i-test.true _ c.negate-left.result c.negate-right.result c.negate-left.ensures c.negate-right.ensures
+    c.and.new.self c.loop-i.invariant.spent c.and.ensures.spends
 
 pub and_all-returns-clause-ands : goal.and_all-returns-clause-ands
 and_all-returns-clause-ands t c = c.loop-i.invariant.done
@@ -54,6 +76,9 @@ and_text-place_texts-placed-requires-clause-children t c =
 
 pub and_text-invariant_of-self : goal.and_text-invariant_of-self
 and_text-invariant_of-self t c = well_kept_longer _ _ c.self-2.invariant c.keeps_the_rules.ensures c.place_texts-placed.ensures.kept
+
+pub and_text-returns-clause-spends : goal.and_text-returns-clause-spends
+and_text-returns-clause-spends t c = spends_placed c.args.self.now c.and_all.new.self c.in_ok-children.ensures.spends c.self-2.view_is
 
 pub and_text-returns-clause-and : goal.and_text-returns-clause-and
 and_text-returns-clause-and t c =
@@ -76,6 +101,9 @@ and_version-place_versions-placed-requires-clause-children t c =
 
 pub and_version-invariant_of-self : goal.and_version-invariant_of-self
 and_version-invariant_of-self t c = well_kept_longer _ _ c.self-2.invariant c.keeps_the_rules.ensures c.place_versions-placed.ensures.kept
+
+pub and_version-returns-clause-spends : goal.and_version-returns-clause-spends
+and_version-returns-clause-spends t c = spends_placed c.args.self.now c.and_all.new.self c.in_ok-children.ensures.spends c.self-2.view_is
 
 pub and_version-returns-clause-and : goal.and_version-returns-clause-and
 and_version-returns-clause-and t c =
@@ -107,6 +135,9 @@ and_truth-place_truth-placed-requires t c =
 
 pub and_truth-invariant_of-self : goal.and_truth-invariant_of-self
 and_truth-invariant_of-self t c = well_kept_longer _ _ c.self-2.invariant c.keeps_the_rules.ensures c.place_truth-placed.ensures.kept
+
+pub and_truth-returns-clause-spends : goal.and_truth-returns-clause-spends
+and_truth-returns-clause-spends t c = spends_placed c.args.self.now c.and_all.new.self c.in_ok-children.ensures.spends c.self-2.view_is
 
 pub and_truth-returns-clause-and : goal.and_truth-returns-clause-and
 and_truth-returns-clause-and t c =

@@ -1,10 +1,9 @@
-use Rattle.std.proofs.Common.{◌≡◌, ℕ, ◌+◌, ◌*◌, ◌<◌}
-use Rattle.std.specs.Prelude.{Some, slice_get, vec_len}
-use Rattle.marker_diagrams.specs.declared.node_id.NodeId.{NodeId}
-use Rattle.marker_diagrams.specs.Id.{place_of, is_negated, signed_id}
-use Rattle.marker_nodes.specs.Node.{child_at}
+use Rattle.std.proofs.Common.{◌≡◌, ◌+◌, ◌*◌}
+use Rattle.std.specs.Prelude.{vec_len}
+use Rattle.marker_diagrams.specs.Id.{place_of}
 use Rattle.marker_graph.specs.Contents.{IsKept}
 use Rattle.marker_graph.specs.Branch.{AreAnds}
+use Rattle.marker_graph.specs.Count.{Spends}
 use Rattle.marker_graph.proofs.interner.Interner.+and.Given as goal
 
 abbrev pub decreases-and : goal.decreases-and
@@ -28,6 +27,7 @@ decreases-and_all l = 4 * (place_of l.a + place_of l.b)
 abbrev pub invariant-and_all-loop-i : goal.invariant-and_all-loop-i
 invariant-and_all-loop-i l = record {
   kept : IsKept l.initial.self l.self;
+  spent : Spends l.initial.self l.self (place_of l.a + place_of l.b) l.a l.b;
   len : vec_len l.children ≡ l.i;
   done : AreAnds l.self.nodes l.a l.b l.pairs l.children.items;
 }

@@ -1,4 +1,7 @@
-use Rattle.std.proofs.Common.{arith, ◌∙◌}
+use Rattle.std.proofs.Common.{arith, ◌∙◌, ap, sym}
+use Rattle.std.proofs.lemmas.Bool.{and_parts}
+use Rattle.version_ranges.specs.Cut.{cut_cmp}
+use Rattle.version_ranges.proofs.BoundLaws.{passes, passes_more, overlay_passes}
 use Rattle.version_ranges.proofs.PointLaws.{cut_total, clone_tied}
 use Rattle.version_ranges.proofs.Sides.{sides_init, sides_step, sides_end, sides_ascend, point_left, point_right}
 use Rattle.version_ranges.proofs.cuts.Cuts.overlay.Goals as goal
@@ -8,6 +11,10 @@ loop-turn-init g c = record {
   alike = sides_init g.met.V.Eq.laws g.met.W.Eq.laws (cut_total g.met.T.Ord.total) _ _ _ _ _ _ _ c.in_ok-rest.ensures.items c.deref-lefts.ensures.value c.deref-rights.ensures.value;
   pieces = omega (arith, c.in_ok-rest.ensures.len, c.deref-lefts.ensures.len, c.deref-rights.ensures.len);
   comparisons = omega (arith, c.deref-lefts.ensures.len, c.deref-rights.ensures.len);
+  bounds = λ test k h m. (
+    ap (passes (λ d. test d.value)) c.in_ok-rest.ensures.items,
+    overlay_passes (λ d. test d.value) (cut_cmp g.T.Ord.cmp) _ _ _ _ (ap (passes (λ d. test d.value)) c.deref-lefts.ensures.value ∙ h) (ap (passes (λ d. test d.value)) c.deref-rights.ensures.value ∙ m),
+  );
 }
 
 pub loop-turn-preserved : goal.loop-turn-preserved
@@ -20,6 +27,10 @@ loop-turn-preserved g c =
           (left.symm _ _ ∙ c.requires.left_clones _ _ c.in_ok-clone-3.ensures.cases) (right.symm _ _ ∙ c.requires.right_clones _ _ c.in_ok-clone-4.ensures.cases);
       pieces = omega (arith, c.in-Some.ensures.fewer, c.in_ok-push.ensures.len);
       comparisons = omega (arith, c.in-Some.ensures.fewer, c.in-Some.ensures.comparisons);
+      bounds = λ test k h m.
+          let old = c.loop-turn.invariant.bounds test k h m in
+          let next = and_parts _ _ (ap (passes (λ d. test d.value)) (sym c.in-Some.ensures.next) ∙ old.1) in
+          (passes_more (λ d. test d.value) _ _ _ c.in_ok-push.ensures.items old.0 (k _ _ c.in_ok-cut.ensures.cases.0 next.0), next.1);
     }
 
 pub invariant_of-result : goal.invariant_of-result
@@ -43,3 +54,6 @@ returns-clause-right g c =
     let end = sides_end g.met.V.Eq.laws g.met.W.Eq.laws (cut_total g.met.T.Ord.total) _ _ _ c.loop-turn.invariant.alike c.in_default.ensures.next in
     point_right g.met.T.Ord.total g.met.V.Eq.laws g.met.W.Eq.laws f.first h.first (c.in_ok-clone.field-0, c.in_ok-clone-2.field-0) f.rest.items h.rest.items c.loop-turn.rest.items
     (c.requires.left_clones _ _ c.in_ok-clone.ensures.cases) (c.requires.right_clones _ _ c.in_ok-clone-2.ensures.cases) end
+
+pub returns-clause-bounds : goal.returns-clause-bounds
+returns-clause-bounds g c = λ test k h m. (c.loop-turn.invariant.bounds test k h m).0

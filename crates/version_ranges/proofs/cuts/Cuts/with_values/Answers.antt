@@ -6,6 +6,7 @@ use Rattle.std.specs.Vec.Iter.{into_iter_items}
 use Rattle.version_ranges.specs.Cut.{cut_cmp}
 use Rattle.version_ranges.specs.Sweep.{merge_steps, relabel}
 use Rattle.version_ranges.proofs.PointLaws.{cut_total, value_at_place, piece_at_place, place}
+use Rattle.version_ranges.proofs.BoundLaws.{passes, merge_passes, relabel_passes}
 use Rattle.version_ranges.proofs.Merges.{merges_then, merges_else, merges_end, merged_ascend, merged_value, merged_merge}
 use Rattle.version_ranges.proofs.cuts.Cuts.with_values.Goals as goal
 use Rattle.version_ranges.proofs.cuts.Cuts.with_values.Goals.{then-ne+in_ok-push, else-ne}
@@ -39,3 +40,9 @@ returns-clause-merged g c =
     let same = g.W.PartialEq.eq in
     let e = merges_end same _ _ _ _ _ c.loop-cut.invariant.1 (nil_from_length _ (sym c.loop-cut.steps.rest.ok.0 ∙ c.in_default-next.ensures.cases.0)) ∙ ap (λ l. merge_steps same c.in-Some.first (relabel l (into_iter_items c.next.new.self))) c.into_iter-steps.ensures.rest in
     merged_merge _ (cut_total g.met.T.Ord.total) g.met.W.Eq.laws _ _ _ _ e
+
+pub returns-clause-bounds : goal.returns-clause-bounds
+returns-clause-bounds g c =
+    let same = g.W.PartialEq.eq in
+    let e = merges_end same _ _ _ _ _ c.loop-cut.invariant.1 (nil_from_length _ (sym c.loop-cut.steps.rest.ok.0 ∙ c.in_default-next.ensures.cases.0)) ∙ ap (λ l. merge_steps same c.in-Some.first (relabel l (into_iter_items c.next.new.self))) c.into_iter-steps.ensures.rest in
+    λ test h. ap (passes (λ d. test d.value)) e ∙ merge_passes (λ d. test d.value) same c.in-Some.first _ (relabel_passes (λ d. test d.value) c.args.self.rest.items (into_iter_items c.next.new.self) h)

@@ -1,0 +1,31 @@
+-- Tests that the values at bounds pass. (This project's own.)
+use Rattle.std.specs.Prelude.{◌≡◌, Bool, true, ◌&&◌}
+use Rattle.std.specs.List.{list_all}
+use Rattle.std.specs.declared.ops.Bound.{Bound}
+use Rattle.std.specs.declared.ops.Bound.TheVariants.{Included, Excluded, Unbounded}
+use Rattle.version_ranges.specs.declared.cuts.Cuts.{Cuts}
+use Rattle.version_ranges.specs.declared.ranges.Ranges.{Ranges}
+
+module _ {T : Type 0} where
+  -- where a value passes a test, its clones pass it too
+  abbrev pub IsKeptByClones : (T → T → Type 0) → (T → Bool) → Type 0
+  IsKeptByClones C test = (x y : T) → C x y → test x ≡ true → test y ≡ true
+
+  -- whether the value of a bound passes a test; `Unbounded` has none
+  abbrev pub passes_at : (T → Bool) → Bound T → Bool
+  passes_at test (Included v) = test v
+  passes_at test (Excluded v) = test v
+  passes_at test Unbounded = true
+
+  -- whether the values of both bounds of an interval pass a test
+  abbrev pub passes_at_both : (T → Bool) → Bound T × Bound T → Bool
+  passes_at_both test i = passes_at test i.0 && passes_at test i.1
+
+  module _ {a : _} {b : _} {c : _} where
+    -- whether the value of each cut passes a test
+    abbrev pub all_cuts : {V : Type 0} → (T → Bool) → Cuts T V a b c → Bool
+    all_cuts test cuts = list_all (λ s. test s.0.value) cuts.rest.items
+
+    -- whether the value of each bound passes a test: the bounds are those of the intervals that `iter` gives
+    abbrev pub all_bounds : (T → Bool) → Ranges T a b c → Bool
+    all_bounds test ranges = all_cuts test ranges.cuts

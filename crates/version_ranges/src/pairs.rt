@@ -1,0 +1,96 @@
+//! The values of two functions side by side, one pair after another.
+ghost use Rattle.std.specs.Prelude.{◌≡◌, map};
+ghost use Rattle.version_ranges.specs.Cut.{cut_cmp};
+ghost use Rattle.version_ranges.specs.Sweep.{overlay};
+ghost use Rattle.version_ranges.specs.Pairs.{pairs_left};
+
+use crate::cut::Cut;
+use crate::cuts::Cuts;
+use std::cmp::Ordering;
+
+/// The values of two functions side by side, in ascending order of points: one pair from each cut of either function on.
+#[derive(Drop)]
+pub struct Pairs<'a, T, V, W> {
+    // The values before the cuts that are left; where the last pair was given, none.
+    values: Option<(&'a V, &'a W)>,
+    lefts: &'a [(Cut<T>, V)],
+    rights: &'a [(Cut<T>, W)],
+}
+
+impl<'a, T: Ord, V, W> Iterator for Pairs<'a, T, V, W> {
+    ghost use Rattle.std.specs.Iterator.{YieldsFirstBy, item_count};
+    ghost use Rattle.version_ranges.specs.Pairs.{pair_of, pairs_left};
+
+    type Item = (&'a V, &'a W);
+
+    ghost next_gives = { YieldsFirstBy pair_of (pairs_left T.cmp) };
+
+    ghost remaining = { item_count (pairs_left T.cmp) };
+
+    fn next(&mut self) -> Option<(&'a V, &'a W)> {
+        let (left, right) = self.values?;
+        *self = after(left, self.lefts, right, self.rights);
+        Some((left, right))
+    }
+}
+
+// The pairs from the next cut of either function on, which takes one comparison.
+fn after<'a, T: Ord, V, W>(
+    left: &'a V,
+    lefts: &'a [(Cut<T>, V)],
+    right: &'a W,
+    rights: &'a [(Cut<T>, W)],
+) -> Pairs<'a, T, V, W>
+    ensures { pairs_left T.cmp result ≡ map (λ s. s.1) (overlay (cut_cmp T.cmp) left.now lefts.now right.now rights.now) }
+{
+    match (lefts.split_first(), rights.split_first()) {
+        (None, None) => Pairs {
+            values: None,
+            lefts,
+            rights,
+        },
+        (Some((x, lefts)), None) => Pairs {
+            values: Some((&x.1, right)),
+            lefts,
+            rights,
+        },
+        (None, Some((y, rights))) => Pairs {
+            values: Some((left, &y.1)),
+            lefts,
+            rights,
+        },
+        (Some((x, later_lefts)), Some((y, later_rights))) => match x.0.cmp(&y.0) {
+            Ordering::Less => Pairs {
+                values: Some((&x.1, right)),
+                lefts: later_lefts,
+                rights,
+            },
+            Ordering::Equal => Pairs {
+                values: Some((&x.1, &y.1)),
+                lefts: later_lefts,
+                rights: later_rights,
+            },
+            Ordering::Greater => Pairs {
+                values: Some((left, &y.1)),
+                lefts,
+                rights: later_rights,
+            },
+        },
+    }
+}
+
+impl<T: Ord, V> Cuts<T, V> {
+    ghost use Rattle.version_ranges.specs.Pairs.{pairs_left, ArePairs};
+
+    /// The values of both functions side by side, in ascending order of points: each pair has the values at some point,
+    /// and the pair of each point is given. This takes no memory, and one comparison for each pair.
+    pub fn pairs<'a, W>(&'a self, other: &'a Cuts<T, W>) -> Pairs<'a, T, V, W>
+        ensures { ArePairs T.cmp self.now other.now (pairs_left T.cmp result) }
+    {
+        Pairs {
+            values: Some((&self.first, &other.first)),
+            lefts: &self.rest,
+            rights: &other.rest,
+        }
+    }
+}

@@ -1,0 +1,10 @@
+//! Tests of versions, version specifiers and the sets that they stand for, over texts and answers that were worked out
+//! by hand.
+#![tactic(auto)]
+
+#[cfg(test)]
+mod intervals;
+#[cfg(test)]
+mod specifiers;
+#[cfg(test)]
+mod versions;
