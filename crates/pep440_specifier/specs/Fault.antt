@@ -1,5 +1,7 @@
 -- What is wrong with an operator and a version, or with a text, that are no specifier.
 use Rattle.std.specs.Prelude.{◌≡◌, ◌≢◌, ◌<◌, ◌||◌, ℕ, Bool, true, false, List, [], ◌++◌, length, Option, None, Some, codes, string_bytes}
+use Rattle.std.specs.Fmt.{◌++?◌}
+use Rattle.pep440_version.specs.Message.{expected_text, place_text}
 use Rattle.pep440_version.specs.Parts.{Parts}
 use Rattle.pep440_specifier.specs.declared.operator.Operator.{Operator}
 use Rattle.pep440_specifier.specs.declared.operator.Operator.TheVariants.{TildeEqual}
@@ -11,13 +13,18 @@ use Rattle.pep440_specifier.specs.Operator.{is_star, operator_text, starred, tak
 use Rattle.pep440_specifier.specs.Specifier.{IsReleaseAlone}
 
 -- the text of a fault; what a version lacks is told in the words of versions
-abbrev pub fault_text : SpecifierFault → Option (List ℕ)
-fault_text fault.Operator = Some (codes "Expected one of `==`, `!=`, `<`, `<=`, `>`, `>=`, `~=` and `===`")
-fault_text (fault.Version expected) = None
-fault_text (fault.NoStar operator) = Some (codes "Expected a version without `.*` after `" ++ (operator_text operator ++ codes "`"))
-fault_text fault.ReleaseAlone = Some (codes "Expected a release without a suffix before `.*`")
-fault_text fault.SecondNumber = Some (codes "Expected at least two release numbers after `~=`")
-fault_text (fault.NoLocal operator) = Some (codes "Expected a version without a local part after `" ++ (operator_text operator ++ codes "`"))
+abbrev pub fault_text : SpecifierFault → List ℕ
+fault_text fault.Operator = codes "Expected one of `==`, `!=`, `<`, `<=`, `>`, `>=`, `~=` and `===`"
+fault_text (fault.Version expected) = codes "Expected " ++ expected_text expected
+fault_text (fault.NoStar operator) = codes "Expected a version without `.*` after `" ++ (operator_text operator ++ codes "`")
+fault_text fault.ReleaseAlone = codes "Expected a release without a suffix before `.*`"
+fault_text fault.SecondNumber = codes "Expected at least two release numbers after `~=`"
+fault_text (fault.NoLocal operator) = codes "Expected a version without a local part after `" ++ (operator_text operator ++ codes "`")
+
+-- the message of an error: what was expected, and what was found where, if a text was read
+abbrev pub error_text : SpecifierFault → Option Place → Option (List ℕ)
+error_text fault None = Some (fault_text fault)
+error_text fault (Some place) = Some (fault_text fault ++ codes ", found ") ++? place_text (string_bytes place.text) place.offset
 
 abbrev pub offset_of : Option Place → Option ℕ
 offset_of None = None

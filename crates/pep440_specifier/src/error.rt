@@ -1,7 +1,7 @@
 //! Why an operator and a version, or a text, are no specifier, told in one line.
 
-ghost use Rattle.std.specs.Prelude.{◌≡◌, IfOk};
-ghost use Rattle.pep440_specifier.specs.Fault.{IsToldOf, fault_text, offset_of};
+ghost use Rattle.std.specs.Prelude.{◌≡◌, IfOk, Some};
+ghost use Rattle.pep440_specifier.specs.Fault.{IsToldOf, error_text, fault_text, offset_of};
 
 use crate::operator::Operator;
 use crate::place::Place;
@@ -28,7 +28,7 @@ pub enum SpecifierFault {
 }
 
 impl fmt::Display for SpecifierFault {
-    ghost output = { λ fault. fault_text fault };
+    ghost output = { λ fault. Some (fault_text fault) };
 
     fn fmt<W: fmt::Write>(&self, f: &mut fmt::Formatter<W>) -> fmt::Result {
         match self {
@@ -108,6 +108,8 @@ impl VersionSpecifierError {
 }
 
 impl fmt::Display for VersionSpecifierError {
+    ghost output = { λ error. error_text error.fault error.place };
+
     fn fmt<W: fmt::Write>(&self, f: &mut fmt::Formatter<W>) -> fmt::Result {
         let fault = self.fault;
         match &self.place {

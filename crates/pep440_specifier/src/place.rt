@@ -1,7 +1,8 @@
 //! A place in a text.
 
-ghost use Rattle.std.specs.Prelude.{string_bytes};
+ghost use Rattle.std.specs.Prelude.{◌≡◌, drop, string_bytes};
 ghost use Rattle.std.specs.Str.{IsCharBoundary};
+ghost use Rattle.pep440_version.specs.Message.{found_in, place_text};
 
 use std::fmt;
 
@@ -13,14 +14,25 @@ pub(crate) struct Place {
     pub(crate) ghost in_text: { IsCharBoundary (string_bytes text) offset },
 }
 
+impl Place {
+    // What stands there, None where nothing but white space follows.
+    fn found(&self) -> Option<char>
+        ensures { result ≡ found_in (drop self.now.offset (string_bytes self.now.text)) }
+    {
+        let rest = &self.text.as_str()[self.offset..];
+        if rest.trim().is_empty() {
+            return None;
+        }
+        rest.chars().next()
+    }
+}
+
 impl fmt::Display for Place {
+    ghost output = { λ place. place_text (string_bytes place.text) place.offset };
+
     fn fmt<W: fmt::Write>(&self, f: &mut fmt::Formatter<W>) -> fmt::Result {
         let (text, offset) = (self.text.as_str(), self.offset);
-        let rest = &text[offset..];
-        if rest.trim().is_empty() {
-            return write!(f, "the end of {text:?}");
-        }
-        match rest.chars().next() {
+        match self.found() {
             Some(found) => write!(f, "{found:?} at byte {offset} of {text:?}"),
             None => write!(f, "the end of {text:?}"),
         }

@@ -1,9 +1,9 @@
 -- The parts that the grammar gives a text are those of a version.
-use Rattle.std.proofs.Common.{◌≡◌, ◌<◌, ℕ, sym, true, Option, Some, None, List, [], ◌∷◌, length, arith, subst, Bool}
+use Rattle.std.proofs.Common.{◌≡◌, ◌<◌, ℕ, sym, true, Option, Some, List, length, arith, Bool}
 use Rattle.std.specs.List.{AllByRecursion}
 use Rattle.pep440_version.specs.declared.version.Prerelease.{Prerelease}
 use Rattle.pep440_version.specs.Parts.{Parts, Segment}
-use Rattle.pep440_version.specs.Grammar.{IsDev, IsEpoch, IsLocal, IsNumber, IsNumbering, IsPattern, IsPost, IsPre, IsRelease, IsSegment, IsSegments, IsVersion, bare, before, dashed, dev, epoch, last, last_segment, no_dev, no_epoch, no_local, no_post, no_pre, numeric, plus, post, pre, plain, segment_before, starred, textual, version, written}
+use Rattle.pep440_version.specs.Grammar.{IsDev, IsEpoch, IsLocal, IsNumbering, IsPattern, IsPost, IsPre, IsRelease, IsSegment, IsSegments, IsVersion, bare, before, dashed, dev, epoch, last, last_segment, no_dev, no_epoch, no_local, no_post, no_pre, numeric, plus, post, pre, plain, segment_before, starred, textual, version, written}
 use Rattle.pep440_version.specs.Reading.{star_at, version_at}
 use Rattle.pep440_version.specs.Valid.{Fits, FitsIfSome, IsValid, PrereleaseFits, SegmentIsValid}
 use Rattle.pep440_version.proofs.Patterns.{star-sound}

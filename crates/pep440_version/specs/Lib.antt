@@ -5,6 +5,7 @@ pub mod Order
 pub mod HashInput
 pub mod OrderLaws
 pub mod Text
+pub mod Message
 pub mod Grammar
 pub mod Parse
 pub mod Reading

@@ -1,7 +1,8 @@
 //! What is wrong with a text that is no version, told in one line.
 
-ghost use Rattle.std.specs.Prelude.{◌≡◌, IfOk, string_bytes};
+ghost use Rattle.std.specs.Prelude.{◌≡◌, IfOk, Some, drop, string_bytes};
 ghost use Rattle.std.specs.Str.{IsCharBoundary};
+ghost use Rattle.pep440_version.specs.Message.{error_text, expected_text, found_in};
 
 use std::alloc::{AllocError, Global};
 use std::error::Error;
@@ -23,6 +24,8 @@ pub enum Expected {
 }
 
 impl fmt::Display for Expected {
+    ghost output = { λ expected. Some (expected_text expected) };
+
     fn fmt<W: fmt::Write>(&self, f: &mut fmt::Formatter<W>) -> fmt::Result {
         f.write_str(match self {
             Expected::ReleaseNumber => "a release number",
@@ -84,7 +87,9 @@ impl VersionParseError {
     }
 
     // What stands at the fault, None where nothing but white space follows.
-    fn found(&self) -> Option<char> {
+    fn found(&self) -> Option<char>
+        ensures { result ≡ found_in (drop self.now.offset (string_bytes self.now.text)) }
+    {
         let rest = &self.text.as_str()[self.offset..];
         if rest.trim().is_empty() {
             return None;
@@ -94,6 +99,8 @@ impl VersionParseError {
 }
 
 impl fmt::Display for VersionParseError {
+    ghost output = { λ error. error_text error.expected (string_bytes error.text) error.offset };
+
     fn fmt<W: fmt::Write>(&self, f: &mut fmt::Formatter<W>) -> fmt::Result {
         let (expected, offset, text) = (self.expected, self.offset, self.text.as_str());
         match self.found() {

@@ -27,7 +27,8 @@ impl Serialize for Version {
     }
 }
 
-/// Reads a text that is a version, as `Version::parse` does. The error tells what was expected and where.
+/// Reads a text that is a version, as `Version::parse` does. The error tells want of memory, or what was expected and
+/// where.
 impl DeserializeOwned for Version {
     fn deserialize_owned<F: Format>(
         alloc: Global,
@@ -38,9 +39,10 @@ impl DeserializeOwned for Version {
         let text = from.string(alloc)?;
         match Version::parse(alloc, text.as_str()) {
             Ok(version) => Ok(version),
+            Err(Refusal::OutOfMemory) => Err(from.no_memory()),
             Err(refusal) => match refusal.to_string(alloc) {
                 Ok(message) => Err(from.custom(message.as_str())),
-                Err(_) => Err(from.custom("Out of memory")),
+                Err(_) => Err(from.no_memory()),
             },
         }
     }

@@ -1,11 +1,11 @@
 pub mod BoundLaws
 pub mod Collected
+pub mod Combines
 pub mod EachPiece
 pub mod Elsewhere
 pub mod EqualLaws
 pub mod Gathers
 pub mod IntervalLaws
-pub mod MapLaws
 pub mod Merges
 pub mod PairSteps
 pub mod PartLaws

@@ -9,3 +9,4 @@ pub mod Point
 pub mod Ranges
 pub mod Steps
 pub mod Sweep
+pub mod Taken

@@ -98,31 +98,6 @@ impl<T: Ord + Drop, V: Drop> Cuts<T, V> {
     }
 }
 
-impl<T: Ord + Drop, V: Copy> Cuts<T, V> {
-    ghost use Rattle.std.specs.Prelude.{IfOk, ◌≡◌, Bool, true};
-    ghost use Rattle.version_ranges.specs.Bounds.{all_cuts};
-    ghost use Rattle.version_ranges.specs.Point.{Point};
-    ghost use Rattle.version_ranges.specs.Cuts.{value_of, IsMerged};
-
-    // The function with what f makes of each value, where neighbors with equal values are joined.
-    pub(crate) fn map_values<W: Eq + Drop, F: Fn(V) -> W + Drop>(
-        self,
-        f: F,
-    ) -> Result<Cuts<T, W>, AllocError>
-        requires { F.IsAlwaysCallable f }
-        ensures value { IfOk result (λ r. (g : V → W) → ((v : V) (w : W) → F.post f v w → w ≡ g v) → (p : Point T) → W.eq (value_of T.cmp r p) (g (value_of T.cmp self p)) ≡ true) }
-        ensures merged { IfOk result (IsMerged W.eq) }
-        ensures bounds { IfOk result (λ r. (test : T → Bool) → all_cuts test self ≡ true → all_cuts test r ≡ true) }
-    {
-        let mut values = Vec::with_capacity(*self.rest.allocator(), self.piece_count())?;
-        values.push(f(self.first))?;
-        for step in &self.rest {
-            values.push(f(step.1))?;
-        }
-        self.with_values(values)
-    }
-}
-
 // The value after all cuts.
 pub(crate) fn last_of<'a, T, V>(first: &'a V, rest: &'a [(Cut<T>, V)]) -> &'a V
     ensures { result.now ≡ last_value first.now rest.now }

@@ -6,6 +6,7 @@
 //! where they have the same points, over every order, dense or not. Values that the order ties stand at one point.
 #![tactic(auto)]
 
+mod combine;
 mod cut;
 mod cuts;
 mod equality;

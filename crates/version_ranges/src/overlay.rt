@@ -11,16 +11,16 @@ use std::cmp::Ordering;
 // The next cut of two functions side by side, the values from it on, what is left of both, and how many cuts were
 // compared to tell.
 #[derive(Drop)]
-struct Turn<'a, T, V, W> {
-    cut: &'a Cut<T>,
-    left: &'a V,
-    right: &'a W,
-    lefts: &'a [(Cut<T>, V)],
-    rights: &'a [(Cut<T>, W)],
+pub(crate) struct Turn<'a, T, V, W> {
+    pub(crate) cut: &'a Cut<T>,
+    pub(crate) left: &'a V,
+    pub(crate) right: &'a W,
+    pub(crate) lefts: &'a [(Cut<T>, V)],
+    pub(crate) rights: &'a [(Cut<T>, W)],
     comparisons: usize,
 }
 
-fn next_turn<'a, T: Ord, V, W>(
+pub(crate) fn next_turn<'a, T: Ord, V, W>(
     left: &'a V,
     lefts: &'a [(Cut<T>, V)],
     right: &'a W,

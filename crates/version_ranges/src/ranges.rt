@@ -5,6 +5,7 @@ ghost use Rattle.version_ranges.specs.Cut.{lower_of, upper_of};
 ghost use mathlib.Core.Bool.{beq};
 ghost use Rattle.version_ranges.specs.Cuts.{IsMerged};
 
+use crate::combine::Taken;
 use crate::cut::Cut;
 use crate::cuts::Cuts;
 use std::alloc::{AllocError, Global};
@@ -230,7 +231,7 @@ impl<T: Ord + Clone> Ranges<T> {
         ensures set { IfOk result (λ r. (p : Point T) → contains_point T.cmp r p ≡ (contains_point T.cmp self.now p || contains_point T.cmp other.now p)) }
         ensures bounds { IfOk result (λ r. (test : T → Bool) → IsKeptByClones T.is_clone test → all_bounds test self.now ≡ true → all_bounds test other.now ≡ true → all_bounds test r ≡ true) }
     {
-        self.combined(alloc, other, |sides| sides.0 || sides.1)
+        self.combined(alloc, other, Taken::InEither)
     }
 
     /// The points that are in both of two sets.
@@ -239,7 +240,7 @@ impl<T: Ord + Clone> Ranges<T> {
         ensures set { IfOk result (λ r. (p : Point T) → contains_point T.cmp r p ≡ (contains_point T.cmp self.now p && contains_point T.cmp other.now p)) }
         ensures bounds { IfOk result (λ r. (test : T → Bool) → IsKeptByClones T.is_clone test → all_bounds test self.now ≡ true → all_bounds test other.now ≡ true → all_bounds test r ≡ true) }
     {
-        self.combined(alloc, other, |sides| sides.0 && sides.1)
+        self.combined(alloc, other, Taken::InBoth)
     }
 
     /// The points that are not in the set.
@@ -248,25 +249,7 @@ impl<T: Ord + Clone> Ranges<T> {
         ensures set { IfOk result (λ r. (p : Point T) → contains_point T.cmp r p ≡ not (contains_point T.cmp self.now p)) }
         ensures bounds { IfOk result (λ r. (test : T → Bool) → IsKeptByClones T.is_clone test → all_bounds test self.now ≡ true → all_bounds test r ≡ true) }
     {
-        self.combined(alloc, &Ranges::full(alloc), |sides| !sides.0)
-    }
-
-    // The points of which f holds, by whether they are in either set.
-    fn combined<F: Fn((bool, bool)) -> bool + Drop>(
-        &self,
-        alloc: Global,
-        other: &Self,
-        f: F,
-    ) -> Result<Self, AllocError>
-        requires callable { F.IsAlwaysCallable f }
-        requires clones { ClonesAreEqual T.eq T.is_clone }
-        ensures set { IfOk result (λ r. (g : Bool × Bool → Bool) → ((v : Bool × Bool) (w : Bool) → F.post f v w → w ≡ g v) → (p : Point T) → contains_point T.cmp r p ≡ g (contains_point T.cmp self.now p, contains_point T.cmp other.now p)) }
-        ensures bounds { IfOk result (λ r. (test : T → Bool) → IsKeptByClones T.is_clone test → all_bounds test self.now ≡ true → all_bounds test other.now ≡ true → all_bounds test r ≡ true) }
-    {
-        let (sides, _) = self.cuts.overlay(alloc, &other.cuts)?;
-        Ok(Ranges {
-            cuts: sides.map_values(f)?,
-        })
+        self.combined(alloc, &Ranges::full(alloc), Taken::InOne)
     }
 }
 

@@ -19,7 +19,11 @@ struct Marked {
 impl Clone for Marked {
     ghost is_clone = { λ a b. eq_by_cmp (on (λ m. m.number) nat_cmp) a b ≡ true };
 
+    // One with the mark 0 is never cloned.
     fn clone(&self) -> Result<Marked, AllocError> {
+        if self.mark == 0 {
+            return Err(AllocError);
+        }
         Ok(Marked {
             number: self.number,
             mark: self.mark,
@@ -235,6 +239,18 @@ fn values_that_tie_are_one_point(rt: HostRuntime) -> Result<(), Fail> {
     let (both, _) = sevens.overlay(alloc, &eights)?;
     assert_eq!(rt; both.piece_count(), 3);
     assert!(rt; *both.at(&with_mark(1, 9)) == (7, 8) && *both.at(&with_mark(2, 9)) == (0, 0));
+    Ok(())
+}
+
+#[test]
+fn cuts_that_are_not_kept_are_not_cloned(rt: HostRuntime) -> Result<(), Fail> {
+    let alloc = rt.alloc();
+    let low = Ranges::lower_than(alloc, with_mark(1, 0))?;
+    let high = Ranges::strictly_higher_than(alloc, with_mark(1, 0))?;
+    let higher = Ranges::higher_than(alloc, with_mark(2, 0))?;
+    assert!(rt; low.union(alloc, &high)? == Ranges::full(alloc));
+    assert!(rt; low.intersection(alloc, &higher)?.is_empty());
+    assert!(rt; low.union(alloc, &higher).is_err() && low.complement(alloc).is_err());
     Ok(())
 }
 

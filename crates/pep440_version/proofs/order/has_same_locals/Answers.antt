@@ -1,4 +1,4 @@
-use Rattle.std.proofs.Common.{ap, sym, ◌∙◌, map}
+use Rattle.std.proofs.Common.{map}
 use Rattle.pep440_version.specs.OrderLaws.{same_locals}
 use Rattle.pep440_version.specs.View.{segment_of}
 use Rattle.pep440_version.proofs.order.has_same_locals.Goals as goal

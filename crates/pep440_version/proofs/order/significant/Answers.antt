@@ -1,4 +1,4 @@
-use Rattle.std.proofs.Common.{◌≡◌, ◌==◌, ◌-◌, ◌∙◌, sym, arith, rules, get_or, false}
+use Rattle.std.proofs.Common.{◌∙◌, sym, arith, rules}
 use Rattle.pep440_version.proofs.Padded.{significant-drop, significant-none, significant-stop}
 use Rattle.pep440_version.proofs.order.significant.Goals as goal
 use Rattle.pep440_version.proofs.order.significant.Goals.{then-zeros-test+else-release-len-eq0, else-zeros-test}

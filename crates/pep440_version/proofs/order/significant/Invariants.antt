@@ -1,4 +1,4 @@
-use Rattle.std.proofs.Common.{◌≡◌, ◌≤◌, ℕ, length, take}
+use Rattle.std.proofs.Common.{◌≡◌, ◌≤◌, length, take}
 use Rattle.pep440_version.specs.Order.{significant}
 use Rattle.pep440_version.proofs.order.significant.Given as goal
 

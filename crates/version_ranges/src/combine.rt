@@ -1,0 +1,73 @@
+//! Two sets taken together.
+ghost use Rattle.std.specs.Prelude.{◌≡◌};
+ghost use Rattle.version_ranges.specs.Taken.{takes};
+
+use crate::cut::Cut;
+use crate::cuts::Cuts;
+use crate::overlay::next_turn;
+use crate::ranges::Ranges;
+use std::alloc::{AllocError, Global};
+
+/// Which points of two sets are taken: those in one set at least, in both sets, or in one set alone.
+#[derive(Clone, Copy)]
+pub(crate) enum Taken {
+    InEither,
+    InBoth,
+    InOne,
+}
+
+impl Taken {
+    // Whether a point is taken that is in the left set, in the right set.
+    fn takes(self, left: bool, right: bool) -> bool
+        ensures { result ≡ takes self (left, right) }
+    {
+        match self {
+            Taken::InEither => left || right,
+            Taken::InBoth => left && right,
+            Taken::InOne => left != right,
+        }
+    }
+}
+
+impl<T: Ord + Clone> Ranges<T> {
+    ghost use Rattle.std.specs.Prelude.{Bool, true, IfOk};
+    ghost use Rattle.std.specs.Set.{ClonesAreEqual};
+    ghost use Rattle.version_ranges.specs.Bounds.{IsKeptByClones, all_bounds};
+    ghost use Rattle.version_ranges.specs.Point.{Point};
+    ghost use Rattle.version_ranges.specs.Ranges.{contains_point};
+
+    // The points of two sets that are taken. A cut is cloned only where the taken points begin or end.
+    pub(crate) fn combined(
+        &self,
+        alloc: Global,
+        other: &Self,
+        taken: Taken,
+    ) -> Result<Self, AllocError>
+        requires clones { ClonesAreEqual T.eq T.is_clone }
+        ensures set { IfOk result (λ r. (p : Point T) → contains_point T.cmp r p ≡ takes taken (contains_point T.cmp self.now p, contains_point T.cmp other.now p)) }
+        ensures bounds { IfOk result (λ r. (test : T → Bool) → IsKeptByClones T.is_clone test → all_bounds test self.now ≡ true → all_bounds test other.now ≡ true → all_bounds test r ≡ true) }
+    {
+        let mut left = &self.cuts.first;
+        let mut right = &other.cuts.first;
+        let mut lefts: &[(Cut<T>, bool)] = &self.cuts.rest;
+        let mut rights: &[(Cut<T>, bool)] = &other.cuts.rest;
+        let most = lefts.len().checked_add(rights.len()).ok_or(AllocError)?;
+        let mut rest = Vec::with_capacity(alloc, most)?;
+        let first = taken.takes(*left, *right);
+        let mut inside = first;
+        while let Some(turn) = next_turn(left, lefts, right, rights) {
+            left = turn.left;
+            right = turn.right;
+            lefts = turn.lefts;
+            rights = turn.rights;
+            let next = taken.takes(*left, *right);
+            if next != inside {
+                rest.push((turn.cut.clone()?, next))?;
+                inside = next;
+            }
+        }
+        Ok(Ranges {
+            cuts: Cuts { first, rest },
+        })
+    }
+}
