@@ -1,8 +1,8 @@
 -- What the values of an environment say.
-use Rattle.std.proofs.Common.{◌≡◌, ◌≢◌, ℕ, List, Err, Result, Ok, string_bytes, IfErr, refl, ◌∙◌}
+use Rattle.std.proofs.Common.{◌≡◌, ◌≢◌, ℕ, List, string_bytes, refl}
 use Rattle.refusal.specs.declared.Refusal.{Refusal}
 use Rattle.refusal.specs.declared.Refusal.TheVariants.{OutOfMemory, SegmentAtEnd, Fault}
-use Rattle.version_ranges.specs.Point.{Point, at}
+use Rattle.version_ranges.specs.Point.{at}
 use Rattle.pep440_version.specs.Parts.{Parts}
 use Rattle.marker_words.specs.declared.key.VersionVariable.{VersionVariable}
 use Rattle.marker_words.specs.declared.key.VersionVariable.TheVariants as variables

@@ -1,2 +1,3 @@
 mod SubstringLaws
 mod EnvironmentLaws
+mod EqualEnvironments

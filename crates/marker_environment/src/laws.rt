@@ -3,9 +3,14 @@
 ghost use Rattle.std.specs.Prelude.{◌≡◌, ◌↔◌, ℕ, List, true};
 ghost use Rattle.std.specs.Str.Iter.{HasSubslice};
 ghost use Rattle.marker_words.specs.declared.key.MarkerValueVersion.TheVariants.{PythonVersion};
-ghost use Rattle.marker_environment.specs.Written.{Written};
+ghost use Rattle.marker_environment.specs.Written.{Written, written};
 ghost use Rattle.marker_environment.specs.Substring.{is_part_of};
-ghost use Rattle.marker_environment.specs.Environment.{Values, HasSameValues, SetsVersion, valuation_of};
+ghost use Rattle.marker_environment.specs.Environment.{Values, HasSameValues, SetsVersion, valuation_of, values_of};
+ghost use Rattle.marker_environment.specs.declared.environment.MarkerEnvironment.{MarkerEnvironment};
+ghost use Rattle.marker_environment.specs.declared.string_version.StringVersion.{StringVersion};
+
+use crate::environment::MarkerEnvironment;
+use crate::string_version::StringVersion;
 
 /// A text is a part of another where that is a front, the text and a back.
 pub fn a_part_stands_between_a_front_and_a_back()
@@ -20,4 +25,14 @@ pub fn python_version_is_not_read()
 /// Values that are the same key by key are the same.
 pub fn values_are_what_the_keys_show()
     ensures { (v w : Values) → HasSameValues v w → v ≡ w }
+{}
+
+/// Versions with the same text that say the same are equal.
+pub fn same_written_versions_are_equal()
+    ensures { (v w : StringVersion) → written v ≡ written w → ⟦<StringVersion as PartialEq>⟧.eq v w ≡ true }
+{}
+
+/// Environments whose values are the same key by key are equal.
+pub fn same_values_make_equal_environments()
+    ensures { (e f : MarkerEnvironment) → HasSameValues (values_of e) (values_of f) → ⟦<MarkerEnvironment as PartialEq>⟧.eq e f ≡ true }
 {}

@@ -85,7 +85,8 @@ impl Serialize for StringVersion {
     }
 }
 
-/// Reads a text that is a version, as `StringVersion::parse` does. The error tells what was expected and where.
+/// Reads a text that is a version, as `StringVersion::parse` does. The error tells want of memory, or what was expected
+/// and where.
 impl DeserializeOwned for StringVersion {
     fn deserialize_owned<F: Format>(
         alloc: Global,
@@ -96,6 +97,7 @@ impl DeserializeOwned for StringVersion {
         let text = from.string(alloc)?;
         match StringVersion::parse(alloc, text.as_str()) {
             Ok(version) => Ok(version),
+            Err(Refusal::OutOfMemory) => Err(from.no_memory()),
             Err(refusal) => match refusal.to_string(alloc) {
                 Ok(message) => Err(from.custom(message.as_str())),
                 Err(_) => Err(from.no_memory()),

@@ -20,8 +20,8 @@ pub use extra::MarkerValueExtra;
 pub use marker_environment::{MarkerEnvironment, MarkerEnvironmentBuilder, StringVersion};
 pub use marker_warnings::{MarkerWarningKind, ReportTo, Reporter, TracingReporter};
 pub use marker_words::{
-    ExtraOperator, Fault, FaultKind, MarkerOperator, MarkerValueString, MarkerValueVersion,
-    TextVariable, VersionVariable,
+    ExtraOperator, Fault, FaultKind, MarkerOperator, MarkerOperatorBounds, MarkerValue,
+    MarkerValueString, MarkerValueVersion, TextVariable, VersionVariable,
 };
 pub use pep440_rs::{Version, VersionSpecifier};
 pub use pep508_errors::{Pep508Error, Pep508ErrorSource, Pep508Url, Surroundings};

@@ -45,7 +45,13 @@ impl<F: FnMut(MarkerWarningKind, String) -> Result<(), AllocError>> Reporter for
 
     ghost can_report = { λ reporter. F.IsAlwaysCallable reporter.0 };
 
-    fn report(&mut self, kind: MarkerWarningKind, warning: String) -> Result<(), AllocError> {
+    fn report(&mut self, kind: MarkerWarningKind, warning: String) -> Result<(), AllocError>
+        requires { F.IsAlwaysCallable self.old.0 }
+        ensures again { F.IsAlwaysCallable self.new.0 }
+
+        // The function is called once, with the warning, and its answer is the answer.
+        ensures told { F.step self.old.0 kind warning result self.new.0 }
+    {
         (self.0)(kind, warning)
     }
 }
