@@ -1,39 +1,76 @@
 -- What a line asks is one thing: the line's first word tells the form.
-use Rattle.std.proofs.Common.{◌≡◌, ◌≢◌, ℕ, List, [], ◌∷◌, refl, sym, ap, ◌∙◌, subst, arith, get_or, Result, Ok, Err}
+use Rattle.std.proofs.Common.{◌≡◌, ◌≢◌, ℕ, Bool, true, false, nat_eq, List, [], ◌∷◌, refl, sym, ap, ◌∙◌, subst, get_or, Result, Ok, Err}
 use Rattle.std.specs.Result.{IfOk}
-use Rattle.marker_lines.specs.declared.line.LineCommand.{LineCommand}
-use Rattle.marker_lines.specs.LineView.{request_of}
-use Rattle.std.specs.Prelude.{codes}
+use Rattle.std.specs.Prelude.{◌&&◌, not, if◌then◌else◌}
 use Rattle.std.specs.Str.Parse.{IsNumeral}
+use Rattle.std.proofs.lemmas.Bool.{eq-eqb, false≢true}
 use Rattle.std.proofs.lemmas.List.Elements.{All-nil, All-cons}
-use Rattle.marker_lines.specs.Line.{HasNoSpace, spaced, Words, cell_number, Request, set, parse, evaluate, Asks, env_line, parse_line, eval_line}
-use Rattle.marker_lines.proofs.WordLaws.{spaced_has, spaced_same, words_same, first_same, others_same}
+use Rattle.marker_session.specs.Machine as Machine
+use Rattle.marker_lines.specs.declared.line.LineCommand.{LineCommand}
+use Rattle.marker_lines.specs.declared.word.Word.{Word}
+use Rattle.marker_lines.specs.declared.word.Word.TheVariants.{Env, Parse, Not, And, Or, Equal, Disjoint, Eval}
+use Rattle.marker_lines.specs.LineView.{request_of}
+use Rattle.marker_lines.specs.Line.{HasNoSpace, spaced, Words, cell_number, OneCell, TwoCells, Request, set, run, evaluate, word_text, Takes, key_and_value, marker, negated, both, either, compared, parted, cell_and_names, Asks}
+use Rattle.marker_lines.proofs.WordLaws.{spaced_has, spaced_same, words_same, first_same, others_same, numeral_no_space}
 
--- the command words have no space
-env_word : HasNoSpace (codes "env")
-env_word =
-    let P : ℕ → Type 0 = λ b. b ≢ 32 in
-    All-cons P 101 (110 ∷ 118 ∷ []) (λ e. omega arith) (All-cons P 110 (118 ∷ []) (λ e. omega arith) (All-cons P 118 [] (λ e. omega arith) (All-nil P)))
+-- the words of lines have no space
+abbrev has_no_space : List ℕ → Bool
+has_no_space [] = true
+has_no_space (b ∷ bytes) = not (nat_eq b 32) && has_no_space bytes
 
-parse_word : HasNoSpace (codes "parse")
-parse_word =
-    let P : ℕ → Type 0 = λ b. b ≢ 32 in
-    All-cons P 112 (97 ∷ 114 ∷ 115 ∷ 101 ∷ []) (λ e. omega arith) (All-cons P 97 (114 ∷ 115 ∷ 101 ∷ []) (λ e. omega arith) (All-cons P 114 (115 ∷ 101 ∷ []) (λ e. omega arith) (All-cons P 115 (101 ∷ []) (λ e. omega arith) (All-cons P 101 [] (λ e. omega arith) (All-nil P)))))
+other_byte : (b : ℕ) (space rest : Bool) → nat_eq b 32 ≡ space → (not space && rest) ≡ true → (b ≢ 32) × (rest ≡ true)
+other_byte b true rest e h = absurd cc
+other_byte b false rest e h = ((λ p. false≢true (sym e ∙ eq-eqb b 32 p)), h)
 
-eval_word : HasNoSpace (codes "eval")
-eval_word =
-    let P : ℕ → Type 0 = λ b. b ≢ 32 in
-    All-cons P 101 (118 ∷ 97 ∷ 108 ∷ []) (λ e. omega arith) (All-cons P 118 (97 ∷ 108 ∷ []) (λ e. omega arith) (All-cons P 97 (108 ∷ []) (λ e. omega arith) (All-cons P 108 [] (λ e. omega arith) (All-nil P))))
+no_space_from : (bytes : List ℕ) → has_no_space bytes ≡ true → HasNoSpace bytes
+no_space_from [] h = All-nil (λ b. b ≢ 32)
+no_space_from (b ∷ bytes) h = let s = other_byte b (nat_eq b 32) (has_no_space bytes) refl h in All-cons (λ x. x ≢ 32) b bytes s.0 (no_space_from bytes s.1)
 
--- and differ
-env_parse : codes "env" ≡ codes "parse" → ⊥
-env_parse e = let h : ◌≡◌ {A = ℕ} 101 112 = ap (λ (x : List ℕ). get_or x 0 0) e in omega arith
+pub word_has_no_space : (word : Word) → HasNoSpace (word_text word)
+word_has_no_space Env = no_space_from (word_text Env) refl
+word_has_no_space Parse = no_space_from (word_text Parse) refl
+word_has_no_space Not = no_space_from (word_text Not) refl
+word_has_no_space And = no_space_from (word_text And) refl
+word_has_no_space Or = no_space_from (word_text Or) refl
+word_has_no_space Equal = no_space_from (word_text Equal) refl
+word_has_no_space Disjoint = no_space_from (word_text Disjoint) refl
+word_has_no_space Eval = no_space_from (word_text Eval) refl
 
-env_eval : codes "env" ≡ codes "eval" → ⊥
-env_eval e = let h : ◌≡◌ {A = ℕ} 110 118 = ap (λ (x : List ℕ). get_or x 1 0) e in omega arith
+-- and differ in their first two letters
+abbrev by_letters : ℕ → ℕ → Word
+by_letters first second =
+    if nat_eq first 112 then Parse else if nat_eq first 110 then Not else if nat_eq first 97 then And else if nat_eq first 111 then Or else if nat_eq first 100 then Disjoint
+    else if nat_eq second 118 then Eval else if nat_eq second 113 then Equal else Env
 
-parse_eval : codes "parse" ≡ codes "eval" → ⊥
-parse_eval e = let h : ◌≡◌ {A = ℕ} 112 101 = ap (λ (x : List ℕ). get_or x 0 0) e in omega arith
+abbrev word_of : List ℕ → Word
+word_of text = by_letters (get_or text 0 0) (get_or text 1 0)
+
+read_back : (word : Word) → word_of (word_text word) ≡ word
+read_back Env = refl
+read_back Parse = refl
+read_back Not = refl
+read_back And = refl
+read_back Or = refl
+read_back Equal = refl
+read_back Disjoint = refl
+read_back Eval = refl
+
+same_word : (word other : Word) → word_text word ≡ word_text other → word ≡ other
+same_word word other e = sym (read_back word) ∙ ap word_of e ∙ read_back other
+
+-- what is read in one way
+one_same : {text : List ℕ} {a b : ℕ} → OneCell text a → OneCell text b → a ≡ b
+one_same p q = p.number ∙ sym q.number
+
+cells_split : {text : List ℕ} {a b c d : ℕ} (p : TwoCells text a b) (q : TwoCells text c d) → (p.first ≡ q.first) × (p.second ≡ q.second)
+cells_split p q = spaced_same p.first q.first p.second q.second (numeral_no_space p.first p.is_left.digits) (numeral_no_space q.first q.is_left.digits) (sym p.parts ∙ q.parts)
+
+two_same : {text : List ℕ} {a b c d : ℕ} (f : ℕ → ℕ → Machine.Request) → TwoCells text a b → TwoCells text c d → run (f c d) ≡ run (f a b)
+two_same {a = a} {b = b} {c = c} {d = d} f p q =
+    let s = cells_split p q in
+    let left : c ≡ a = q.is_left.number ∙ ap cell_number (sym s.0) ∙ sym p.is_left.number in
+    let right : d ≡ b = q.is_right.number ∙ ap cell_number (sym s.1) ∙ sym p.is_right.number in
+    λ i. run (f (left i) (right i))
 
 set_same : {key value key' value' : List ℕ} → key ≡ key' → value ≡ value' → set key value ≡ set key' value'
 set_same p q = cc
@@ -42,88 +79,79 @@ evaluate_same : {cell cell' : List ℕ} {names names' : List (List ℕ)} → cel
 evaluate_same {cell} {cell'} {names} {names'} e =
     ap (λ (x : ℕ). evaluate x names) (ap cell_number (first_same e)) ∙ ap (λ (x : List (List ℕ)). evaluate (cell_number cell') x) (others_same e)
 
--- What a line may ask, given its first word and what follows it.
-pub data Asked (command rest : List ℕ) : Request → Type 0 where
-  env_asked : {key value : List ℕ} → command ≡ codes "env" → rest ≡ spaced key value → HasNoSpace key → Asked command rest (set key value)
-  parse_asked : command ≡ codes "parse" → Asked command rest (parse rest)
-  eval_asked : {cell : List ℕ} {names : List (List ℕ)} → command ≡ codes "eval" → Words rest (cell ∷ names) → IsNumeral 10 cell → Asked command rest (evaluate (cell_number cell) names)
-
-pub asked : {line : List ℕ} {request : Request} (command rest : List ℕ) → HasNoSpace command → line ≡ spaced command rest → Asks line request → Asked command rest request
-asked command rest h e (env_line {key = key} {value = value} parts no_space) =
-    let s = spaced_same command (codes "env") rest (spaced key value) h env_word (sym e ∙ parts) in
-    env_asked s.0 s.1 no_space
-asked command rest h e (parse_line {text = text} parts) =
-    let s = spaced_same command (codes "parse") rest text h parse_word (sym e ∙ parts) in
-    subst (λ (x : List ℕ). Asked command rest (parse x)) s.1 (parse_asked s.0)
-asked command rest h e (eval_line {arguments = arguments} {cell = cell} {names = names} parts words number) =
-    let s = spaced_same command (codes "eval") rest arguments h eval_word (sym e ∙ parts) in
-    eval_asked s.0 (subst (λ (x : List ℕ). Words x (cell ∷ names)) (sym s.1) words) number
+takes_same : {word : Word} {text : List ℕ} {a b : Request} → Takes word text a → Takes word text b → b ≡ a
+takes_same (key_and_value {key = key} {value = value} e h) (key_and_value {key = key'} {value = value'} e' h') = let s = spaced_same key' key value' value h' h (sym e' ∙ e) in set_same s.0 s.1
+takes_same marker marker = refl
+takes_same (negated p) (negated q) = ap (λ x. run (Machine.negation x)) (one_same q p)
+takes_same (both p) (both q) = two_same Machine.conjunction p q
+takes_same (either p) (either q) = two_same Machine.disjunction p q
+takes_same (compared p) (compared q) = two_same Machine.equal p q
+takes_same (parted p) (parted q) = two_same Machine.disjoint p q
+takes_same (cell_and_names w n) (cell_and_names w' n') = evaluate_same (words_same w' w)
 
 -- a line without a space asks nothing
 pub asks_spaced : {line : List ℕ} {request : Request} → HasNoSpace line → Asks line request → ⊥
-asks_spaced h (env_line {key = key} {value = value} parts no_space) = spaced_has (codes "env") (spaced key value) (subst HasNoSpace parts h)
-asks_spaced h (parse_line {text = text} parts) = spaced_has (codes "parse") text (subst HasNoSpace parts h)
-asks_spaced h (eval_line {arguments = arguments} parts words number) = spaced_has (codes "eval") arguments (subst HasNoSpace parts h)
+asks_spaced h a = spaced_has (word_text a.word) a.text (subst HasNoSpace a.parts h)
 
--- after the word `env`
-pub only_set : {rest key value command : List ℕ} {request : Request} → command ≡ codes "env" → rest ≡ spaced key value → HasNoSpace key → Asked command rest request → request ≡ set key value
-only_set {key = key} {value = value} c e h (env_asked {key = key'} {value = value'} c' e' h') =
-    let s = spaced_same key' key value' value h' h (sym e' ∙ e) in
-    set_same s.0 s.1
-only_set c e h (parse_asked c') = absurd (env_parse (sym c ∙ c'))
-only_set c e h (eval_asked c' w n) = absurd (env_eval (sym c ∙ c'))
+-- the first word, and what is behind it
+asked : {line : List ℕ} {request : Request} (first rest : List ℕ) → HasNoSpace first → line ≡ spaced first rest → (a : Asks line request) → (first ≡ word_text a.word) × (rest ≡ a.text)
+asked first rest h e a = spaced_same first (word_text a.word) rest a.text h (word_has_no_space a.word) (sym e ∙ a.parts)
 
-pub no_set : {rest command : List ℕ} {request : Request} → command ≡ codes "env" → ((key value : List ℕ) → rest ≡ spaced key value → ⊥) → Asked command rest request → ⊥
-no_set c none (env_asked {key = key} {value = value} c' e h) = none key value e
-no_set c none (parse_asked c') = env_parse (sym c ∙ c')
-no_set c none (eval_asked c' w n) = env_eval (sym c ∙ c')
+pub no_other : {line : List ℕ} {request : Request} (first rest : List ℕ) → HasNoSpace first → line ≡ spaced first rest → ((word : Word) → first ≢ word_text word) → Asks line request → ⊥
+no_other first rest h e none a = none a.word (asked first rest h e a).0
 
--- after the word `parse`
-pub only_parse : {rest command : List ℕ} {request : Request} → command ≡ codes "parse" → Asked command rest request → request ≡ parse rest
-only_parse c (env_asked c' e h) = absurd (env_parse (sym c' ∙ c))
-only_parse c (parse_asked c') = refl
-only_parse c (eval_asked c' w n) = absurd (parse_eval (sym c ∙ c'))
-
--- after the word `eval`
-pub only_evaluate : {rest command cell : List ℕ} {names : List (List ℕ)} {request : Request} → command ≡ codes "eval" → Words rest (cell ∷ names) → Asked command rest request → request ≡ evaluate (cell_number cell) names
-only_evaluate c w (env_asked c' e h) = absurd (env_eval (sym c' ∙ c))
-only_evaluate c w (parse_asked c') = absurd (parse_eval (sym c' ∙ c))
-only_evaluate c w (eval_asked c' w' n) = evaluate_same (words_same w' w)
-
-pub no_evaluate : {rest command : List ℕ} {request : Request} → command ≡ codes "eval" → ((cell : List ℕ) (names : List (List ℕ)) → Words rest (cell ∷ names) → IsNumeral 10 cell → ⊥) → Asked command rest request → ⊥
-no_evaluate c none (env_asked c' e h) = env_eval (sym c' ∙ c)
-no_evaluate c none (parse_asked c') = parse_eval (sym c' ∙ c)
-no_evaluate c none (eval_asked {cell = cell} {names = names} c' w n) = none cell names w n
-
--- after any other word
-no_other_asked : {rest command : List ℕ} {request : Request} → command ≢ codes "env" → command ≢ codes "parse" → command ≢ codes "eval" → Asked command rest request → ⊥
-no_other_asked e p v (env_asked c r n) = e c
-no_other_asked e p v (parse_asked c) = p c
-no_other_asked e p v (eval_asked c w n) = v c
-
-pub no_other : {line : List ℕ} {request : Request} (command rest : List ℕ) → HasNoSpace command → line ≡ spaced command rest → command ≢ codes "env" → command ≢ codes "parse" → command ≢ codes "eval" → Asks line request → ⊥
-no_other command rest h parts e p v asks = no_other_asked e p v (asked command rest h parts asks)
+pub asks_behind : {line : List ℕ} {request : Request} (word : Word) (rest : List ℕ) → line ≡ spaced (word_text word) rest → Asks line request → Takes word rest request
+asks_behind {request = request} word rest e a =
+    let s = asked (word_text word) rest (word_has_no_space word) e a in
+    subst (λ (x : Word). Takes x rest request) (sym (same_word word a.word s.0)) (subst (λ (x : List ℕ). Takes a.word x request) (sym s.1) a.takes)
 
 -- A line asks one thing.
-pub asks_same : {line : List ℕ} {a b : Request} → Asks line a → Asks line b → b ≡ a
-asks_same (env_line {key = key} {value = value} parts h) b = only_set refl refl h (asked (codes "env") (spaced key value) env_word parts b)
-asks_same (parse_line {text = text} parts) b = only_parse refl (asked (codes "parse") text parse_word parts b)
-asks_same (eval_line {arguments = arguments} parts w n) b = only_evaluate refl w (asked (codes "eval") arguments eval_word parts b)
+asks_same : {line : List ℕ} {a b : Request} → Asks line a → Asks line b → b ≡ a
+asks_same p q = takes_same p.takes (asks_behind p.word p.text p.parts q)
+
+pub asks_from : {E : Type 0} (line : List ℕ) (word : Word) (rest : List ℕ) (r : Result LineCommand E) → line ≡ spaced (word_text word) rest → IfOk r (λ command. Takes word rest (request_of command)) → IfOk r (λ command. Asks line (request_of command))
+asks_from line word rest (Ok command) e t = record { word = word; text = rest; parts = e; takes = t }
+asks_from line word rest (Err x) e t = tt
 
 pub asks_only : {E : Type 0} (line : List ℕ) (r : Result LineCommand E) → IfOk r (λ command. Asks line (request_of command)) → IfOk r (λ command. (request : Request) → Asks line request → request ≡ request_of command)
 asks_only line (Ok command) a = λ request b. asks_same a b
 asks_only line (Err e) a = tt
 
--- what follows `env`
-pub set_asks : {rest key value : List ℕ} → HasNoSpace key → rest ≡ spaced key value → Asks (spaced (codes "env") rest) (set key value)
-set_asks h e = env_line (ap (λ (x : List ℕ). spaced (codes "env") x) e) h
+-- texts behind a word that ask nothing
+pub no_key : {text : List ℕ} {request : Request} → HasNoSpace text → Takes Env text request → ⊥
+no_key h (key_and_value {key = key} {value = value} e k) = spaced_has key value (subst HasNoSpace e h)
 
-pub set_refused : {rest : List ℕ} → HasNoSpace rest → (request : Request) → Asks (spaced (codes "env") rest) request → ⊥
-set_refused {rest} h request asks = no_set refl (λ key value e. spaced_has key value (subst HasNoSpace e h)) (asked (codes "env") rest env_word refl asks)
+pub no_cell : {text : List ℕ} {request : Request} → (IsNumeral 10 text → ⊥) → Takes Not text request → ⊥
+no_cell none (negated p) = none p.digits
 
--- what follows `eval`
-pub evaluate_refused : {rest : List ℕ} → ((cell : List ℕ) (names : List (List ℕ)) → Words rest (cell ∷ names) → IsNumeral 10 cell → ⊥) → (request : Request) → Asks (spaced (codes "eval") rest) request → ⊥
-evaluate_refused {rest} none request asks = no_evaluate refl none (asked (codes "eval") rest eval_word refl asks)
+pub not_both : {text : List ℕ} {request : Request} → ((left right : ℕ) → TwoCells text left right → ⊥) → Takes And text request → ⊥
+not_both none (both p) = none _ _ p
 
-pub evaluate_asks : {rest cell : List ℕ} {names : List (List ℕ)} (number : ℕ) → Words rest (cell ∷ names) → IsNumeral 10 cell → number ≡ cell_number cell → Asks (spaced (codes "eval") rest) (evaluate number names)
-evaluate_asks {rest} {names = names} number w n e = subst (λ (x : ℕ). Asks (spaced (codes "eval") rest) (evaluate x names)) (sym e) (eval_line refl w n)
+pub not_either : {text : List ℕ} {request : Request} → ((left right : ℕ) → TwoCells text left right → ⊥) → Takes Or text request → ⊥
+not_either none (either p) = none _ _ p
+
+pub not_compared : {text : List ℕ} {request : Request} → ((left right : ℕ) → TwoCells text left right → ⊥) → Takes Equal text request → ⊥
+not_compared none (compared p) = none _ _ p
+
+pub not_parted : {text : List ℕ} {request : Request} → ((left right : ℕ) → TwoCells text left right → ⊥) → Takes Disjoint text request → ⊥
+not_parted none (parted p) = none _ _ p
+
+pub no_names : {text : List ℕ} {request : Request} → ((cell : List ℕ) (names : List (List ℕ)) → Words text (cell ∷ names) → IsNumeral 10 cell → ⊥) → Takes Eval text request → ⊥
+no_names none (cell_and_names w n) = none _ _ w n
+
+pub takes_names : {text cell : List ℕ} {names : List (List ℕ)} (number : ℕ) → Words text (cell ∷ names) → IsNumeral 10 cell → number ≡ cell_number cell → Takes Eval text (evaluate number names)
+takes_names {text} {names = names} number w n e = subst (λ (x : ℕ). Takes Eval text (evaluate x names)) (sym e) (cell_and_names w n)
+
+-- two cells that are not there
+pub no_second : {text : List ℕ} {left right : ℕ} → HasNoSpace text → TwoCells text left right → ⊥
+no_second h p = spaced_has p.first p.second (subst HasNoSpace p.parts h)
+
+module _ {text : List ℕ} {left right : ℕ} (first second : List ℕ) (h : HasNoSpace first) (e : text ≡ spaced first second) (p : TwoCells text left right) where
+  here : (first ≡ p.first) × (second ≡ p.second)
+  here = spaced_same first p.first second p.second h (numeral_no_space p.first p.is_left.digits) (sym e ∙ p.parts)
+
+  pub first_digits : IsNumeral 10 first
+  first_digits = subst (IsNumeral 10) (sym here.0) p.is_left.digits
+
+  pub second_digits : IsNumeral 10 second
+  second_digits = subst (IsNumeral 10) (sym here.1) p.is_right.digits

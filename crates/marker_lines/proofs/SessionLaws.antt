@@ -1,11 +1,11 @@
 -- What a session of lines does: names, values, and what is served, told by the states that sessions stand for.
-use Rattle.std.proofs.Common.{◌≡◌, ◌≢◌, ℕ, codes, lit<, ◌<◌, ◌+◌, List, [], ◌∷◌, ◌++◌, Option, take, length, get_or, suc, zero, sym, ap, ◌∙◌, subst, refl, inl, Ok, Err, rules, arith}
+use Rattle.std.proofs.Common.{◌≡◌, ◌≢◌, ℕ, codes, lit<, ◌<◌, ◌+◌, List, [], ◌∷◌, ◌++◌, Option, take, length, get_or, suc, zero, sym, ◌∙◌, subst, refl, inl, Ok, Err, arith}
 use denote.Ref.{Bor}
-use Rattle.std.specs.Io.KnownBytes.{Appends, Consumes, IsAtEnd}
+use Rattle.std.specs.Io.KnownBytes.{Appends, Consumes}
 use Rattle.std.proofs.lemmas.List.{take_more}
 use Rattle.std.proofs.lemmas.List.Elements.{All-nil}
 use Rattle.pep440_version.specs.Grammar.{IsVersionText, IsNumber, no_mark, no_epoch, last, no_pre, no_post, no_dev, no_local, version}
-use Rattle.pep440_version.specs.Parts.{Parts, release_only}
+use Rattle.pep440_version.specs.Parts.{release_only}
 use Rattle.pep440_version.proofs.Complete.{version-again}
 use Rattle.pep440_version.proofs.Sound.{some-value}
 use Rattle.pep440_version.proofs.ReadBack.{version-text}
@@ -14,12 +14,12 @@ use Rattle.marker_words.specs.declared.key.MarkerValueVersion.{MarkerValueVersio
 use Rattle.pep508_names.specs.Name.{NormalizesTo, IsName}
 use Rattle.marker_environment.specs.Written.{Written, Says}
 use Rattle.marker_environment.specs.Environment.{Values, SetsText, SetsVersion}
-use Rattle.pep508_markers.specs.Machine as Machine
-use Rattle.pep508_markers.specs.Machine.{Cells, Answer, Step}
+use Rattle.marker_session.specs.Machine as Machine
+use Rattle.marker_session.specs.Machine.{Cells, Answer, Step}
 use Rattle.marker_lines.specs.declared.line_session.LineSession.{LineSession}
 use Rattle.marker_lines.specs.Line.{Request, evaluate}
 use Rattle.marker_lines.specs.Reply.{reply_text}
-use Rattle.marker_lines.specs.Lines.{Lines, WholeLines, LinesSoFar}
+use Rattle.marker_lines.specs.Lines.{LinesSoFar}
 use Rattle.marker_lines.specs.LineStep.{State, start, zero_version, Names, no_more, name, RequestStep, is_evaluated, LineStep}
 use Rattle.marker_lines.specs.LineView.{texts_of}
 use Rattle.marker_lines.specs.Serving.{Answers, AnswersBeginning}

@@ -30,6 +30,10 @@ numeral_from bytes h = (h.0, by_index.to bytes h.1)
 pub numeral_to : (bytes : List ℕ) → IsNumeral 10 bytes → (0 < length bytes) × EachIndex bytes (λ k. IsInRange 48 57 (slice_index bytes k))
 numeral_to bytes h = (h.0, by_index.from bytes h.1)
 
+-- a numeral has no space
+pub numeral_no_space : (word : List ℕ) → IsNumeral 10 word → HasNoSpace word
+numeral_no_space word n = All-from_get_or (λ (b : ℕ). b ≢ 32) word 0 (λ k h e. let r = by_index.from word n.1 k h in omega (arith, r.0, e))
+
 min_below : (n m : ℕ) → n < m → n ≡ min n (m - 1)
 min_below n m h = omega arith
 

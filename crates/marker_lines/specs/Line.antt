@@ -2,6 +2,9 @@
 -- without its line feed, as bytes.
 use Rattle.std.specs.Prelude.{◌≡◌, ◌≢◌, ℕ, ◌-◌, ◌^◌, min, List, [], ◌∷◌, ◌++◌, All, codes}
 use Rattle.std.specs.Str.Parse.{IsNumeral, digits_value}
+use Rattle.marker_session.specs.Machine as Machine
+use Rattle.marker_lines.specs.declared.word.Word.{Word}
+use Rattle.marker_lines.specs.declared.word.Word.TheVariants.{Env, Parse, Not, And, Or, Equal, Disjoint, Eval}
 
 -- a space, and what comes before and after it
 abbrev pub spaced : List ℕ → List ℕ → List ℕ
@@ -26,17 +29,54 @@ pub data Words : List ℕ → List (List ℕ) → Type 0 where
 abbrev pub cell_number : List ℕ → ℕ
 cell_number digits = min (digits_value 10 digits) (2 ^ 64 - 1)
 
+-- the text is the number of this cell
+pub record OneCell (text : List ℕ) (cell : ℕ) : Type 0 where
+  pub digits : IsNumeral 10 text
+  pub number : cell ≡ cell_number text
+
+-- the text is the numbers of these two cells, parted by one space
+pub record TwoCells (text : List ℕ) (left right : ℕ) : Type 0 where
+  pub first : List ℕ
+  pub second : List ℕ
+  pub parts : text ≡ spaced first second
+  pub is_left : OneCell first left
+  pub is_right : OneCell second right
+
 -- what a line may ask
 pub data Request : Type 0 where
   set : (key value : List ℕ) → Request
-  parse : (text : List ℕ) → Request
+  -- what the machine is asked as it stands
+  run : Machine.Request → Request
   evaluate : (cell : ℕ) (names : List (List ℕ)) → Request
 
--- The line asks this. A line of no such form is malformed.
-pub data Asks : List ℕ → Request → Type 0 where
+abbrev pub word_text : Word → List ℕ
+word_text Env = codes "env"
+word_text Parse = codes "parse"
+word_text Not = codes "not"
+word_text And = codes "and"
+word_text Or = codes "or"
+word_text Equal = codes "equal"
+word_text Disjoint = codes "disjoint"
+word_text Eval = codes "eval"
+
+-- Behind this word the text asks this.
+pub data Takes : Word → List ℕ → Request → Type 0 where
   -- env KEY VALUE: the value is the rest of the line as it is
-  env_line : {line key value : List ℕ} → line ≡ spaced (codes "env") (spaced key value) → HasNoSpace key → Asks line (set key value)
+  key_and_value : {text key value : List ℕ} → text ≡ spaced key value → HasNoSpace key → Takes Env text (set key value)
   -- parse TEXT: the text is the rest of the line as it is
-  parse_line : {line text : List ℕ} → line ≡ spaced (codes "parse") text → Asks line (parse text)
+  marker : {text : List ℕ} → Takes Parse text (run (Machine.parse text))
+  -- not A, and A B, or A B, equal A B, disjoint A B
+  negated : {text : List ℕ} {cell : ℕ} → OneCell text cell → Takes Not text (run (Machine.negation cell))
+  both : {text : List ℕ} {left right : ℕ} → TwoCells text left right → Takes And text (run (Machine.conjunction left right))
+  either : {text : List ℕ} {left right : ℕ} → TwoCells text left right → Takes Or text (run (Machine.disjunction left right))
+  compared : {text : List ℕ} {left right : ℕ} → TwoCells text left right → Takes Equal text (run (Machine.equal left right))
+  parted : {text : List ℕ} {left right : ℕ} → TwoCells text left right → Takes Disjoint text (run (Machine.disjoint left right))
   -- eval A NAME ..
-  eval_line : {line arguments cell : List ℕ} {names : List (List ℕ)} → line ≡ spaced (codes "eval") arguments → Words arguments (cell ∷ names) → IsNumeral 10 cell → Asks line (evaluate (cell_number cell) names)
+  cell_and_names : {text cell : List ℕ} {names : List (List ℕ)} → Words text (cell ∷ names) → IsNumeral 10 cell → Takes Eval text (evaluate (cell_number cell) names)
+
+-- The line asks this. A line of no such form is malformed.
+pub record Asks (line : List ℕ) (request : Request) : Type 0 where
+  pub word : Word
+  pub text : List ℕ
+  pub parts : line ≡ spaced (word_text word) text
+  pub takes : Takes word text request

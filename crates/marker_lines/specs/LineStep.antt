@@ -10,9 +10,9 @@ use Rattle.marker_words.specs.Key.{variable_name, version_key_name}
 use Rattle.marker_environment.specs.Written.{Written, Says}
 use Rattle.marker_environment.specs.Environment.{Values, SetsText, SetsVersion}
 use Rattle.pep508_names.specs.Name.{NormalizesTo}
-use Rattle.pep508_markers.specs.Machine as Machine
-use Rattle.pep508_markers.specs.Machine.{Cells, Answer, Step}
-use Rattle.marker_lines.specs.Line.{Request, set, parse, evaluate, Asks}
+use Rattle.marker_session.specs.Machine as Machine
+use Rattle.marker_session.specs.Machine.{Cells, Answer, Step}
+use Rattle.marker_lines.specs.Line.{Request, set, run, evaluate, Asks}
 use Rattle.marker_lines.specs.Reply.{reply_text}
 
 -- the cells, and the values that they are evaluated at
@@ -43,7 +43,7 @@ pub data RequestStep : State → Request → List ℕ → State → Type 0 where
   -- the key is no modern name; this is judged before the value
   no_key : {state : State} {key value : List ℕ} → ((variable : TextVariable) → key ≢ variable_name variable) → ((version_key : MarkerValueVersion) → key ≢ version_key_name version_key) → RequestStep state (set key value) (codes "error key") state
   -- the machine answers
-  is_parsed : {old new : State} {text : List ℕ} (answer : Answer) → Step old.cells (Machine.parse text) answer new.cells → new.values ≡ old.values → RequestStep old (parse text) (reply_text answer) new
+  is_run : {old new : State} {request : Machine.Request} (answer : Answer) → Step old.cells request answer new.cells → new.values ≡ old.values → RequestStep old (run request) (reply_text answer) new
   is_evaluated : {old new : State} {cell : ℕ} {words names : List (List ℕ)} (answer : Answer) → Names words names → Step old.cells (Machine.evaluate cell old.values names) answer new.cells → new.values ≡ old.values → RequestStep old (evaluate cell words) (reply_text answer) new
   -- names are judged before the cell
   no_name : {state : State} {cell : ℕ} {words : List (List ℕ)} → ((names : List (List ℕ)) → Names words names → ⊥) → RequestStep state (evaluate cell words) (codes "error name") state

@@ -10,6 +10,7 @@ mod reply;
 mod serving;
 mod sink;
 mod source;
+mod word;
 
 pub use fault::ServeFault;
 pub use line::{LineCommand, LineFault};
@@ -17,6 +18,7 @@ pub use line_session::serve;
 pub use serving::{Answer, serve_lines};
 pub use sink::{Output, Sink, WriteFault, write_all};
 pub use source::{Input, ReadFault, Source};
+pub use word::Word;
 
 #[cfg(test)]
 mod serve_tests;

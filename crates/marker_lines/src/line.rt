@@ -1,12 +1,14 @@
 //! What a line of the program `markers` asks.
 
-ghost use Rattle.std.specs.Prelude.{◌≡◌, ◌≢◌, ◌<◌, ◌↔◌, ℕ, List, ◌∷◌, Err, IsTrue, IfOk, OnErr, MatchOption, EachIndex, length, slice_index, codes};
+ghost use Rattle.std.specs.Prelude.{◌≡◌, ◌≢◌, ◌<◌, ◌↔◌, ℕ, List, ◌∷◌, Err, IsTrue, IfOk, MatchOption, EachIndex, length, slice_index};
 ghost use Rattle.std.specs.Int.{IsInRange};
 ghost use Rattle.std.specs.Str.{IsUtf8};
 ghost use Rattle.std.specs.Str.Parse.{IsNumeral};
-ghost use Rattle.marker_lines.specs.Line.{HasNoSpace, Words, Request, Asks, cell_number, spaced};
+ghost use Rattle.marker_lines.specs.Line.{HasNoSpace, Words, Request, Asks, Takes, TwoCells, cell_number, spaced};
 ghost use Rattle.marker_lines.specs.LineView.{texts_of, request_of};
 
+use crate::word::Word;
+use marker_session::Command;
 use std::alloc::Global;
 
 /// Why a line asks nothing.
@@ -21,15 +23,16 @@ pub enum LineFault {
 }
 
 /// What a line asks. Words are parted by exactly one space. Keys, names and texts are as they
-/// stand in the line, and not judged.
+/// stand in the line, and not judged. A and B are numbers of cells in ASCII digits; one beyond
+/// `usize::MAX` is read as that.
 #[derive(Debug, Drop)]
 pub enum LineCommand<'a> {
     /// `env KEY VALUE`, the value being the rest of the line as it is.
     Set { key: &'a str, value: &'a str },
-    /// `parse TEXT`, the text being the rest of the line as it is.
-    Parse(&'a str),
-    /// `eval A NAME ..`, with any number of names. A is a number in ASCII digits; one beyond
-    /// `usize::MAX` is read as that.
+    /// `parse TEXT`, the text being the rest of the line as it is, `not A`, `and A B`, `or A B`,
+    /// `equal A B` or `disjoint A B`.
+    Run(Command<'a>),
+    /// `eval A NAME ..`, with any number of names.
     Evaluate { cell: usize, names: Vec<&'a str> },
 }
 
@@ -50,38 +53,69 @@ impl<'a> LineCommand<'a> {
         let Ok(text) = str::from_utf8(line) else {
             return Err(LineFault::NotUtf8);
         };
-        let Some((command, rest)) = split_word(text) else {
+        let Some((first, rest)) = split_word(text) else {
             return Err(LineFault::Malformed);
         };
-        match command {
-            "env" => read_set(rest),
-            "parse" => Ok(LineCommand::Parse(rest)),
-            "eval" => read_evaluate(alloc, rest),
-            _ => Err(LineFault::Malformed),
+        match Word::parse(first) {
+            Some(word) => read_behind(alloc, word, rest),
+            None => Err(LineFault::Malformed),
         }
     }
 }
 
-// What follows `env `.
-fn read_set<'a>(rest: &'a str) -> Result<LineCommand<'a>, LineFault>
-    ensures asks { IfOk result (λ command. Asks (spaced (codes "env") rest.now) (request_of command)) }
-    ensures err { OnErr result (result ≡ Err LineFault.Malformed) }
-    ensures malformed { OnErr result ((request : Request) → Asks (spaced (codes "env") rest.now) request → ⊥) }
+// What is asked by a word and the text behind it.
+fn read_behind<'a>(alloc: Global, word: Word, text: &'a str) -> Result<LineCommand<'a>, LineFault>
+    ensures takes { IfOk result (λ command. Takes word text.now (request_of command)) }
+    ensures text { result ≢ Err LineFault.NotUtf8 }
+    ensures malformed { result ≡ Err LineFault.Malformed → (request : Request) → Takes word text.now request → ⊥ }
 {
-    match split_word(rest) {
-        Some((key, value)) => Ok(LineCommand::Set { key, value }),
-        None => Err(LineFault::Malformed),
+    match word {
+        Word::Env => match split_word(text) {
+            Some((key, value)) => Ok(LineCommand::Set { key, value }),
+            None => Err(LineFault::Malformed),
+        },
+        Word::Parse => Ok(LineCommand::Run(Command::Parse(text))),
+        Word::Not => match read_cell(text) {
+            Some(cell) => Ok(LineCommand::Run(Command::Not(cell))),
+            None => Err(LineFault::Malformed),
+        },
+        Word::And => match two_cells(text) {
+            Some((left, right)) => Ok(LineCommand::Run(Command::And(left, right))),
+            None => Err(LineFault::Malformed),
+        },
+        Word::Or => match two_cells(text) {
+            Some((left, right)) => Ok(LineCommand::Run(Command::Or(left, right))),
+            None => Err(LineFault::Malformed),
+        },
+        Word::Equal => match two_cells(text) {
+            Some((left, right)) => Ok(LineCommand::Run(Command::Equal(left, right))),
+            None => Err(LineFault::Malformed),
+        },
+        Word::Disjoint => match two_cells(text) {
+            Some((left, right)) => Ok(LineCommand::Run(Command::Disjoint(left, right))),
+            None => Err(LineFault::Malformed),
+        },
+        Word::Eval => {
+            let (cell, names) = cell_and_names(alloc, text)?;
+            Ok(LineCommand::Evaluate { cell, names })
+        }
     }
 }
 
-// What follows `eval `.
-fn read_evaluate<'a>(alloc: Global, rest: &'a str) -> Result<LineCommand<'a>, LineFault>
-    ensures asks { IfOk result (λ command. Asks (spaced (codes "eval") rest.now) (request_of command)) }
-    ensures text { result ≢ Err LineFault.NotUtf8 }
-    ensures malformed { result ≡ Err LineFault.Malformed → (request : Request) → Asks (spaced (codes "eval") rest.now) request → ⊥ }
+// The numbers of two cells.
+fn two_cells(text: &str) -> Option<(usize, usize)>
+    ensures { MatchOption result ((left right : ℕ) → TwoCells text.now left right → ⊥) (λ cells. TwoCells text.now cells.0 cells.1) }
 {
-    let (cell, names) = cell_and_names(alloc, rest)?;
-    Ok(LineCommand::Evaluate { cell, names })
+    let Some((first, second)) = split_word(text) else {
+        return None;
+    };
+    let Some(left) = read_cell(first) else {
+        return None;
+    };
+    let Some(right) = read_cell(second) else {
+        return None;
+    };
+    Some((left, right))
 }
 
 // The number of a cell, and any number of names.

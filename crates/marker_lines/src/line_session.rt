@@ -23,8 +23,8 @@ use crate::serving::{Answer, serve_lines};
 use crate::sink::Sink;
 use crate::source::Source;
 use marker_parts::{MarkerEnvironment, MarkerEnvironmentBuilder, Refusal, StringVersion};
+use marker_session::{Command, Session};
 use marker_words::{MarkerValueVersion, TextVariable};
-use pep508_markers::{Command, Session};
 use pep508_names::ExtraName;
 use std::alloc::{AllocError, Global};
 use std::mem;
@@ -55,8 +55,8 @@ impl LineSession {
     {
         match command {
             LineCommand::Set { key, value } => self.set(key, value, replies),
-            LineCommand::Parse(text) => {
-                let reply = self.session.execute(Command::Parse(text));
+            LineCommand::Run(command) => {
+                let reply = self.session.execute(command);
                 put_reply(self.alloc, replies, &reply)
             }
             LineCommand::Evaluate { cell, names } => self.evaluate(cell, &names, replies),
@@ -207,9 +207,9 @@ fn read_names(alloc: Global, words: &[&str]) -> Result<Option<Vec<ExtraName>>, A
 }
 
 /// Answers each line that the reader gives with a line to the writer, in order, until no line is
-/// left: `env KEY VALUE`, `parse TEXT` and `eval A NAME ..`, beginning with no cells and an
-/// environment of empty texts and of versions `0`. The replies to all whole lines read so far are
-/// written before the reader is asked again.
+/// left, as [`LineCommand`] has the forms of lines, beginning with no cells and an environment of
+/// empty texts and of versions `0`. The replies to all whole lines read so far are written before
+/// the reader is asked again.
 ///
 /// `Err` is `Input` where the reader failed, `Output` where the writer failed, and else `Memory`,
 /// where room for a line, its words or its reply was refused. After a failed read the replies to

@@ -2,11 +2,11 @@
 
 ghost use Rattle.std.specs.Prelude.{◌≡◌, ◌++◌, OnOk};
 ghost use Rattle.std.specs.List.{flat_map};
-ghost use Rattle.pep508_markers.specs.Session.{answer_of};
+ghost use Rattle.marker_session.specs.Session.{answer_of};
 ghost use Rattle.marker_lines.specs.Reply.{kind_name, told_kind, reply_text};
 
 use marker_parts::MarkerWarningKind;
-use pep508_markers::{Reason, Reply};
+use marker_session::{Reason, Reply};
 use std::alloc::{AllocError, Global};
 
 // Adds a text to the replies.
@@ -69,6 +69,7 @@ fn put_reason(alloc: Global, replies: &mut Vec<u8>, reason: &Reason) -> Result<(
         Reason::NoSuchCell => put(replies, "error cell"),
         Reason::OutOfMemory => put(replies, "error memory"),
         Reason::SegmentAtEnd => put(replies, "error segment"),
+        Reason::InvalidExpression => put(replies, "error expression"),
         Reason::Marker {
             start,
             len,

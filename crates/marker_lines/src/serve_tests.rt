@@ -177,6 +177,49 @@ fn tells_each_reply(rt: HostRuntime) -> Result<(), Fail> {
     Ok(())
 }
 
+const CELLS: &str = "parse os_name == 'a'
+parse os_name == 'b' and extra == 'x'
+not 0
+and 0 1
+or 2 0
+equal 3 0
+equal 4 4
+disjoint 0 1
+disjoint 1 2
+eval 4
+not 9
+and 0  1
+equal 0 7
+disjoint 7 0
+parse os_name != 'a'
+equal 2 5
+";
+
+const TOLD: &str = "cell 0
+cell 1
+cell 2
+cell 3
+cell 4
+false
+true
+true
+false
+true
+error cell
+error command
+error cell
+error cell
+cell 5
+true
+";
+
+#[test]
+fn joins_and_compares_cells(rt: HostRuntime) -> Result<(), Fail> {
+    let written = replies(rt.alloc(), CELLS.as_bytes())?;
+    assert_eq!(rt; written.as_slice(), TOLD.as_bytes());
+    Ok(())
+}
+
 #[test]
 fn sets_each_key(rt: HostRuntime) -> Result<(), Fail> {
     for key in [

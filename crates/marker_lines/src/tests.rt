@@ -1,6 +1,7 @@
 ghost use Rattle.std.specs.Prelude.{◌≡◌, [], ◌∷◌, ◌++◌};
 
 use super::*;
+use marker_session::Command;
 use std::alloc::AllocError;
 use std::test::*;
 
@@ -48,7 +49,7 @@ fn reads_each_command(rt: HostRuntime) -> Result<(), Fail> {
     };
     assert_eq!(rt; (key, value), ("os_name", "a  b "));
 
-    let LineCommand::Parse(text) = LineCommand::read(rt.alloc(), b"parse ")? else {
+    let LineCommand::Run(Command::Parse(text)) = LineCommand::read(rt.alloc(), b"parse ")? else {
         return Err("parse".into());
     };
     assert_eq!(rt; text, "");
@@ -63,6 +64,34 @@ fn reads_each_command(rt: HostRuntime) -> Result<(), Fail> {
     assert_eq!(rt; cell, usize::MAX);
     assert_eq!(rt; names.as_slice(), ["dev", "-"].as_slice());
     Ok(())
+}
+
+// Whether the line is read as a command on these cells.
+fn asks(rt: HostRuntime, line: &str, cells: (usize, usize)) -> bool {
+    let Ok(LineCommand::Run(command)) = LineCommand::read(rt.alloc(), line.as_bytes()) else {
+        return false;
+    };
+    match command {
+        Command::Not(cell) => line.starts_with("not ") && (cell, cell) == cells,
+        Command::And(left, right) => line.starts_with("and ") && (left, right) == cells,
+        Command::Or(left, right) => line.starts_with("or ") && (left, right) == cells,
+        Command::Equal(left, right) => line.starts_with("equal ") && (left, right) == cells,
+        Command::Disjoint(left, right) => line.starts_with("disjoint ") && (left, right) == cells,
+        _ => false,
+    }
+}
+
+#[test]
+fn reads_commands_on_cells(rt: HostRuntime) {
+    for (line, cells) in [
+        ("not 07", (7, 7)),
+        ("and 0 12", (0, 12)),
+        ("or 3 3", (3, 3)),
+        ("equal 99999999999999999999 1", (usize::MAX, 1)),
+        ("disjoint 2 0", (2, 0)),
+    ] {
+        assert!(rt; asks(rt, line, cells), "{line}");
+    }
 }
 
 #[test]
@@ -82,6 +111,16 @@ fn refuses_other_lines(rt: HostRuntime) {
         " parse x",
         "PARSE x",
         "text 0",
+        "not",
+        "not ",
+        "not 0 1",
+        "not x",
+        "and 0",
+        "and 0  1",
+        "and 0 1 2",
+        "or 0 x",
+        "equal 0 ",
+        "disjoint -1 0",
     ] {
         let read = LineCommand::read(rt.alloc(), line.as_bytes());
         assert!(rt; matches!(&read, Err(LineFault::Malformed)), "{line}");

@@ -5,4 +5,3 @@ mod ReaderLaws
 mod FaultsOfReader
 mod CellLaws
 mod TruthLaws
-mod SessionLaws

@@ -10,6 +10,3 @@ pub mod End
 pub mod Cell
 pub mod Refused
 pub mod Truths
-pub mod Machine
-pub mod Room
-pub mod Session

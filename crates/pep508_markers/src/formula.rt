@@ -27,6 +27,17 @@ pub struct FlatFormula {
     ghost whole: { IsWhole tokens.items },
 }
 
+impl FlatFormula {
+    /// The tokens in postfix order: each connective joins two formulas that stand before it, and one formula is left, or
+    /// nothing.
+    pub fn into_tokens(self) -> Vec<Token>
+        ensures tokens { result ≡ self.tokens }
+        ensures whole { IsWhole result.items }
+    {
+        self.tokens
+    }
+}
+
 // Joins the last two formulas of a list where both are there, and tells whether one is.
 pub(crate) fn join(
     tokens: &mut Vec<Token>,

@@ -1,7 +1,7 @@
 //! Commands, each given again where it was refused for want of memory.
 
-use crate::given::{FaultRow, Given, READ, REFUSED, ReadRow};
-use pep508_markers::{Command, Reason, Reply, Session};
+use crate::given::{FaultRow, Given, JOINED, READ, REFUSED, ReadRow};
+use marker_session::{Command, Reason, Reply, Session};
 use std::alloc::Global;
 use std::fmt;
 use std::fmt::Display;
@@ -17,6 +17,8 @@ pub enum Met {
     Reading,
     /// The reading of a text that is refused.
     Telling,
+    /// The joining of cells.
+    Joining,
     /// The room for replies.
     Replies,
     /// An answer changed in place of the refusal, or after it.
@@ -30,6 +32,7 @@ impl Display for Met {
             Met::NoCommand => "refused before the commands",
             Met::Reading => "refused while a text was read",
             Met::Telling => "refused while a fault was told",
+            Met::Joining => "refused while cells were joined",
             Met::Replies => "refused room for replies",
             Met::WrongAnswer => "WRONG ANSWER",
         })
@@ -118,6 +121,51 @@ fn refuse_all(session: &mut Session, given: &Given) -> Met {
     met
 }
 
+// Makes a cell without warnings.
+fn make(session: &mut Session, index: usize, command: Command<'_>) -> Answered {
+    let reply = session.execute(command);
+    match &reply {
+        Reply::Cell(cell, kinds) if *cell == index && kinds.is_empty() => Answered::AsExpected,
+        Reply::Refused(Reason::OutOfMemory) => Answered::OutOfMemory,
+        _ => Answered::Otherwise,
+    }
+}
+
+// Makes a cell, and again where that was refused.
+fn make_again(session: &mut Session, index: usize, command: Command<'_>, given: &Given) -> Met {
+    match make(session, index, command) {
+        Answered::AsExpected => Met::Nothing,
+        Answered::OutOfMemory if has_cells(session, READ.len(), given) => {
+            match make(session, index, command) {
+                Answered::AsExpected => Met::Joining,
+                _ => Met::WrongAnswer,
+            }
+        }
+        _ => Met::WrongAnswer,
+    }
+}
+
+// Joins cells, reads the text that says the same, and asks whether the two cells are equal.
+fn join_all(session: &mut Session, given: &Given) -> Met {
+    let mut met = Met::Nothing;
+    for (row, (command, text)) in JOINED.iter().enumerate() {
+        let joined = row.saturating_mul(2).saturating_add(READ.len());
+        let read = joined.saturating_add(1);
+        let parts = [
+            make_again(session, joined, *command, given),
+            make_again(session, read, Command::Parse(text), given),
+        ];
+        let equal = session.execute(Command::Equal(joined, read));
+        if equal != Reply::Truth(true) || parts.contains(&Met::WrongAnswer) {
+            return Met::WrongAnswer;
+        }
+        if parts.contains(&Met::Joining) {
+            met = Met::Joining;
+        }
+    }
+    met
+}
+
 // Two commands at once. Where there is no room for the replies, neither was run.
 fn run_both(session: &mut Session, given: &Given) -> Met {
     let commands = [
@@ -146,6 +194,7 @@ pub fn run_commands(alloc: Global) -> Met {
     let parts = [
         read_all(&mut session, &given),
         refuse_all(&mut session, &given),
+        join_all(&mut session, &given),
         run_both(&mut session, &given),
     ];
     if !has_cells(&mut session, READ.len(), &given) || parts.contains(&Met::WrongAnswer) {

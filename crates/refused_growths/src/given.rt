@@ -1,6 +1,7 @@
 //! What the commands are run on, and what they must answer.
 
 use marker_parts::{MarkerEnvironment, MarkerEnvironmentBuilder, MarkerWarningKind};
+use marker_session::Command;
 use pep508_names::ExtraName;
 use std::alloc::Global;
 
@@ -65,6 +66,20 @@ pub const READ: [ReadRow; 4] = [
         "((((((((((((((((((((((((((((((((((((((((((((((((((((((((((((((((os_name == 'nt'))))))))))))))))))))))))))))))))))))))))))))))))))))))))))))))))",
         &[],
         false,
+    ),
+];
+
+/// A command on the cells of the texts that are read, and a text that says the same as its new cell.
+pub const JOINED: [(Command<'static>, &str); 4] = [
+    (Command::Not(0), "os_name != 'posix'"),
+    (
+        Command::And(0, 1),
+        "os_name == 'posix' and extra == 'dev-tools' and 'six' in os_name",
+    ),
+    (Command::Or(3, 0), "os_name == 'posix' or os_name == 'nt'"),
+    (
+        Command::Or(1, 0),
+        "os_name == 'posix' or os_name == 'nt' and sys_platform == 'win32' or extra == 'dev-tools' and 'six' in os_name and os_name != ''",
     ),
 ];
 

@@ -8,17 +8,8 @@ mod commands;
 mod given;
 
 use commands::{Met, run_commands};
-use std::alloc::{AllocError, Global};
+use growths::hold;
 use std::io;
-
-// Memory that was asked for so many times.
-fn hold(alloc: Global, count: usize) -> Result<Vec<String>, AllocError> {
-    let mut held = Vec::with_capacity(alloc, count)?;
-    for _ in 0..count {
-        held.push(String::from_str(alloc, "held")?)?;
-    }
-    Ok(held)
-}
 
 fn main(rt: HostRuntime) -> io::Result<()> {
     let mut count = 0;

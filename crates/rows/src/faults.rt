@@ -1,6 +1,6 @@
 //! Texts that are refused: which message is told, and where.
 
-use pep508_markers::{Command, Reason, Reply, Session};
+use marker_session::{Command, Reason, Reply, Session};
 use std::alloc::Global;
 use std::test::Fail;
 

@@ -1,7 +1,7 @@
 //! Small texts, each compared with what a plain program makes of them.
 
 use crate::values::linux;
-use pep508_markers::{Command, Reply, Session};
+use marker_session::{Command, Reply, Session};
 use std::alloc::{AllocError, Global};
 use std::process::Abort;
 use std::test::Fail;

@@ -1,7 +1,7 @@
 //! Commands one after another.
 
 use crate::values::linux;
-use pep508_markers::{Command, Reason, Reply, Session};
+use marker_session::{Command, Reason, Reply, Session};
 use pep508_names::ExtraName;
 use std::test::Fail;
 

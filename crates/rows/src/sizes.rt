@@ -1,7 +1,7 @@
 //! Long texts and deep ones.
 
 use crate::values::{linux, truth};
-use pep508_markers::{Command, Reason, Reply, Session};
+use marker_session::{Command, Reason, Reply, Session};
 use std::alloc::Global;
 use std::test::Fail;
 

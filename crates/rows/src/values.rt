@@ -1,7 +1,7 @@
 //! The environment that the rows are evaluated in, and the truth of a text in it.
 
 use marker_parts::{MarkerEnvironment, MarkerEnvironmentBuilder};
-use pep508_markers::{Command, Reply, Session};
+use marker_session::{Command, Reply, Session};
 use pep508_names::ExtraName;
 use std::alloc::Global;
 use std::test::Fail;

@@ -2,7 +2,7 @@
 
 use crate::values::{linux, truth};
 use marker_parts::{MarkerWarningKind, StringVersion};
-use pep508_markers::{Command, Reason, Reply, Session};
+use marker_session::{Command, Reason, Reply, Session};
 use std::test::Fail;
 
 const TRUTHS: [(&str, bool); 30] = [

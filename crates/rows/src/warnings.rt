@@ -1,7 +1,7 @@
 //! The kinds of warnings of a text, in the order of the text.
 
 use marker_parts::MarkerWarningKind;
-use pep508_markers::{Command, Reason, Reply, Session};
+use marker_session::{Command, Reason, Reply, Session};
 use std::test::Fail;
 
 const DEPRECATED: MarkerWarningKind = MarkerWarningKind::DeprecatedMarkerName;

@@ -1,5 +1,4 @@
 use Rattle.marker_lines.specs.LineStep.{Names, no_more}
-use Rattle.marker_lines.specs.LineView.{texts_of}
 use Rattle.std.proofs.Common.{subst, sym, [], List, ℕ}
 use Rattle.marker_lines.proofs.SessionLaws.{names_more, names_refused}
 use Rattle.marker_lines.proofs.line_session.read_names.Goals as goal

@@ -1,6 +1,6 @@
 use Rattle.std.proofs.Common.{refl}
 use Rattle.std.proofs.lemmas.Result.{on_ok_weaker}
-use Rattle.pep508_markers.specs.Session.{answer_of}
+use Rattle.marker_session.specs.Session.{answer_of}
 use Rattle.marker_lines.specs.LineStep.{no_name}
 use Rattle.marker_lines.proofs.SessionLaws.{evaluated}
 use Rattle.marker_lines.proofs.line_session.LineSession.evaluate.Goals as goal

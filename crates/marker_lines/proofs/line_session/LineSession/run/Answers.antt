@@ -1,15 +1,15 @@
 use Rattle.std.proofs.Common.{refl, ap, sym, ◌∙◌}
 use Rattle.std.proofs.lemmas.Result.{on_ok_weaker}
-use Rattle.pep508_markers.specs.Session.{answer_of}
+use Rattle.marker_session.specs.Session.{answer_of}
 use Rattle.marker_lines.specs.Line.{evaluate}
 use Rattle.marker_lines.specs.LineView.{texts_of, request_of}
-use Rattle.marker_lines.specs.LineStep.{is_parsed}
+use Rattle.marker_lines.specs.LineStep.{is_run}
 use Rattle.marker_lines.proofs.SessionLaws.{for_request}
 use Rattle.marker_lines.proofs.line_session.LineSession.run.Goals as goal
 
-pub returns-in-Parse : goal.returns-in-Parse
-returns-in-Parse c =
-    on_ok_weaker c.put_reply.result (λ w. (_, for_request (ap request_of c.in-Parse.is) (is_parsed (answer_of c.execute-reply.result) c.execute-reply.ensures refl), w)) c.put_reply.ensures
+pub returns-in-Run : goal.returns-in-Run
+returns-in-Run c =
+    on_ok_weaker c.put_reply.result (λ w. (_, for_request (ap request_of c.in-Run.is) (is_run (answer_of c.execute-reply.result) c.execute-reply.ensures refl), w)) c.put_reply.ensures
 
 pub returns-in-Evaluate : goal.returns-in-Evaluate
 returns-in-Evaluate c =

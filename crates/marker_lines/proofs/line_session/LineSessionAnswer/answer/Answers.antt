@@ -1,4 +1,4 @@
-use Rattle.std.proofs.Common.{refl, rules, ◌≢◌, Err}
+use Rattle.std.proofs.Common.{refl, rules}
 use Rattle.std.proofs.lemmas.Result.{on_ok_weaker}
 use Rattle.marker_lines.specs.LineView.{request_of}
 use Rattle.marker_lines.specs.LineStep.{asked, no_text, no_command}

@@ -1,0 +1,163 @@
+-- Cells and steps of a session.
+use Rattle.std.proofs.Common.{◌≡◌, ℕ, zero, ◌+◌, ◌≤◌, ◌<◌, suc, Bool, true, false, List, [], ◌∷◌, ◌++◌, length, take, get_or, Some, inl, inr, sym, ap, ◌∙◌, subst, refl, arith}
+use Rattle.std.specs.Prelude.{map, slice_get, option_map, not, ◌&&◌, ◌||◌, Option, IsTrue, if◌then◌else◌}
+use Rattle.std.proofs.lemmas.List.{map_push, take_more, length-map}
+use Rattle.std.proofs.lemmas.Option.{slice_get-map}
+use Rattle.refusal.specs.declared.Refusal.{Refusal}
+use Rattle.refusal.specs.declared.Refusal.TheVariants.{SegmentAtEnd, Fault}
+use Rattle.marker_warnings.specs.declared.warning.MarkerWarningKind.{MarkerWarningKind}
+use Rattle.marker_environment.specs.Valuation.{Valuation}
+use Rattle.marker_graph.specs.declared.tree.MarkerTree.{MarkerTree}
+use Rattle.marker_parts.specs.Expression.{Test, holds, IsAtEnd}
+use Rattle.marker_graph.specs.Contents.{Contents, IsHeld, IsKept, Separated, truth}
+use Rattle.marker_graph.specs.Expression.{IsInvalid}
+use Rattle.marker_graph.specs.Expression as graph
+use Rattle.pep508_markers.specs.Formula.{Formula}
+use Rattle.pep508_markers.specs.Formula as formulas
+use Rattle.pep508_markers.specs.Grammar.{Reads}
+use Rattle.marker_session.specs.SomeTest.{Says, IsUnmade}
+use Rattle.marker_session.specs.declared.session.Command.{Command}
+use Rattle.marker_session.specs.declared.session.Reply.{Reply}
+use Rattle.marker_session.specs.Machine.{Truth, Cells, Request, Answer, Holds, Makes, Tells, TellsEqual, TellsDisjoint, named, IsMissing, MakesCell, Step, Run, parse, expression, negation, conjunction, disjunction, equal, disjoint, evaluate}
+use Rattle.marker_session.specs.Cells.{AreHeld, truths_of}
+use Rattle.marker_session.specs.Session.{request_of, answer_of}
+use Rattle.marker_session.proofs.TreeLaws.{held_kept, truth_kept}
+
+-- the truth of a tree that stood in the interner is what it was
+same_truth : (c d : Contents) (t : MarkerTree) → IsKept c d → IsHeld c t → truth d t ≡ truth c t
+same_truth c d t kept held = λ i v. truth_kept c d t kept held v i
+
+tail_held : (c : Contents) (t : MarkerTree) (trees : List MarkerTree) → AreHeld c (t ∷ trees) → AreHeld c trees
+tail_held c t trees held a u found = held (suc a) u found
+
+pub truths_kept : (c d : Contents) (trees : List MarkerTree) → IsKept c d → AreHeld c trees → truths_of d trees ≡ truths_of c trees
+truths_kept c d [] kept held = refl
+truths_kept c d (t ∷ trees) kept held = λ i. same_truth c d t kept (held 0 t refl) i ∷ truths_kept c d trees kept (tail_held c t trees held) i
+
+pub are_kept : (c d : Contents) (trees : List MarkerTree) → IsKept c d → AreHeld c trees → AreHeld d trees
+are_kept c d trees kept held a t found = held_kept c d t kept (held a t found)
+
+some_is : {t u : MarkerTree} → Some t ≡ Some u → t ≡ u
+some_is e = cc
+
+-- one tree more
+pub held_more : (c : Contents) (trees : List MarkerTree) (t : MarkerTree) → AreHeld c trees → IsHeld c t → AreHeld c (trees ++ (t ∷ []))
+held_more c [] t held now zero u found = subst (IsHeld c) (some_is found) now
+held_more c [] t held now (suc a) u found = absurd cc
+held_more c (s ∷ trees) t held now zero u found = held 0 u found
+held_more c (s ∷ trees) t held now (suc a) u found = held_more c trees t (tail_held c s trees held) now a u found
+
+pub held_if : (stored : Bool) (c : Contents) (trees : List MarkerTree) (t : MarkerTree) {all : List MarkerTree} → all ≡ (if stored then trees ++ (t ∷ []) else trees) → AreHeld c trees → IsHeld c t → AreHeld c all
+held_if true c trees t put held now = subst (AreHeld c) (sym put) (held_more c trees t held now)
+held_if false c trees t put held now = subst (AreHeld c) (sym put) held
+
+pub truths_more : (c : Contents) (trees : List MarkerTree) (t : MarkerTree) {all : List MarkerTree} → all ≡ trees ++ (t ∷ []) → truths_of c all ≡ truths_of c trees ++ (truth c t ∷ [])
+truths_more c trees t put = ap (truths_of c) put ∙ map_push (truth c) trees t
+
+-- the cell of a number
+pub cell_holds : (c : Contents) (trees : List MarkerTree) (a : ℕ) (t : MarkerTree) → slice_get trees a ≡ Some t → Holds (truths_of c trees) a (truth c t)
+cell_holds c trees a t found = slice_get-map (truth c) trees a ∙ ap (option_map (truth c)) found
+
+pub missing_cell : (c : Contents) (trees : List MarkerTree) (a : ℕ) → length trees ≤ a → length (truths_of c trees) ≤ a
+missing_cell c trees a h = omega (arith, h, length-map trees (truth c))
+
+-- a cell that is there is not missing
+there : (cells : Cells) (a : ℕ) (f : Truth) → Holds cells a f → length cells ≤ a → ⊥
+there [] a f found h = absurd cc
+there (g ∷ cells) zero f found h = absurd (omega (arith, h))
+there (g ∷ cells) (suc a) f found h = there cells a f found (omega (arith, h))
+
+one_there : (cells : Cells) (a : ℕ) (f : Truth) → Holds cells a f → ¬ IsMissing cells (a ∷ [])
+one_there cells a f found (inl h) = there cells a f found h
+one_there cells a f found (inr h) = h
+
+two_there : (cells : Cells) (a b : ℕ) (f g : Truth) → Holds cells a f → Holds cells b g → ¬ IsMissing cells (a ∷ b ∷ [])
+two_there cells a b f g found other (inl h) = there cells a f found h
+two_there cells a b f g found other (inr h) = one_there cells b g other h
+
+-- what makes a cell may want memory
+pub makes_cell : (cells : Cells) (request : Request) (f : Truth) (kinds : List MarkerWarningKind) → Makes cells request f kinds → MakesCell request × (¬ IsMissing cells (named request))
+makes_cell cells (parse t) f kinds m = (_, λ h. h)
+makes_cell cells (expression e) f kinds m = (_, λ h. h)
+makes_cell cells (negation a) f kinds m = (_, one_there cells a m.0 m.1)
+makes_cell cells (conjunction a b) f kinds m = (_, two_there cells a b m.0 m.1 m.2 m.3)
+makes_cell cells (disjunction a b) f kinds m = (_, two_there cells a b m.0 m.1 m.2 m.3)
+makes_cell cells (equal a b) f kinds m = absurd m
+makes_cell cells (disjoint a b) f kinds m = absurd m
+makes_cell cells (evaluate a values extras) f kinds m = absurd m
+
+pub may_want_one : (c : Contents) (trees : List MarkerTree) (a : ℕ) (t : MarkerTree) → slice_get trees a ≡ Some t → ¬ IsMissing (truths_of c trees) (a ∷ [])
+may_want_one c trees a t found = one_there _ a (truth c t) (cell_holds c trees a t found)
+
+pub may_want_two : (c : Contents) (trees : List MarkerTree) (a b : ℕ) (t u : MarkerTree) → slice_get trees a ≡ Some t → slice_get trees b ≡ Some u → ¬ IsMissing (truths_of c trees) (a ∷ b ∷ [])
+may_want_two c trees a b t u found other = two_there _ a b (truth c t) (truth c u) (cell_holds c trees a t found) (cell_holds c trees b u other)
+
+-- what makes a cell
+pub makes_text : (c : Contents) (cells : Cells) (text : List ℕ) (t : MarkerTree) (g : Option Formula) (kinds : List MarkerWarningKind) →
+    Reads text g kinds → ¬ Says IsAtEnd g → ((v : Valuation) → truth c t v ≡ formulas.truth g v) → Makes cells (parse text) (truth c t) kinds
+makes_text c cells text t g kinds reads not_at_end means = (g, reads, not_at_end, (λ i v. means v i))
+
+pub makes_test : (c : Contents) (cells : Cells) (copy e : Test) (t : MarkerTree) (kinds : List MarkerWarningKind) → copy ≡ e →
+    ¬ IsAtEnd copy → ¬ IsInvalid copy → ((v : Valuation) → truth c t v ≡ holds copy v) → kinds ≡ [] → Makes cells (expression e) (truth c t) kinds
+makes_test c cells copy e t kinds same not_at_end not_invalid means none = subst (λ x. Makes cells (expression x) (truth c t) kinds) same (not_at_end, not_invalid, (λ i v. means v i), none)
+
+-- why a test has no tree, and why a formula has none
+module _ {E : Type 0} (e : Refusal E) where
+  pub test_at_end : (copy t : Test) → copy ≡ t → e ≡ SegmentAtEnd → graph.IsUnmade copy e → IsAtEnd t
+  test_at_end copy t same is unmade = subst IsAtEnd same (subst (graph.IsUnmade copy) is unmade)
+
+  pub test_invalid : (copy t : Test) (fault : E) → copy ≡ t → e ≡ Fault fault → graph.IsUnmade copy e → IsInvalid t
+  test_invalid copy t fault same is unmade = subst IsInvalid same (subst (graph.IsUnmade copy) is unmade)
+
+  pub formula_at_end : (g : Option Formula) → e ≡ SegmentAtEnd → IsUnmade g e → Says IsAtEnd g
+  formula_at_end g is unmade = subst (IsUnmade g) is unmade
+
+  pub formula_invalid : (g : Option Formula) (fault : E) → e ≡ Fault fault → IsUnmade g e → Says IsInvalid g
+  formula_invalid g fault is unmade = subst (IsUnmade g) is unmade
+
+module _ (c : Contents) (trees : List MarkerTree) (kinds : List MarkerWarningKind) (none : kinds ≡ []) (a : ℕ) (t : MarkerTree) (found : slice_get trees a ≡ Some t) where
+  pub makes_negation : (u : MarkerTree) → ((v : Valuation) → truth c u v ≡ not (truth c t v)) → Makes (truths_of c trees) (negation a) (truth c u) kinds
+  makes_negation u means = (truth c t, cell_holds c trees a t found, (λ i v. means v i), none)
+
+  module _ (b : ℕ) (u : MarkerTree) (other : slice_get trees b ≡ Some u) where
+    pub makes_and : (w : MarkerTree) → ((v : Valuation) → truth c w v ≡ (truth c t v && truth c u v)) → Makes (truths_of c trees) (conjunction a b) (truth c w) kinds
+    makes_and w means = (truth c t, truth c u, cell_holds c trees a t found, cell_holds c trees b u other, (λ i v. means v i), none)
+
+    pub makes_or : (w : MarkerTree) → ((v : Valuation) → truth c w v ≡ (truth c t v || truth c u v)) → Makes (truths_of c trees) (disjunction a b) (truth c w) kinds
+    makes_or w means = (truth c t, truth c u, cell_holds c trees a t found, cell_holds c trees b u other, (λ i v. means v i), none)
+
+-- what answers a question
+module _ (c : Contents) (trees : List MarkerTree) (a b : ℕ) (t u : MarkerTree) (found : slice_get trees a ≡ Some t) (other : slice_get trees b ≡ Some u) where
+  equals : (answer : Bool) → (IsTrue answer → t ≡ u) → (answer ≡ false → Separated c t u) → TellsEqual (truth c t) (truth c u) answer
+  equals true same separated = λ v. ap (λ x. truth c x v) (same refl)
+  equals false same separated = separated refl
+
+  pub tells_equal : (answer : Bool) → (IsTrue answer → t ≡ u) → (answer ≡ false → Separated c t u) → Tells (truths_of c trees) (equal a b) answer
+  tells_equal answer same separated = (truth c t, truth c u, cell_holds c trees a t found, cell_holds c trees b u other, equals answer same separated)
+
+  abbrev pub IsShared : Type 0
+  IsShared = (v : Valuation) × (truth c t v ≡ true) × (truth c u v ≡ true)
+
+  disjoints : (answer : Bool) → (answer ≡ true → (v : Valuation) → (truth c t v && truth c u v) ≡ false) → (answer ≡ false → IsShared) → TellsDisjoint (truth c t) (truth c u) answer
+  disjoints true apart shared = apart refl
+  disjoints false apart shared = let s : IsShared = shared refl in (s.0, (λ i. s.1 i && s.2 i))
+
+  pub tells_disjoint : (answer : Bool) → (answer ≡ true → (v : Valuation) → (truth c t v && truth c u v) ≡ false) → (answer ≡ false → IsShared) → Tells (truths_of c trees) (disjoint a b) answer
+  tells_disjoint answer apart shared = (truth c t, truth c u, cell_holds c trees a t found, cell_holds c trees b u other, disjoints answer apart shared)
+
+-- a run goes on by one step
+run_more : (old mid new : Cells) (rs : List Request) (as_ : List Answer) (r : Request) (a : Answer) → Run old rs as_ mid → Step mid r a new → Run old (rs ++ (r ∷ [])) (as_ ++ (a ∷ [])) new
+run_more old mid new [] [] r a run step = (new, subst (λ x. Step x r a new) run step, refl)
+run_more old mid new [] (b ∷ bs) r a run step = absurd run
+run_more old mid new (q ∷ qs) [] r a run step = absurd run
+run_more old mid new (q ∷ qs) (b ∷ bs) r a run step = (run.0, run.1, run_more run.0 mid new qs bs r a run.2 step)
+
+pub run_on : (old mid new : Cells) (cs : List Command) (i : ℕ) (c : Command) (replies replies' : List Reply) (reply : Reply) →
+    i < length cs → c ≡ get_or cs i c → Run old (map request_of (take i cs)) (map answer_of replies) mid → Step mid (request_of c) (answer_of reply) new → replies' ≡ replies ++ (reply ∷ []) →
+    Run old (map request_of (take (i + 1) cs)) (map answer_of replies') new
+run_on old mid new cs i c replies replies' reply below c_is run step pushed =
+    let requests : map request_of (take (i + 1) cs) ≡ map request_of (take i cs) ++ (request_of c ∷ []) = ap (map request_of) (take_more cs i c below ∙ ap (λ x. take i cs ++ (x ∷ [])) (sym c_is)) ∙ map_push request_of (take i cs) c in
+    let answers : map answer_of replies' ≡ map answer_of replies ++ (answer_of reply ∷ []) = ap (map answer_of) pushed ∙ map_push answer_of replies reply in
+    subst (λ (x : List Request). Run old x (map answer_of replies') new) (sym requests)
+    (subst (λ (y : List Answer). Run old (map request_of (take i cs) ++ (request_of c ∷ [])) y new) (sym answers)
+    (run_more old mid new _ _ _ _ run step))

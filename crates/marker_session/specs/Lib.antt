@@ -1,0 +1,5 @@
+pub mod SomeTest
+pub mod Trees
+pub mod Cells
+pub mod Machine
+pub mod Session

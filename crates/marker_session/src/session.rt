@@ -1,0 +1,276 @@
+//! A session: markers in numbered cells, and the commands on them.
+
+ghost use Rattle.std.specs.Prelude.{◌≡◌, [], IfOk, IfNone, IfSome, OnErr, map, slice_get, Some};
+ghost use Rattle.marker_graph.specs.Contents.{truth};
+ghost use Rattle.marker_session.specs.Cells.{AreHeld};
+
+use crate::formula_tree::tree_of;
+use marker_graph::{Interner, MarkerTree};
+use marker_parts::{
+    ComparisonError, ExtraName, MarkerEnvironment, MarkerExpression, MarkerWarningKind, Refusal,
+};
+use pep508_markers::read;
+use std::alloc::{AllocError, Global};
+
+/// A command of a session. Cells are named by their numbers, from 0 on.
+#[derive(Clone, Copy, Debug)]
+pub enum Command<'a> {
+    /// Reads a marker text into a new cell.
+    Parse(&'a str),
+    /// Puts a comparison into a new cell.
+    Expression(&'a MarkerExpression),
+    /// Puts the negation of a cell into a new one.
+    Not(usize),
+    /// Puts the conjunction of two cells into a new one.
+    And(usize, usize),
+    /// Puts the disjunction of two cells into a new one.
+    Or(usize, usize),
+    /// Tells whether two cells mean the same.
+    Equal(usize, usize),
+    /// Tells whether nothing satisfies two cells at once.
+    Disjoint(usize, usize),
+    /// Tells whether a cell is true in an environment with these extras.
+    Evaluate(usize, &'a MarkerEnvironment, &'a [ExtraName]),
+}
+
+/// Why a command was refused. It has changed no cell.
+#[derive(Debug, PartialEq, Eq, Drop)]
+pub enum Reason {
+    /// No cell has such a number.
+    NoSuchCell,
+    /// There was no memory for a new cell.
+    OutOfMemory,
+    /// A version key is compared in such a way that a bound would raise 18446744073709551615, the largest number of a
+    /// version.
+    SegmentAtEnd,
+    /// The comparison compares texts by `~=`.
+    InvalidExpression,
+    /// The text is no marker: where its fault stands, in bytes, and what it is.
+    Marker {
+        start: usize,
+        len: usize,
+        message: String,
+    },
+}
+
+/// The answer to a command.
+#[derive(Debug, PartialEq, Eq, Drop)]
+pub enum Reply {
+    /// The number of a new cell, and the kinds of the text's warnings in order.
+    Cell(usize, Vec<MarkerWarningKind>),
+    /// The answer to a question.
+    Truth(bool),
+    /// The command was refused.
+    Refused(Reason),
+}
+
+/// Markers in numbered cells.
+#[derive(Drop)]
+pub struct Session {
+    alloc: Global,
+    interner: Interner,
+    cells: Vec<MarkerTree>,
+    ghost held: { AreHeld interner cells.items },
+}
+
+impl Session {
+    ghost use Rattle.marker_session.specs.Machine.{Step, Run};
+    ghost use Rattle.marker_session.specs.Session.{cells_of, request_of, answer_of};
+
+    /// A session with no cells.
+    pub fn new(alloc: Global) -> Session
+        ensures { cells_of result ≡ [] }
+    {
+        Session {
+            alloc,
+            interner: Interner::new(alloc),
+            cells: Vec::new(alloc),
+        }
+    }
+
+    /// Runs the commands one after another and answers each. An `Err`, where there is no room for the replies, has
+    /// run nothing.
+    pub fn run(&mut self, commands: &[Command<'_>]) -> Result<Vec<Reply>, AllocError>
+        ensures run { IfOk result (λ replies. Run (cells_of self.old) (map request_of commands.now) (map answer_of replies.items) (cells_of self.new)) }
+        ensures err { OnErr result (cells_of self.new ≡ cells_of self.old) }
+    {
+        let mut replies = Vec::with_capacity(self.alloc, commands.len())?;
+        for command in commands {
+            let reply = self.execute(*command);
+            replies.push(reply).unwrap();
+        }
+        Ok(replies)
+    }
+
+    /// Runs one command.
+    pub fn execute(&mut self, command: Command<'_>) -> Reply
+        ensures { Step (cells_of self.old) (request_of command.entry) (answer_of result) (cells_of self.new) }
+    {
+        match command {
+            Command::Parse(text) => self.parse(text),
+            Command::Expression(expression) => self.expression(expression),
+            Command::Not(a) => self.negation(a),
+            Command::And(a, b) => self.conjunction(a, b),
+            Command::Or(a, b) => self.disjunction(a, b),
+            Command::Equal(a, b) => self.equal(a, b),
+            Command::Disjoint(a, b) => self.disjoint(a, b),
+            Command::Evaluate(a, environment, extras) => self.evaluate(a, environment, extras),
+        }
+    }
+}
+
+// The commands, one by one.
+impl Session {
+    ghost use Rattle.std.specs.Prelude.{◌≤◌, ◌⊎◌, length};
+    ghost use Rattle.marker_environment.specs.Environment.{values_of};
+    ghost use Rattle.marker_parts.specs.Expression.{test_of};
+    ghost use Rattle.marker_graph.specs.Contents.{IsHeld};
+    ghost use Rattle.pep508_markers.specs.Refused.{Refuses};
+    ghost use Rattle.marker_session.specs.Machine;
+    ghost use Rattle.marker_session.specs.Machine.{Cells, Makes, Request, Step};
+    ghost use Rattle.marker_session.specs.Session.{cells_of, answer_of};
+
+    // Reads a text into a new cell.
+    fn parse(&mut self, text: &str) -> Reply
+        ensures { Step (cells_of self.old) (Machine.parse text.now) (answer_of result) (cells_of self.new) }
+    {
+        let reading = match read(self.alloc, text) {
+            Ok(reading) => reading,
+            Err(error) => return Reply::Refused(Session::refusal(self.alloc, text, error)),
+        };
+        match tree_of(self.alloc, &mut self.interner, reading.formula) {
+            Ok(tree) => self.add(tree, reading.kinds),
+            Err(Refusal::OutOfMemory) => Reply::Refused(Reason::OutOfMemory),
+            Err(Refusal::SegmentAtEnd) => Reply::Refused(Reason::SegmentAtEnd),
+            // A text that compares texts by `~=` says nothing there.
+            Err(Refusal::Fault(_)) => unreachable!(),
+        }
+    }
+
+    // Why a text was not read, for a reply.
+    fn refusal(alloc: Global, text: &str, error: ComparisonError<'_>) -> Reason
+        requires { Refuses text.now error }
+        ensures { (cells : Cells) → Step cells (Machine.parse text.now) (answer_of (Reply.Refused result)) cells }
+    {
+        match error {
+            ComparisonError::OutOfMemory => Reason::OutOfMemory,
+            ComparisonError::Fault(fault) => match fault.to_string(alloc) {
+                Ok(message) => Reason::Marker {
+                    start: fault.start(text),
+                    len: fault.len(),
+                    message,
+                },
+                Err(_) => Reason::OutOfMemory,
+            },
+        }
+    }
+
+    // Puts a comparison into a new cell.
+    fn expression(&mut self, expression: &MarkerExpression) -> Reply
+        ensures { Step (cells_of self.old) (Machine.expression (test_of expression.now)) (answer_of result) (cells_of self.new) }
+    {
+        let Ok(expression) = expression.clone() else {
+            return Reply::Refused(Reason::OutOfMemory);
+        };
+        match MarkerTree::expression(&mut self.interner, expression) {
+            Ok(tree) => self.add(tree, Vec::new(self.alloc)),
+            Err(Refusal::OutOfMemory) => Reply::Refused(Reason::OutOfMemory),
+            Err(Refusal::SegmentAtEnd) => Reply::Refused(Reason::SegmentAtEnd),
+            Err(Refusal::Fault(_)) => Reply::Refused(Reason::InvalidExpression),
+        }
+    }
+
+    fn negation(&mut self, a: usize) -> Reply
+        ensures { Step (cells_of self.old) (Machine.negation a) (answer_of result) (cells_of self.new) }
+    {
+        let Some(tree) = self.cell(a) else {
+            return Reply::Refused(Reason::NoSuchCell);
+        };
+        self.add(tree.negate(), Vec::new(self.alloc))
+    }
+
+    fn conjunction(&mut self, a: usize, b: usize) -> Reply
+        ensures { Step (cells_of self.old) (Machine.conjunction a b) (answer_of result) (cells_of self.new) }
+    {
+        let Some((left, right)) = self.two_cells(a, b) else {
+            return Reply::Refused(Reason::NoSuchCell);
+        };
+        let mut both = left;
+        match both.and(&mut self.interner, right) {
+            Ok(()) => self.add(both, Vec::new(self.alloc)),
+            Err(_) => Reply::Refused(Reason::OutOfMemory),
+        }
+    }
+
+    fn disjunction(&mut self, a: usize, b: usize) -> Reply
+        ensures { Step (cells_of self.old) (Machine.disjunction a b) (answer_of result) (cells_of self.new) }
+    {
+        let Some((left, right)) = self.two_cells(a, b) else {
+            return Reply::Refused(Reason::NoSuchCell);
+        };
+        let mut either = left;
+        match either.or(&mut self.interner, right) {
+            Ok(()) => self.add(either, Vec::new(self.alloc)),
+            Err(_) => Reply::Refused(Reason::OutOfMemory),
+        }
+    }
+
+    fn equal(&self, a: usize, b: usize) -> Reply
+        ensures { Step (cells_of self.now) (Machine.equal a b) (answer_of result) (cells_of self.now) }
+    {
+        match self.two_cells(a, b) {
+            Some((left, right)) => Reply::Truth(self.interner.equivalent(left, right)),
+            None => Reply::Refused(Reason::NoSuchCell),
+        }
+    }
+
+    fn disjoint(&self, a: usize, b: usize) -> Reply
+        ensures { Step (cells_of self.now) (Machine.disjoint a b) (answer_of result) (cells_of self.now) }
+    {
+        match self.two_cells(a, b) {
+            Some((left, right)) => Reply::Truth(left.is_disjoint(&self.interner, right)),
+            None => Reply::Refused(Reason::NoSuchCell),
+        }
+    }
+
+    fn evaluate(&self, a: usize, environment: &MarkerEnvironment, extras: &[ExtraName]) -> Reply
+        ensures { Step (cells_of self.now) (Machine.evaluate a (values_of environment.now) extras.now) (answer_of result) (cells_of self.now) }
+    {
+        match self.cell(a) {
+            Some(tree) => Reply::Truth(tree.evaluate(&self.interner, environment, extras)),
+            None => Reply::Refused(Reason::NoSuchCell),
+        }
+    }
+
+    // The tree of a cell.
+    fn cell(&self, index: usize) -> Option<MarkerTree>
+        ensures found { IfSome result (λ tree. slice_get self.now.cells.items index ≡ Some tree) }
+        ensures held { IfSome result (IsHeld self.now.interner) }
+        ensures missing { IfNone result (length self.now.cells.items ≤ index) }
+    {
+        self.cells.get(index).copied()
+    }
+
+    // The trees of two cells.
+    fn two_cells(&self, a: usize, b: usize) -> Option<(MarkerTree, MarkerTree)>
+        ensures found { IfSome result (λ trees. (slice_get self.now.cells.items a ≡ Some trees.0) × (slice_get self.now.cells.items b ≡ Some trees.1)) }
+        ensures held { IfSome result (λ trees. IsHeld self.now.interner trees.0 × IsHeld self.now.interner trees.1) }
+        ensures missing { IfNone result ((length self.now.cells.items ≤ a) ⊎ (length self.now.cells.items ≤ b)) }
+    {
+        let left = self.cell(a)?;
+        let right = self.cell(b)?;
+        Some((left, right))
+    }
+
+    // Puts a tree into a new cell.
+    fn add(&mut self, tree: MarkerTree, kinds: Vec<MarkerWarningKind>) -> Reply
+        requires { IsHeld self.old.interner tree }
+        ensures { (request : Request) → Makes (cells_of self.old) request (truth self.old.interner tree) kinds.items → Step (cells_of self.old) request (answer_of result) (cells_of self.new) }
+    {
+        let index = self.cells.len();
+        match self.cells.push(tree) {
+            Ok(()) => Reply::Cell(index, kinds),
+            Err(_) => Reply::Refused(Reason::OutOfMemory),
+        }
+    }
+}
