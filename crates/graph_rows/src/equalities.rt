@@ -1,13 +1,12 @@
 //! Texts that mean the same, and texts that do not.
 
 use crate::trees::{are_equivalent, both, either, tree};
-use marker_graph::{Interner, MarkerTree};
-use marker_nodes::TruthVariable;
+use marker_graph::{Interner, MarkerTree, TruthVariable};
 use marker_parts::ExtraName;
 use std::alloc::Global;
 use std::test::Fail;
 
-const SAME: [(&str, &str); 37] = [
+const SAME: [(&str, &str); 38] = [
     (
         "os_name == 'a' and extra == 'x'",
         "extra == 'x' and os_name == 'a'",
@@ -39,8 +38,12 @@ const SAME: [(&str, &str); 37] = [
         "(extra == 'a' and extra == 'c') or extra == 'b'",
     ),
     (
-        "os_name == 'a' and sys_platform == 'c' or os_name != 'a' and (sys_platform == 'c' or sys_platform == 'd')",
-        "(os_name != 'a' and sys_platform == 'd') or sys_platform == 'c'",
+        "(os_name == 'nt' and sys_platform == 'win32') or (os_name != 'nt' and (sys_platform == 'win32' or sys_platform == 'win64'))",
+        "(os_name != 'nt' and sys_platform == 'win64') or sys_platform == 'win32'",
+    ),
+    (
+        "((python_version < '3.8' and os_name == 'a') or (python_version == '3.8' and os_name != 'b')) and os_name == 'a'",
+        "python_version < '3.9' and os_name == 'a'",
     ),
     ("extra == 'A.b'", "extra == 'a_B'"),
     ("python_version >= '3.8'", "python_full_version >= '3.8'"),
@@ -111,7 +114,7 @@ const SAME: [(&str, &str); 37] = [
 ];
 
 // Texts that are true everywhere, those of which nothing is left among them.
-const TRUE: [&str; 13] = [
+const TRUE: [&str; 14] = [
     "'a' == 'b'",
     "'wat' ~= os_name",
     "sys.platform ~= 'x'",
@@ -121,6 +124,7 @@ const TRUE: [&str; 13] = [
     "python_version < '18446744073709551616'",
     "extra != 'a' or extra == 'a'",
     "os_name < 'a' or os_name >= 'a'",
+    "os_name >= 'bar' or os_name < 'bar'",
     "python_version < '3.8' or python_full_version >= '3.8'",
     "python_version not in '3.9 3.10.0 3.11'",
     "python_version not in ''",

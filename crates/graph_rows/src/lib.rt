@@ -16,4 +16,6 @@ mod sessions;
 #[cfg(test)]
 mod sizes;
 #[cfg(test)]
+mod texts;
+#[cfg(test)]
 mod trees;

@@ -1,36 +1,12 @@
 //! Small texts, of which the trees are true where the formulas are.
 
-use crate::trees::{is_true_in, tree};
+use crate::trees::{environment, is_true_in, tree};
 use marker_graph::Interner;
-use marker_parts::{ExtraName, MarkerEnvironment, MarkerEnvironmentBuilder};
+use marker_parts::{ExtraName, MarkerEnvironment};
 use pep508_markers::{Cell, read};
 use std::alloc::Global;
 use std::process::Abort;
 use std::test::Fail;
-
-// An environment. What it says of `python_version` is never read.
-fn environment(
-    alloc: Global,
-    os_name: &str,
-    full_version: &str,
-) -> Result<MarkerEnvironment, Fail> {
-    Ok(MarkerEnvironment::try_from(
-        alloc,
-        MarkerEnvironmentBuilder {
-            implementation_name: "cpython",
-            implementation_version: "3.12.1",
-            os_name,
-            platform_machine: "x86_64",
-            platform_python_implementation: "CPython",
-            platform_release: "6.1",
-            platform_system: "Linux",
-            platform_version: "#1",
-            python_full_version: full_version,
-            python_version: "2.7",
-            sys_platform: "linux",
-        },
-    )?)
-}
 
 // One of six comparisons, which the rest of a number names. The last one says nothing.
 fn comparison(code: usize) -> &'static str {

@@ -1,9 +1,10 @@
 //! Commands one after another, over cells that are trees.
 
-use marker_parts::{MarkerExpression, MarkerOperator, MarkerValueString};
+use marker_parts::{MarkerExpression, MarkerOperator, MarkerValueString, MarkerWarningKind};
 use marker_session::{Command, Reason, Reply, Session};
 use std::alloc::Global;
 use std::test::Fail;
+use url::Url;
 
 // The reply of a new cell without warnings.
 fn cell(alloc: Global, number: usize) -> Reply {
@@ -58,6 +59,100 @@ fn comparisons_that_are_refused(rt: HostRuntime) -> Result<(), Fail> {
     let first = session.execute(Command::Parse("extra != 'a'"));
     assert_eq!(rt; first, cell(rt.alloc(), 0));
     Ok(())
+}
+
+// The reply to the command of a comparison.
+fn reply_to_comparison(
+    alloc: Global,
+    session: &mut Session,
+    text: &str,
+) -> Result<Option<Reply>, Fail> {
+    match MarkerExpression::parse::<Url>(alloc, text) {
+        Ok(Some(expression)) => Ok(Some(session.execute(Command::Expression(&expression)))),
+        _ => Ok(None),
+    }
+}
+
+#[test]
+fn comparisons_have_the_cells_of_their_texts(rt: HostRuntime) -> Result<(), Fail> {
+    let mut session = Session::new(rt.alloc());
+    let mut next: usize = 0;
+    for text in [
+        "os_name == 'a'",
+        "'a' not in sys_platform",
+        "platform.version > 'a'",
+        "python_version not in '3.8 3.9'",
+        "implementation_version ~= '3.9.0'",
+        "extra != 'A.b'",
+        "extra == 'a b'",
+    ] {
+        let made = reply_to_comparison(rt.alloc(), &mut session, text)?;
+        assert_eq!(rt; made, Some(cell(rt.alloc(), next)), "{text}");
+        let read = session.execute(Command::Parse(text));
+        assert!(rt; matches!(&read, Reply::Cell(_, _)), "{text}");
+        let equal = session.execute(Command::Equal(next, next.saturating_add(1)));
+        assert_eq!(rt; equal, Reply::Truth(true), "{text}");
+        next = next.saturating_add(2);
+    }
+    let text = "python_version > '3.18446744073709551615'";
+    let refused = reply_to_comparison(rt.alloc(), &mut session, text)?;
+    assert_eq!(rt; refused, Some(Reply::Refused(Reason::SegmentAtEnd)));
+    Ok(())
+}
+
+const DEPRECATED: MarkerWarningKind = MarkerWarningKind::DeprecatedMarkerName;
+
+// A text with deprecated spellings, the kinds of its warnings, and a text with the same cell.
+const SPELLINGS: [(&str, &[MarkerWarningKind], &str); 6] = [
+    ("os.name == 'nt'", &[DEPRECATED], "os_name == 'nt'"),
+    (
+        "python_implementation == 'a' or platform.python_implementation == 'b'",
+        &[DEPRECATED, DEPRECATED],
+        "platform_python_implementation == 'b' or platform_python_implementation == 'a'",
+    ),
+    (
+        "os.name == 'nt' and os_name != 'nt'",
+        &[DEPRECATED],
+        "os_name == 'a' and os_name == 'b'",
+    ),
+    (
+        "os.name == sys.platform",
+        &[
+            DEPRECATED,
+            DEPRECATED,
+            MarkerWarningKind::MarkerMarkerComparison,
+        ],
+        "'a' == 'b'",
+    ),
+    (
+        "sys.platform ~= 'x'",
+        &[DEPRECATED, MarkerWarningKind::LexicographicComparison],
+        "'a' == 'b'",
+    ),
+    (
+        "'x' in platform.version",
+        &[DEPRECATED],
+        "'x' in platform_version",
+    ),
+];
+
+// Whether a session of its own has these kinds of the first text, and equal cells of both.
+fn is_spelled(alloc: Global, text: &str, kinds: &[MarkerWarningKind], same: &str) -> bool {
+    let mut session = Session::new(alloc);
+    let first = session.execute(Command::Parse(text));
+    let second = session.execute(Command::Parse(same));
+    let are_cells = match (&first, &second) {
+        (Reply::Cell(0, found), Reply::Cell(1, _)) => found.as_slice() == kinds,
+        _ => false,
+    };
+    are_cells && session.execute(Command::Equal(0, 1)) == Reply::Truth(true)
+}
+
+#[test]
+fn deprecated_spellings_have_the_cells_of_modern_ones(rt: HostRuntime) {
+    for (text, kinds, same) in SPELLINGS {
+        assert!(rt; is_spelled(rt.alloc(), text, kinds, same), "{text}");
+    }
 }
 
 // The texts in which a number would be raised that has no larger one.

@@ -1,8 +1,9 @@
 //! Trees over many variables.
 
-use crate::trees::{are_disjoint, both, tree};
+use crate::trees::{are_disjoint, both, environment, is_true_in, tree};
 use marker_graph::{Interner, MarkerTree};
 use marker_parts::{ExtraName, ExtraOperator, MarkerExpression, MarkerValueExtra};
+use pep508_markers::{Cell, read};
 use std::alloc::Global;
 use std::test::Fail;
 
@@ -62,6 +63,58 @@ fn parentheses_to_any_depth(rt: HostRuntime) -> Result<(), Fail> {
         let same = is_the_same_in_parentheses(rt.alloc(), &mut interner, depth)?;
         assert!(rt; same, "{depth}");
     }
+    Ok(())
+}
+
+// A text of so many different extras, of which each is enough.
+fn any_extra(alloc: Global, count: usize) -> Result<String, Fail> {
+    let mut text = String::from_str(alloc, "extra == 'x'")?;
+    for number in 0..count {
+        text.push_str(format!(in alloc; " or extra == 'x{number}'")?.as_str())?;
+    }
+    Ok(text)
+}
+
+// Whether the formula is true with an extra of this name.
+fn is_true_with(alloc: Global, cell: &Cell, name: &str) -> Result<bool, Fail> {
+    let environment = environment(alloc, "posix", "3.12.1")?;
+    let name = ExtraName::parse(alloc, name)?;
+    let mut truths = Vec::with_capacity(alloc, cell.len())?;
+    Ok(cell.evaluate(&mut truths, &environment, &[name]))
+}
+
+// A formula needs no tree to be read, evaluated and dropped, and no stack for its terms.
+#[test]
+fn a_formula_of_different_terms(rt: HostRuntime) -> Result<(), Fail> {
+    let text = any_extra(rt.alloc(), 100_000)?;
+    let Ok(reading) = read(rt.alloc(), &text) else {
+        return Err("not read".into());
+    };
+    let Ok(cell) = Cell::new(rt.alloc(), reading.formula) else {
+        return Err("no cell".into());
+    };
+    assert!(rt; is_true_with(rt.alloc(), &cell, "x")?);
+    assert!(rt; is_true_with(rt.alloc(), &cell, "x99999")?);
+    assert!(rt; !is_true_with(rt.alloc(), &cell, "x100000")?);
+    Ok(())
+}
+
+// On the stack of 8 MB that a program has.
+#[test]
+fn five_thousand_extras(rt: HostRuntime) -> Result<(), Fail> {
+    let mut interner = Interner::new(rt.alloc());
+    let even = every_second(rt.alloc(), &mut interner, 10_000, 2_500)?;
+    let odd = every_second(rt.alloc(), &mut interner, 10_001, 2_500)?;
+    let all = both(&mut interner, even, odd)?;
+    let turned = both(&mut interner, odd, even)?;
+    assert!(rt; all == turned);
+    assert!(rt; all != even);
+    assert!(rt; are_disjoint(&interner, all, even.negate())?);
+    assert!(rt; !are_disjoint(&interner, all, odd)?);
+    assert!(rt; !are_disjoint(&interner, even, odd.negate())?);
+    let environment = environment(rt.alloc(), "posix", "3.12.1")?;
+    assert!(rt; !is_true_in(&interner, all, &environment, &[])?);
+    assert!(rt; is_true_in(&interner, all.negate(), &environment, &[])?);
     Ok(())
 }
 

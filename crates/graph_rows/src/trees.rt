@@ -1,7 +1,7 @@
 //! The trees of texts.
 
 use marker_graph::{Interner, InvalidExpression, MarkerTree};
-use marker_parts::{ExtraName, MarkerEnvironment, Refusal};
+use marker_parts::{ExtraName, MarkerEnvironment, MarkerEnvironmentBuilder, Refusal};
 use marker_session::tree_of;
 use pep508_markers::read;
 use std::alloc::Global;
@@ -21,7 +21,7 @@ pub fn tree(alloc: Global, interner: &mut Interner, text: &str) -> Result<Marker
     let Ok(reading) = read(alloc, text) else {
         return Err("not read".into());
     };
-    tree_of(alloc, interner, reading.formula).map_err(failure)
+    tree_of(interner, reading.formula).map_err(failure)
 }
 
 // The conjunction.
@@ -99,4 +99,28 @@ pub fn is_true_in(
         return Err("the tree is not held".into());
     }
     Ok(tree.evaluate(interner, environment, extras))
+}
+
+// An environment. What it says of `python_version` is never read.
+pub fn environment(
+    alloc: Global,
+    os_name: &str,
+    full_version: &str,
+) -> Result<MarkerEnvironment, Fail> {
+    Ok(MarkerEnvironment::try_from(
+        alloc,
+        MarkerEnvironmentBuilder {
+            implementation_name: "cpython",
+            implementation_version: "3.12.1",
+            os_name,
+            platform_machine: "x86_64",
+            platform_python_implementation: "CPython",
+            platform_release: "6.1",
+            platform_system: "Linux",
+            platform_version: "#1",
+            python_full_version: full_version,
+            python_version: "2.7",
+            sys_platform: "linux",
+        },
+    )?)
 }

@@ -1,10 +1,10 @@
 -- Ids that choose among children.
-use Rattle.std.proofs.Common.{◌≡◌, Bool, List, Some, refl, sym, ap, ◌∙◌, subst}
+use Rattle.std.proofs.Common.{◌≡◌, Bool, List, sym, ap, ◌∙◌, subst}
 use Rattle.marker_diagrams.specs.declared.node_id.NodeId.{NodeId}
-use Rattle.marker_diagrams.specs.Id.{signed, is_negated, signed_id}
-use Rattle.marker_diagrams.specs.Diagram.{NodeKind, node_of, IsHeld, truth, IsLawful, AreChildren, IsChoice, Keeps}
+use Rattle.marker_diagrams.specs.Id.{signed, signed_id}
+use Rattle.marker_diagrams.specs.Diagram.{NodeKind, node_of, IsHeld, truth, IsLawful, AreChildren, IsChoice}
 use Rattle.marker_diagrams.proofs.IdLaws.{signed_undone}
-use Rattle.marker_diagrams.proofs.NodeLaws.{truth_signed, truth_still, after_still}
+use Rattle.marker_diagrams.proofs.NodeLaws.{truth_signed}
 
 module _ {N X V : Type 0} (kind : NodeKind N X V) (nodes : List N) (x : X) where
   -- children under a sign

@@ -1,18 +1,14 @@
 //! The child of a node that an environment selects.
 
-ghost use Rattle.std.specs.Prelude.{◌≡◌, bytes_eq, string_bytes};
+ghost use Rattle.std.specs.Prelude.{◌≡◌, bytes_eq};
 ghost use Rattle.std.specs.List.{list_any};
-ghost use Rattle.version_ranges.specs.Point.{at};
-ghost use Rattle.version_ranges.specs.Cuts.{value_by};
 ghost use Rattle.marker_environment.specs.Environment.{valuation_of, values_of};
 ghost use Rattle.marker_nodes.specs.Variable.{answer};
-ghost use Rattle.marker_nodes.specs.Node.{pick, text_cmp};
+ghost use Rattle.marker_nodes.specs.Node.{pick};
 
 use marker_environment::{MarkerEnvironment, is_part_of};
 use marker_nodes::{Node, NodeId, TruthVariable};
 use pep508_names::ExtraName;
-use std::ops::Bound;
-use version_ranges::Cuts;
 
 // The child of a node that the environment with these extras selects.
 pub(crate) fn child_in(node: &Node, environment: &MarkerEnvironment, extras: &[ExtraName]) -> NodeId
@@ -20,7 +16,7 @@ pub(crate) fn child_in(node: &Node, environment: &MarkerEnvironment, extras: &[E
 {
     match node {
         Node::Version(variable, edges) => *edges.at(environment.get_version(&variable.key())),
-        Node::Text(variable, edges) => child_at_text(edges, environment.text(*variable)),
+        Node::Text(variable, edges) => *edges.at_str(environment.text(*variable)),
         Node::Truth(variable, high, low) => {
             if is_so(variable, environment, extras) {
                 *high
@@ -29,24 +25,6 @@ pub(crate) fn child_in(node: &Node, environment: &MarkerEnvironment, extras: &[E
             }
         }
     }
-}
-
-// The child of the piece that a text lies in.
-fn child_at_text(edges: &Cuts<String, NodeId>, text: &str) -> NodeId
-    ensures { result ≡ value_by string_bytes text_cmp edges.now (at text.now) }
-{
-    for piece in edges.pieces() {
-        let is_inside = match piece.upper {
-            Bound::Included(bound) => text <= bound.as_str(),
-            Bound::Excluded(bound) => text < bound.as_str(),
-            Bound::Unbounded => true,
-        };
-        if is_inside {
-            return *piece.value;
-        }
-    }
-    // The last piece has no upper bound, so this never comes.
-    NodeId::TRUE
 }
 
 // Whether it is so in the environment with these extras.

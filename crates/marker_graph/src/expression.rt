@@ -68,7 +68,7 @@ impl Interner {
         ensures not_invalid { OnOk result (¬ IsInvalid (test_of expression)) }
         ensures err { IfErr result (IsUnmade (test_of expression)) }
     {
-        if let Some((variable, range)) = version_range(self.alloc(), &expression)? {
+        if let Some((variable, range)) = version_range(self.allocator(), &expression)? {
             return Ok(self.asks_version(variable, &range)?);
         }
         match expression {
@@ -110,7 +110,7 @@ impl Interner {
             | MarkerOperator::GreaterEqual
             | MarkerOperator::LessThan
             | MarkerOperator::LessEqual => {
-                let range = range_beside(self.alloc(), operator, value)?;
+                let range = range_beside(self.allocator(), operator, value)?;
                 Ok(self.asks_text(variable, &range)?)
             }
             MarkerOperator::TildeEqual => Err(Refusal::Fault(InvalidExpression)),
@@ -148,7 +148,7 @@ impl Interner {
         ensures kept { IsKept self.old self.new }
         ensures asks { IfOk result (IsTruthOf self.new.nodes (λ v. contains_point version_cmp range.now (v.version variable))) }
     {
-        let edges = Cuts::from_ranges(self.alloc(), range, NodeId::TRUE, NodeId::FALSE)?;
+        let edges = Cuts::from_ranges(self.allocator(), range, NodeId::TRUE, NodeId::FALSE)?;
         self.place(Node::Version(variable, edges))
     }
 
@@ -161,7 +161,7 @@ impl Interner {
         ensures kept { IsKept self.old self.new }
         ensures asks { IfOk result (IsTruthOf self.new.nodes (λ v. contains_by string_bytes text_cmp range.now (v.text variable))) }
     {
-        let edges = Cuts::from_ranges(self.alloc(), range, NodeId::TRUE, NodeId::FALSE)?;
+        let edges = Cuts::from_ranges(self.allocator(), range, NodeId::TRUE, NodeId::FALSE)?;
         self.place(Node::Text(variable, edges))
     }
 }

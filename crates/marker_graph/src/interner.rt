@@ -8,7 +8,7 @@ ghost use Rattle.marker_diagrams.specs.Diagram as diagram;
 ghost use Rattle.marker_diagrams.specs.Id.{place_of};
 ghost use Rattle.marker_nodes.specs.Variable.{of_version, of_text, truth_variable, answer};
 ghost use Rattle.marker_nodes.specs.Node.{markers, pick, variable};
-ghost use Rattle.marker_graph.specs.Contents.{nothing, IsAnd, IsHeld, IsKept, Separated};
+ghost use Rattle.marker_graph.specs.Contents.{nothing, IsAnd, IsHeld, IsKept, IsWellKept, Separated};
 ghost use Rattle.marker_graph.specs.Branch.{AreAnds, AreBelow, IsFirst};
 ghost use Rattle.marker_graph.specs.Count.{IsCounted, IsShort, Spends};
 
@@ -63,6 +63,11 @@ impl Interner {
         }
     }
 
+    /// Where the memory of the nodes is taken from.
+    pub fn allocator(&self) -> Global {
+        self.alloc
+    }
+
     /// Whether the marker stands here. `TRUE` and `FALSE` stand in every interner.
     pub fn holds(&self, tree: &MarkerTree) -> bool
         ensures { IsTrue result ↔ IsHeld self.now tree.now }
@@ -87,9 +92,11 @@ impl Interner {
         self.expansions
     }
 
-    /// The nodes keep the rules of diagrams. This is a law, and the call does nothing.
+    /// The nodes keep the rules of diagrams, and each conjunction that is known is one of nodes that stand here. This is a
+    /// law, and the call does nothing.
     pub fn keeps_the_rules(&self)
-        ensures { IsStore markers self.now.nodes }
+        ensures nodes { IsStore markers self.now.nodes }
+        ensures known { IsWellKept self.now }
     {
         let _nodes = &self.nodes;
     }
@@ -286,11 +293,6 @@ impl Interner {
         let placed = self.nodes.place(node);
         self.nodes.keeps_the_rules();
         placed
-    }
-
-    // Where the memory of the nodes is taken from.
-    pub(crate) fn alloc(&self) -> Global {
-        self.alloc
     }
 }
 

@@ -14,4 +14,5 @@ mod tree;
 
 pub use expression::InvalidExpression;
 pub use interner::Interner;
+pub use marker_nodes::TruthVariable;
 pub use tree::MarkerTree;

@@ -3,7 +3,7 @@ use Rattle.std.proofs.Common.{◌≡◌, ℕ, Bool, true, false, cond, ◌&&◌,
 use Rattle.std.specs.Prelude.{nat_eq}
 use Rattle.std.specs.Ordering.{eq_by_cmp}
 use Rattle.std.specs.Cmp.Lexicographic.{nat_list_cmp_total, texts_ties, pointwise, same_text, nat_list_eq_equiv}
-use Rattle.std.specs.String.{string_cmp, string_eq, string_cmp_total}
+use Rattle.std.specs.String.{string_eq, string_cmp_total}
 use Rattle.std.proofs.lemmas.Bool.{false≢true, and_parts, and_from}
 use denote.Enum.Bare.{sameb, same_true, true_same}
 use Rattle.version_ranges.specs.Cuts.{value_by, value_of}
@@ -121,7 +121,7 @@ equal_same (Version x e) (Version y h) r =
       variable = tied_variable (of_version x) (of_version y) (ap of_version s);
       pick = λ v.
           ap (λ z. value_of version_cmp e (v.version z)) s
-          ∙ same_at (λ w. w) version_cmp version_cmp version_total version_total (λ a b. refl) (eq_by_cmp version_cmp) (λ a b. refl) e h q.1 (v.version y);
+          ∙ same_at (λ w. w) version_cmp (eq_by_cmp version_cmp) e h version_total version_total (λ a b. refl) (λ a b. refl) q.1 (v.version y);
     }
 equal_same (Text x e) (Text y h) r =
     let q = and_parts (sameb text_type x y) _ r in
@@ -130,7 +130,7 @@ equal_same (Text x e) (Text y h) r =
       variable = tied_variable (of_text x) (of_text y) (ap of_text s);
       pick = λ v.
           ap (λ z. value_by string_bytes text_cmp e (v.text z)) s
-          ∙ same_at string_bytes string_cmp text_cmp string_cmp_total nat_list_cmp_total (λ a b. refl) string_eq (λ a b. texts_ties (string_bytes a) (string_bytes b)) e h q.1 (v.text y);
+          ∙ same_at string_bytes text_cmp string_eq e h string_cmp_total nat_list_cmp_total (λ a b. refl) (λ a b. texts_ties (string_bytes a) (string_bytes b)) q.1 (v.text y);
     }
 equal_same (Truth x high low) (Truth y i k) r =
     let q = and_parts (truth_partial_eq.eq x y) (same_id high i && same_id low k) r in
@@ -155,12 +155,12 @@ rest_false false b e f = absurd (false≢true f)
 pub unequal_other : (n m : Node) → is_reduced n ≡ true → is_reduced m ≡ true → node_partial_eq.eq n m ≡ false → AreSame markers n m → ⊥
 unequal_other (Version x e) (Version y h) r s f same =
     let g = rest_false (sameb version_type x y) _ f (true_same version_type x y (same_version x y same.variable)) in
-    let q = differ_at (λ w. w) version_cmp version_cmp version_total version_total (λ a b. refl) (eq_by_cmp version_cmp) (λ a b. refl) e h e.ascending h.ascending
+    let q = differ_at (λ w. w) version_cmp (eq_by_cmp version_cmp) e h version_total version_total (λ a b. refl) (λ a b. refl)
     ((and_parts _ _ r).0) ((and_parts _ _ s).0) g in
     q.1 (same.pick (at_version q.0))
 unequal_other (Text x e) (Text y h) r s f same =
     let g = rest_false (sameb text_type x y) _ f (true_same text_type x y (same_text_variable x y same.variable)) in
-    let q = differ_at string_bytes string_cmp text_cmp string_cmp_total nat_list_cmp_total (λ a b. refl) string_eq (λ a b. texts_ties (string_bytes a) (string_bytes b)) e h e.ascending h.ascending
+    let q = differ_at string_bytes text_cmp string_eq e h string_cmp_total nat_list_cmp_total (λ a b. refl) (λ a b. texts_ties (string_bytes a) (string_bytes b))
     ((and_parts _ _ r).0) ((and_parts _ _ s).0) g in
     q.1 (same.pick (at_text q.0))
 unequal_other (Truth x high low) (Truth y i k) r s f same = by_test (same_id high i) refl

@@ -2,11 +2,12 @@
 use Rattle.std.proofs.Common.{◌≡◌, ◌≢◌, ◌⊎◌, inl, inr, ℕ, List, [], Bool, true, false, cond, string_bytes, refl, sym, ap, ◌∙◌, arith}
 use Rattle.std.specs.declared.cmp.Ordering.TheVariants.{Equal}
 use Rattle.std.specs.Cmp.Lexicographic.{nat_list_cmp_total, texts_ties}
-use Rattle.std.specs.String.{string_cmp, string_eq, string_cmp_total}
+use Rattle.std.specs.String.{string_eq, string_cmp_total}
 use Rattle.std.specs.Ordering.{eq_by_cmp}
 use Rattle.std.proofs.lemmas.Bool.{and_parts}
 use Rattle.version_ranges.specs.Point.{Point, bottom}
 use Rattle.version_ranges.specs.Cuts.{value_by, value_of}
+use Rattle.version_ranges.proofs.FunctionLaws.{same_functions}
 use Rattle.pep440_version.specs.Parts.{Parts}
 use Rattle.pep440_version.specs.Order.{version_cmp}
 use Rattle.pep440_version.specs.OrderLaws.{version_total}
@@ -24,7 +25,7 @@ use Rattle.marker_nodes.specs.declared.node.Node.TheVariants.{Version, Text, Tru
 use Rattle.marker_nodes.specs.Variable.{Variable, of_version, of_text, of_inside, of_contains, of_extra, of_arbitrary, truth_variable, answer, mix}
 use Rattle.marker_nodes.specs.Node.{markers, variable, pick, is_reduced, lowest, text_cmp}
 use Rattle.marker_nodes.proofs.VariableLaws.{variable_total, one_variable, later, chosen, answer_mixed, one_answer}
-use Rattle.marker_nodes.proofs.EdgeLaws.{proper_edges, same_edges, same_at, differ_at, not_true}
+use Rattle.marker_nodes.proofs.EdgeLaws.{proper_edges, same_at, differ_at, not_true}
 
 own : (n : Node) (t : Variable → Bool) (v w : Valuation) → pick n (mix t v w) ≡ cond (t (variable n)) (pick n v) (pick n w)
 own (Version x e) t v w = chosen (value_of version_cmp e) (t (of_version x)) (v.version x) (w.version x)
@@ -106,9 +107,9 @@ same_text_variable x y e = ap variable_of (one_variable (of_text x) (of_text y) 
 
 proper : (n : Node) → is_reduced n ≡ true → (v : Valuation) × (w : Valuation) × (pick n v ≢ pick n w)
 proper (Version x e) r =
-    let q = proper_edges (λ w. w) version_cmp version_cmp version_total version_total (λ a b. refl) e e.ascending r in (at_version bottom, at_version q.0, q.1)
+    let q = proper_edges (λ w. w) version_cmp e version_total version_total (λ a b. refl) r in (at_version bottom, at_version q.0, q.1)
 proper (Text x e) r =
-    let q = proper_edges string_bytes string_cmp text_cmp string_cmp_total nat_list_cmp_total (λ a b. refl) e e.ascending r in (at_text bottom, at_text q.0, q.1)
+    let q = proper_edges string_bytes text_cmp e string_cmp_total nat_list_cmp_total (λ a b. refl) r in (at_text bottom, at_text q.0, q.1)
 proper (Truth x high low) r =
     (lowest, denied, λ e. not_same_id high low (not_true (same_id high low) r) (sym (high_picked x high low) ∙ e ∙ low_picked x high low))
 
@@ -118,34 +119,34 @@ abbrev Told : Node → Node → Type 0
 Told n m = AreSame markers n m ⊎ ((v : Valuation) × (pick n v ≢ pick m v))
 
 told : (n m : Node) → is_reduced n ≡ true → is_reduced m ≡ true → markers.cmp (variable n) (variable m) ≡ Equal → Told n m
-told (Version x e) (Version y h) r s g = by_test (same_edges (λ w. w) version_cmp version_cmp version_total version_total (λ a b. refl) (eq_by_cmp version_cmp) (λ a b. refl) e h) refl
+told (Version x e) (Version y h) r s g = by_test (same_functions (eq_by_cmp version_cmp) same_id e h) refl
   where
-    by_test : (t : Bool) → same_edges (λ w. w) version_cmp version_cmp version_total version_total (λ a b. refl) (eq_by_cmp version_cmp) (λ a b. refl) e h ≡ t → Told (Version x e) (Version y h)
+    by_test : (t : Bool) → same_functions (eq_by_cmp version_cmp) same_id e h ≡ t → Told (Version x e) (Version y h)
     by_test true f =
         inl
         (record {
           variable = g;
           pick = λ v.
               ap (λ z. value_of version_cmp e (v.version z)) (same_version x y g)
-              ∙ same_at (λ w. w) version_cmp version_cmp version_total version_total (λ a b. refl) (eq_by_cmp version_cmp) (λ a b. refl) e h f (v.version y);
+              ∙ same_at (λ w. w) version_cmp (eq_by_cmp version_cmp) e h version_total version_total (λ a b. refl) (λ a b. refl) f (v.version y);
         })
     by_test false f =
-        let q = differ_at (λ w. w) version_cmp version_cmp version_total version_total (λ a b. refl) (eq_by_cmp version_cmp) (λ a b. refl) e h e.ascending h.ascending
+        let q = differ_at (λ w. w) version_cmp (eq_by_cmp version_cmp) e h version_total version_total (λ a b. refl) (λ a b. refl)
         ((and_parts _ _ r).0) ((and_parts _ _ s).0) f in
         inr (at_version q.0, q.1)
-told (Text x e) (Text y h) r s g = by_test (same_edges string_bytes string_cmp text_cmp string_cmp_total nat_list_cmp_total (λ a b. refl) string_eq (λ a b. texts_ties (string_bytes a) (string_bytes b)) e h) refl
+told (Text x e) (Text y h) r s g = by_test (same_functions string_eq same_id e h) refl
   where
-    by_test : (t : Bool) → same_edges string_bytes string_cmp text_cmp string_cmp_total nat_list_cmp_total (λ a b. refl) string_eq (λ a b. texts_ties (string_bytes a) (string_bytes b)) e h ≡ t → Told (Text x e) (Text y h)
+    by_test : (t : Bool) → same_functions string_eq same_id e h ≡ t → Told (Text x e) (Text y h)
     by_test true f =
         inl
         (record {
           variable = g;
           pick = λ v.
               ap (λ z. value_by string_bytes text_cmp e (v.text z)) (same_text_variable x y g)
-              ∙ same_at string_bytes string_cmp text_cmp string_cmp_total nat_list_cmp_total (λ a b. refl) string_eq (λ a b. texts_ties (string_bytes a) (string_bytes b)) e h f (v.text y);
+              ∙ same_at string_bytes text_cmp string_eq e h string_cmp_total nat_list_cmp_total (λ a b. refl) (λ a b. texts_ties (string_bytes a) (string_bytes b)) f (v.text y);
         })
     by_test false f =
-        let q = differ_at string_bytes string_cmp text_cmp string_cmp_total nat_list_cmp_total (λ a b. refl) string_eq (λ a b. texts_ties (string_bytes a) (string_bytes b)) e h e.ascending h.ascending
+        let q = differ_at string_bytes text_cmp string_eq e h string_cmp_total nat_list_cmp_total (λ a b. refl) (λ a b. texts_ties (string_bytes a) (string_bytes b))
         ((and_parts _ _ r).0) ((and_parts _ _ s).0) f in
         inr (at_text q.0, q.1)
 told (Truth x high low) (Truth y i k) r s g = by_test (same_id high i) refl (same_id low k) refl

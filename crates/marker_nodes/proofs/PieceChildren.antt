@@ -1,5 +1,5 @@
 -- Children listed for the pieces of a function.
-use Rattle.std.proofs.Common.{◌≡◌, ℕ, suc, ◌<◌, true, List, [], ◌++◌, append-nil, take, drop, map, length, get_or, Some, sym, ap, ◌∙◌, arith}
+use Rattle.std.proofs.Common.{◌≡◌, ℕ, ◌<◌, true, List, [], ◌++◌, append-nil, take, drop, map, length, get_or, Some, sym, ap, ◌∙◌, arith}
 use Rattle.std.specs.Prelude.{slice_get, EachIndex, Result, Ok, Err, IfOk}
 use Rattle.std.specs.declared.alloc.AllocError.{AllocError}
 use Rattle.std.proofs.Math.Seq.{take-append_seam}
@@ -10,13 +10,12 @@ use Rattle.version_ranges.specs.declared.cuts.Cuts.{Cuts}
 use Rattle.version_ranges.specs.Point.{Point}
 use Rattle.version_ranges.specs.Cuts.{value_of, piece_of, piece_count}
 use Rattle.version_ranges.specs.Parts.{Part, ArePieces}
-use Rattle.version_ranges.specs.Cut.{cut_cmp}
-use Rattle.version_ranges.proofs.PointLaws.{piece_at_place, place}
-use Rattle.version_ranges.proofs.PieceLaws.{piece_bound, same_some}
+use Rattle.version_ranges.proofs.FunctionLaws.{piece_within}
 use Rattle.marker_diagrams.specs.declared.node_id.NodeId.{NodeId}
 use Rattle.marker_diagrams.specs.declared.node_id.TheConstants.NodeId.{TRUE}
 use Rattle.marker_diagrams.specs.Id.{signed_id, is_negated, same_id}
 use Rattle.marker_diagrams.proofs.IdLaws.{same_id_is}
+use Rattle.marker_diagrams.proofs.NodeLaws.{same_some}
 use Rattle.marker_nodes.specs.Node.{child_at}
 
 -- an element within a list does not hang on the default
@@ -37,8 +36,8 @@ pub signed_children : {T V : Type 0} (cmp : T → T → Ordering) {a : _} {b : _
     (p : Point T) → value_of cmp edges p ≡ signed_id (is_negated (child_at children 0)) (child_at children (piece_of cmp pieces p))
 signed_children cmp pieces edges children values first count same_count f each value p =
     let i = piece_of cmp pieces p in
-    let b : i < suc (length pieces.rest.items) = rw (piece_at_place cmp pieces.rest.items p) (piece_bound (cut_cmp cmp) pieces.rest.items (place p)) in
-    let l : i < length values = (let k = pieces.rest.ok.0 in omega arith) in
+    let h : i < piece_count pieces = piece_within (λ v. v) cmp pieces p in
+    let l : i < length values = omega arith in
     same_id_is (value_of cmp edges p) (child_at values i) (value p (child_at values i) (slice_get-get_or values i TRUE l)) ∙ each i l ∙ ap (λ t. signed_id (is_negated t) (child_at children i)) f
 
 pub signed_result : {T V : Type 0} (cmp : T → T → Ordering) {a : _} {b : _} {c : _} {a' : _} {b' : _} {c' : _} (pieces : Cuts T V a b c) (children values : List NodeId) (first : NodeId) →

@@ -12,9 +12,7 @@ use Rattle.std.proofs.lemmas.List.{length-reverse}
 use Rattle.indexmap.specs.IndexSet.{insert_key}
 use Rattle.version_ranges.specs.declared.cuts.Cuts.{Cuts}
 use Rattle.version_ranges.specs.Point.{Point}
-use Rattle.version_ranges.specs.Cut.{cut_cmp}
-use Rattle.version_ranges.specs.Steps.{ascends, is_merged}
-use Rattle.version_ranges.specs.Cuts.{value_by, value_of, piece_by, piece_of, piece_count, IsMerged}
+use Rattle.version_ranges.specs.Cuts.{value_by, value_of, piece_by, piece_of, piece_count, neighbors_differ, IsMerged}
 use Rattle.version_ranges.proofs.Elsewhere.{at_names}
 use Rattle.pep440_version.specs.Parts.{Parts}
 use Rattle.pep440_version.specs.Order.{version_cmp}
@@ -105,25 +103,23 @@ signed_self false = refl
 -- ---- nodes on versions
 
 pub version_ready : (nodes : List Node) (x : VersionVariable) {V : Type 0} {a : _} {b : _} {c : _} (pieces : Cuts Parts V a b c) (children : List NodeId) (edges : Cuts Parts NodeId _ _ _) →
-    ascends (cut_cmp version_cmp) None pieces.rest.items ≡ true →
     ((p : Point Parts) → value_of version_cmp edges p ≡ signed_id (is_negated (child_at children 0)) (child_at children (piece_of version_cmp pieces p))) →
     IsMerged same_id edges → (piece_count edges ≡ 1 → ⊥) → AreChildren markers nodes (of_version x) (version_child x pieces children) → IsReady markers nodes (Version x edges)
-version_ready nodes x pieces children edges up child merged more given =
+version_ready nodes x pieces children edges child merged more given =
     let s = is_negated (child_at children 0) in
     record {
       children = children_same markers nodes (of_version x) (λ v. signed_id s (version_child x pieces children v)) (pick (Version x edges)) (λ v. sym (child_by (λ w. w) version_cmp version_cmp version_total version_total (λ p q. refl) pieces children edges s child (v.version x)))
           (children_signed markers nodes (of_version x) s (version_child x pieces children) given);
-      plain = ap is_negated (first_by (λ w. w) version_cmp version_cmp version_total version_total (λ p q. refl) pieces children edges s child up) ∙ signed_self s;
-      reduced = and_from (is_merged same_id edges.first edges.rest.items) (not (piece_count edges == 1)) merged (ap not (ne_eqb (piece_count edges) 1 more));
+      plain = ap is_negated (first_by (λ w. w) version_cmp version_cmp version_total version_total (λ p q. refl) pieces children edges s child) ∙ signed_self s;
+      reduced = and_from (neighbors_differ same_id edges) (not (piece_count edges == 1)) merged (ap not (ne_eqb (piece_count edges) 1 more));
     }
 
 pub version_constant : (nodes : List Node) (x : VersionVariable) {V : Type 0} {a : _} {b : _} {c : _} {a' : _} {b' : _} {c' : _} (pieces : Cuts Parts V a b c) (children : List NodeId) (edges : Cuts Parts NodeId a' b' c') →
-    ascends (cut_cmp version_cmp) None pieces.rest.items ≡ true →
     ((p : Point Parts) → value_of version_cmp edges p ≡ signed_id (is_negated (child_at children 0)) (child_at children (piece_of version_cmp pieces p))) →
     piece_count edges ≡ 1 → AreChildren markers nodes (of_version x) (version_child x pieces children) → IsChoice markers nodes (of_version x) (version_child x pieces children) (child_at children 0)
-version_constant nodes x pieces children edges up child one given =
+version_constant nodes x pieces children edges child one given =
     choice_constant markers nodes (of_version x) lawful (version_child x pieces children) (child_at children 0)
-    (λ v. one_child (λ w. w) version_cmp version_cmp version_total version_total (λ p q. refl) pieces children edges (is_negated (child_at children 0)) child up one (v.version x)) given
+    (λ v. one_child (λ w. w) version_cmp version_cmp version_total version_total (λ p q. refl) pieces children edges (is_negated (child_at children 0)) child one (v.version x)) given
 
 pub version_done : (nodes : List Node) (x : VersionVariable) {V : Type 0} {a : _} {b : _} {c : _} (pieces : Cuts Parts V a b c) (children : List NodeId) (edges : Cuts Parts NodeId _ _ _) (id : NodeId) →
     ((p : Point Parts) → value_of version_cmp edges p ≡ signed_id (is_negated (child_at children 0)) (child_at children (piece_of version_cmp pieces p))) →
@@ -136,25 +132,23 @@ version_done nodes x pieces children edges id child c =
 -- ---- nodes on texts
 
 pub text_ready : (nodes : List Node) (x : TextVariable) {V : Type 0} {a : _} {b : _} {c : _} (pieces : Cuts (String Global) V a b c) (children : List NodeId) (edges : Cuts (String Global) NodeId _ _ _) →
-    ascends (cut_cmp string_cmp) None pieces.rest.items ≡ true →
     ((p : Point (String Global)) → value_of string_cmp edges p ≡ signed_id (is_negated (child_at children 0)) (child_at children (piece_of string_cmp pieces p))) →
     IsMerged same_id edges → (piece_count edges ≡ 1 → ⊥) → AreChildren markers nodes (of_text x) (text_child x pieces children) → IsReady markers nodes (Text x edges)
-text_ready nodes x pieces children edges up child merged more given =
+text_ready nodes x pieces children edges child merged more given =
     let s = is_negated (child_at children 0) in
     record {
       children = children_same markers nodes (of_text x) (λ v. signed_id s (text_child x pieces children v)) (pick (Text x edges)) (λ v. sym (child_by string_bytes string_cmp text_cmp string_cmp_total nat_list_cmp_total (λ p q. refl) pieces children edges s child (v.text x)))
           (children_signed markers nodes (of_text x) s (text_child x pieces children) given);
-      plain = ap is_negated (first_by string_bytes string_cmp text_cmp string_cmp_total nat_list_cmp_total (λ p q. refl) pieces children edges s child up) ∙ signed_self s;
-      reduced = and_from (is_merged same_id edges.first edges.rest.items) (not (piece_count edges == 1)) merged (ap not (ne_eqb (piece_count edges) 1 more));
+      plain = ap is_negated (first_by string_bytes string_cmp text_cmp string_cmp_total nat_list_cmp_total (λ p q. refl) pieces children edges s child) ∙ signed_self s;
+      reduced = and_from (neighbors_differ same_id edges) (not (piece_count edges == 1)) merged (ap not (ne_eqb (piece_count edges) 1 more));
     }
 
 pub text_constant : (nodes : List Node) (x : TextVariable) {V : Type 0} {a : _} {b : _} {c : _} {a' : _} {b' : _} {c' : _} (pieces : Cuts (String Global) V a b c) (children : List NodeId) (edges : Cuts (String Global) NodeId a' b' c') →
-    ascends (cut_cmp string_cmp) None pieces.rest.items ≡ true →
     ((p : Point (String Global)) → value_of string_cmp edges p ≡ signed_id (is_negated (child_at children 0)) (child_at children (piece_of string_cmp pieces p))) →
     piece_count edges ≡ 1 → AreChildren markers nodes (of_text x) (text_child x pieces children) → IsChoice markers nodes (of_text x) (text_child x pieces children) (child_at children 0)
-text_constant nodes x pieces children edges up child one given =
+text_constant nodes x pieces children edges child one given =
     choice_constant markers nodes (of_text x) lawful (text_child x pieces children) (child_at children 0)
-    (λ v. one_child string_bytes string_cmp text_cmp string_cmp_total nat_list_cmp_total (λ p q. refl) pieces children edges (is_negated (child_at children 0)) child up one (v.text x)) given
+    (λ v. one_child string_bytes string_cmp text_cmp string_cmp_total nat_list_cmp_total (λ p q. refl) pieces children edges (is_negated (child_at children 0)) child one (v.text x)) given
 
 pub text_done : (nodes : List Node) (x : TextVariable) {V : Type 0} {a : _} {b : _} {c : _} (pieces : Cuts (String Global) V a b c) (children : List NodeId) (edges : Cuts (String Global) NodeId _ _ _) (id : NodeId) →
     ((p : Point (String Global)) → value_of string_cmp edges p ≡ signed_id (is_negated (child_at children 0)) (child_at children (piece_of string_cmp pieces p))) →

@@ -5,9 +5,8 @@ use Rattle.std.specs.Ordering.{nat_cmp}
 use Rattle.std.specs.declared.cmp.Ordering.{Ordering}
 use Rattle.std.specs.Cmp.Lexicographic.{slice_cmp}
 use Rattle.version_ranges.specs.Point.{bottom}
-use Rattle.version_ranges.specs.Steps.{is_merged}
 use Rattle.version_ranges.specs.declared.cuts.Cuts.{Cuts}
-use Rattle.version_ranges.specs.Cuts.{value_by, value_of, piece_by, piece_of, piece_count}
+use Rattle.version_ranges.specs.Cuts.{value_by, value_of, piece_by, piece_of, piece_count, neighbors_differ}
 use Rattle.pep440_version.specs.Parts.{Parts}
 use Rattle.pep440_version.specs.Order.{version_cmp}
 use Rattle.marker_words.specs.declared.key.TextVariable.{TextVariable}
@@ -56,8 +55,8 @@ module _ {V : Type 0} {a : _} {b : _} {c : _} where
 
 -- not all children are the same, and those of neighboring pieces differ
 abbrev pub is_reduced : Node → Bool
-is_reduced (Version x edges) = is_merged same_id edges.first edges.rest.items && not (piece_count edges == 1)
-is_reduced (Text x edges) = is_merged same_id edges.first edges.rest.items && not (piece_count edges == 1)
+is_reduced (Version x edges) = neighbors_differ same_id edges && not (piece_count edges == 1)
+is_reduced (Text x edges) = neighbors_differ same_id edges && not (piece_count edges == 1)
 is_reduced (Truth x high low) = not (same_id high low)
 
 -- the valuation that selects the first child: no version and no text at all, and each truth is so

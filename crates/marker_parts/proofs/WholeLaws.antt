@@ -8,7 +8,7 @@ use Rattle.pep508_text.specs.Run.{after_space}
 use Rattle.pep508_text.specs.Suffix.{IsSuffix}
 use Rattle.pep508_text.proofs.RunLaws.{spaces_end, spaces_from, trimmed_nil}
 use Rattle.marker_warnings.specs.declared.warning.MarkerWarningKind.{MarkerWarningKind}
-use Rattle.marker_warnings.specs.Kinds.{Adds}
+use Rattle.marker_warnings.specs.Kinds.{Adds, Keeps}
 use Rattle.marker_words.specs.declared.fault.Fault.{Fault}
 use Rattle.marker_words.specs.declared.fault.FaultKind.TheVariants.{Trailing}
 use Rattle.marker_words.specs.Fault.{IsFault, IsFaultAt}
@@ -63,6 +63,11 @@ unread_behind fault read suffix behind space_is some at = (more_follows read.com
 pub adds_nothing : (kinds : Option (List MarkerWarningKind)) → Adds kinds kinds []
 adds_nothing None = tt
 adds_nothing (Some told) = ap Some (sym (append-nil told))
+
+-- what is refused leaves what was told
+pub adds_kept : (a b c : Option (List MarkerWarningKind)) (ks : List MarkerWarningKind) → Adds a b ks → Keeps b c → Adds a c ks
+adds_kept None b c ks h k = tt
+adds_kept (Some told) b c ks h k = subst (λ (x : Option (List MarkerWarningKind)). Keeps x c) h k
 
 pub adds_more : (a b c : Option (List MarkerWarningKind)) (ks ls : List MarkerWarningKind) → Adds a b ks → Adds b c ls → Adds a c (ks ++ ls)
 adds_more None b c ks ls h k = tt

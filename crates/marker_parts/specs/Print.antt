@@ -9,10 +9,8 @@ use Rattle.pep440_specifier.specs.Operator as specifiers
 use Rattle.pep440_specifier.specs.Operator.{is_star}
 use Rattle.marker_words.specs.declared.operator.MarkerOperator.{MarkerOperator}
 use Rattle.marker_words.specs.declared.operator.MarkerOperator.TheVariants.{Contains, NotContains}
-use Rattle.marker_words.specs.declared.operator.ExtraOperator.{ExtraOperator}
-use Rattle.marker_words.specs.declared.operator.ExtraOperator.TheVariants.{Equal, NotEqual}
 use Rattle.marker_words.specs.Key.{version_key_name, variable_name, variable_of}
-use Rattle.marker_words.specs.Operator.{operator_text}
+use Rattle.marker_words.specs.Operator.{extra_operator_text, operator_text}
 use Rattle.marker_words.specs.Print.{quoted_text}
 use Rattle.marker_parts.specs.declared.expression.MarkerExpression.{MarkerExpression}
 use Rattle.marker_parts.specs.declared.expression.MarkerExpression.TheVariants as expressions
@@ -23,11 +21,6 @@ use Rattle.marker_parts.specs.declared.extra.MarkerValueExtra.TheVariants as ext
 abbrev pub extra_text : MarkerValueExtra → List ℕ
 extra_text (extra_values.Extra n) = n
 extra_text (extra_values.Arbitrary t) = string_bytes t
-
--- `==` or `!=`
-abbrev pub extra_operator_text : ExtraOperator → List ℕ
-extra_operator_text Equal = codes "=="
-extra_operator_text NotEqual = codes "!="
 
 -- a key, an operator and what is quoted behind them
 abbrev pub compared_text : List ℕ → List ℕ → List ℕ → List ℕ

@@ -1,6 +1,6 @@
 -- A text that is one comparison, with white space around it, and how one that is none is told. (PEP 508, "Grammar"; the
 -- messages are this project's.)
-use Rattle.std.specs.Prelude.{◌≡◌, ℕ, List, [], Option, option_map, string_bytes, ⊤}
+use Rattle.std.specs.Prelude.{◌≡◌, ◌⊎◌, ℕ, List, [], ◌++◌, Option, option_map, string_bytes, ⊤}
 use Rattle.std.specs.Str.{chars}
 use Rattle.refusal.specs.declared.Refusal.{Refusal}
 use Rattle.refusal.specs.declared.Refusal.TheVariants as refusals
@@ -9,6 +9,7 @@ use Rattle.pep508_errors.specs.declared.error.Pep508Error.{Pep508Error}
 use Rattle.pep508_errors.specs.declared.error.Pep508ErrorSource.{Pep508ErrorSource}
 use Rattle.pep508_errors.specs.declared.error.Pep508ErrorSource.TheVariants as sources
 use Rattle.marker_warnings.specs.declared.warning.MarkerWarningKind.{MarkerWarningKind}
+use Rattle.marker_warnings.specs.Kinds.{Adds}
 use Rattle.marker_words.specs.Fault.{IsFault, IsMarkerFault}
 use Rattle.marker_parts.specs.declared.expression.MarkerExpression.{MarkerExpression}
 use Rattle.marker_parts.specs.declared.comparison.ComparisonError.{ComparisonError}
@@ -28,6 +29,14 @@ pub record IsRead (text : List ℕ) (expression : Option MarkerExpression) (kind
   pub comparison : IsComparison text meaning
   pub test : option_map test_of expression ≡ meaning.test
   pub kinds_are : kinds ≡ meaning.kinds
+
+-- nothing, or the first kinds of the warnings of a text that is one comparison
+abbrev pub IsBeginning : List ℕ → List MarkerWarningKind → Type 0
+IsBeginning text front = (front ≡ []) ⊎ ((expression : Option MarkerExpression) × (back : List MarkerWarningKind) × IsRead text expression (front ++ back))
+
+-- no more was told than a beginning of the text's kinds
+abbrev pub HasBegun : List ℕ → Option (List MarkerWarningKind) → Option (List MarkerWarningKind) → Type 0
+HasBegun text before after = (front : List MarkerWarningKind) × Adds before after front × IsBeginning text front
 
 abbrev pub IsNoComparison : List ℕ → Type 0
 IsNoComparison text = (m : Meaning) → ¬ IsComparison text m

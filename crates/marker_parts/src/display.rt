@@ -3,21 +3,12 @@
 ghost use Rattle.std.specs.Prelude.{◌≡◌, Some};
 ghost use Rattle.std.specs.List.{flat_map};
 ghost use Rattle.std.specs.Fmt.{DisplaysOnOk};
-ghost use Rattle.marker_parts.specs.Print.{expression_text, extra_operator_text, in_text, list_text, next_version_text, pattern_text};
+ghost use Rattle.marker_parts.specs.Print.{expression_text, in_text, list_text, next_version_text, pattern_text};
 
 use crate::expression::MarkerExpression;
-use marker_words::{ExtraOperator, MarkerOperator, Quoted};
+use marker_words::{MarkerOperator, Quoted};
 use pep440_rs::{Version, VersionSpecifier};
 use std::fmt;
-
-fn extra_operator_text(operator: ExtraOperator) -> &'static str
-    ensures { result.now ≡ extra_operator_text operator }
-{
-    match operator {
-        ExtraOperator::Equal => "==",
-        ExtraOperator::NotEqual => "!=",
-    }
-}
 
 fn in_text(negated: bool) -> &'static str
     ensures { result.now ≡ in_text negated }
@@ -100,7 +91,7 @@ impl fmt::Display for MarkerExpression {
                 }
             }
             MarkerExpression::Extra { operator, name } => {
-                let (operator, value) = (extra_operator_text(*operator), Quoted(name.text()));
+                let value = Quoted(name.text());
                 write!(f, "extra {operator} {value}")
             }
         }

@@ -1,11 +1,11 @@
 //! One comparison as a whole text.
 
-ghost use Rattle.std.specs.Prelude.{◌≡◌, ◌≢◌, [], List, IfOk, IfErr, IfSome, IfNone, OnOk};
+ghost use Rattle.std.specs.Prelude.{◌≡◌, ◌≢◌, ◌++◌, [], List, IfOk, IfErr, IfSome, IfNone, OnErr, OnOk};
 ghost use Rattle.std.specs.Str.{chars};
 ghost use Rattle.marker_warnings.specs.declared.warning.MarkerWarningKind.{MarkerWarningKind};
 ghost use Rattle.marker_warnings.specs.Kinds.{Adds, Keeps};
 ghost use Rattle.marker_words.specs.Fault.{IsFault};
-ghost use Rattle.marker_parts.specs.Whole.{IsRead, IsUnread, IsTold, IsRefusal, OnFault};
+ghost use Rattle.marker_parts.specs.Whole.{HasBegun, IsRead, IsUnread, IsTold, IsRefusal, OnFault};
 
 use crate::comparison::{ComparisonError, read_comparison};
 use crate::expression::MarkerExpression;
@@ -54,8 +54,8 @@ fn read_whole(
     }
 }
 
-// The fault with its message and its text.
-fn told<T: Pep508Url>(
+/// The fault with its message, its place and its text.
+pub fn error_of_fault<T: Pep508Url>(
     alloc: Global,
     text: &str,
     fault: Fault<'_>,
@@ -82,7 +82,7 @@ fn refusal<T: Pep508Url>(
 {
     match error {
         ComparisonError::OutOfMemory => Refusal::OutOfMemory,
-        ComparisonError::Fault(fault) => match told(alloc, text, fault) {
+        ComparisonError::Fault(fault) => match error_of_fault(alloc, text, fault) {
             Ok(error) => Refusal::Fault(error),
             Err(AllocError) => Refusal::OutOfMemory,
         },
@@ -106,15 +106,16 @@ fn warning_of(kind: MarkerWarningKind) -> &'static str {
     }
 }
 
-// Tells each kind with a warning of its own.
+/// Tells each kind with a warning of its own, in order. Where one is refused those before it have been told.
 #[tactic(auto, using(crate::proofs::WholeLaws::adds_nothing, crate::proofs::WholeLaws::adds_more))]
-fn report_all<R: Reporter>(
+pub fn report_kinds<R: Reporter>(
     alloc: Global,
     kinds: &[MarkerWarningKind],
     reporter: &mut R,
 ) -> Result<(), AllocError>
     requires { R.can_report reporter.old }
     ensures added { OnOk result (Adds (R.kinds reporter.old) (R.kinds reporter.new) kinds.now) }
+    ensures begun { OnErr result ((front back : List MarkerWarningKind) × (kinds.now ≡ front ++ back) × Adds (R.kinds reporter.old) (R.kinds reporter.new) front) }
     ensures again { R.can_report reporter.new }
 {
     for kind in kinds {
@@ -142,8 +143,8 @@ impl MarkerExpression {
         }
     }
 
-    /// The same, with the warnings reported in the order of the text. A text that is at fault has reported nothing. The
-    /// reporter may be told of some of the warnings where memory runs out.
+    /// The same, with the warnings reported in the order of the text. A text that is at fault has reported nothing, and where
+    /// memory runs out the first of the warnings, or none, have been reported.
     pub fn parse_reporter<T: Pep508Url, R: Reporter>(
         alloc: Global,
         text: &str,
@@ -153,11 +154,12 @@ impl MarkerExpression {
         ensures found { IfOk result (λ expression. (kinds : List MarkerWarningKind) × IsRead text.now expression kinds × Adds (R.kinds reporter.old) (R.kinds reporter.new) kinds) }
         ensures refused { IfErr result (IsRefusal text.now) }
         ensures unreported { IfErr result (λ refusal. OnFault refusal (Keeps (R.kinds reporter.old) (R.kinds reporter.new))) }
+        ensures begun { IfErr result (λ _. HasBegun text.now (R.kinds reporter.old) (R.kinds reporter.new)) }
         ensures again { R.can_report reporter.new }
     {
         match read_whole(alloc, text) {
             Ok((expression, kinds)) => {
-                report_all(alloc, &kinds, reporter)?;
+                report_kinds(alloc, &kinds, reporter)?;
                 Ok(expression)
             }
             Err(error) => Err(refusal(alloc, text, error)),

@@ -7,7 +7,7 @@ use Rattle.marker_diagrams.specs.Id.{signed}
 use Rattle.marker_parts.specs.Expression.{Test, holds}
 use Rattle.marker_graph.specs.declared.tree.MarkerTree.{MarkerTree}
 use Rattle.marker_graph.specs.Contents.{Contents, IsHeld, IsKept, truth}
-use Rattle.pep508_markers.specs.Formula.{Formula, truth_of}
+use Rattle.pep508_markers.specs.Formula.{Formula}
 use Rattle.pep508_markers.specs.Formula as formulas
 use Rattle.pep508_markers.specs.Postfix.{pushed, top_of}
 use Rattle.pep508_markers.specs.Postfix as symbols

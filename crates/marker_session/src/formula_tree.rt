@@ -15,14 +15,12 @@ ghost use Rattle.marker_session.specs.Trees.{TreesOf};
 use marker_graph::{Interner, InvalidExpression, MarkerTree};
 use marker_parts::Refusal;
 use pep508_markers::{FlatFormula, Token};
-use std::alloc::Global;
 
 /// The tree of a formula, which means what the formula does. Where nothing is left of a formula it is `TRUE`.
 ///
 /// It is refused as `SegmentAtEnd` where a bound of a set of versions would raise 18446744073709551615, as a fault
 /// where `~=` compares texts, and else for want of memory alone. What the trees of the interner mean stays, also then.
 pub fn tree_of(
-    alloc: Global,
     interner: &mut Interner,
     formula: FlatFormula,
 ) -> Result<MarkerTree, Refusal<InvalidExpression>>
@@ -36,7 +34,7 @@ pub fn tree_of(
     ensures err { IfErr result (IsUnmade (formula_of formula)) }
 {
     let mut tokens = formula.into_tokens().into_iter();
-    let mut trees = Vec::new(alloc);
+    let mut trees = Vec::new(interner.allocator());
     while let Some(token) = tokens.next() {
         apply(interner, &mut trees, token)?;
     }

@@ -138,7 +138,7 @@ impl Session {
             Ok(reading) => reading,
             Err(error) => return Reply::Refused(Session::refusal(self.alloc, text, error)),
         };
-        match tree_of(self.alloc, &mut self.interner, reading.formula) {
+        match tree_of(&mut self.interner, reading.formula) {
             Ok(tree) => self.add(tree, reading.kinds),
             Err(Refusal::OutOfMemory) => Reply::Refused(Reason::OutOfMemory),
             Err(Refusal::SegmentAtEnd) => Reply::Refused(Reason::SegmentAtEnd),

@@ -2,6 +2,8 @@
 use Rattle.std.specs.Prelude.{ℕ, List, [], codes}
 use Rattle.marker_words.specs.declared.operator.MarkerOperator.{MarkerOperator}
 use Rattle.marker_words.specs.declared.operator.MarkerOperator.TheVariants.{Equal, NotEqual, GreaterThan, GreaterEqual, LessThan, LessEqual, TildeEqual, In, NotIn, Contains, NotContains}
+use Rattle.marker_words.specs.declared.operator.ExtraOperator.{ExtraOperator}
+use Rattle.marker_words.specs.declared.operator.ExtraOperator.TheVariants as extra_operators
 use Rattle.marker_words.specs.Lexical.{IsOperator}
 
 abbrev pub operator_text : MarkerOperator → List ℕ
@@ -16,6 +18,10 @@ operator_text In = codes "in"
 operator_text NotIn = codes "not in"
 operator_text Contains = codes "in"
 operator_text NotContains = codes "not in"
+
+abbrev pub extra_operator_text : ExtraOperator → List ℕ
+extra_operator_text extra_operators.Equal = codes "=="
+extra_operator_text extra_operators.NotEqual = codes "!="
 
 -- the operator that says the same with its sides exchanged
 abbrev pub turned : MarkerOperator → MarkerOperator

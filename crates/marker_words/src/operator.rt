@@ -2,7 +2,7 @@
 
 ghost use Rattle.std.specs.Prelude.{◌≡◌, Some, IfSome, IfNone};
 ghost use Rattle.std.specs.Str.{chars};
-ghost use Rattle.marker_words.specs.Operator.{operator_text, turned, IsSpelling};
+ghost use Rattle.marker_words.specs.Operator.{extra_operator_text, operator_text, turned, IsSpelling};
 
 use crate::lexical::comparison_operator;
 use std::fmt;
@@ -98,4 +98,15 @@ pub enum ExtraOperator {
     Equal,
     /// `!=`
     NotEqual,
+}
+
+impl Display for ExtraOperator {
+    ghost output = { λ operator. Some (extra_operator_text operator) };
+
+    fn fmt<W: fmt::Write>(&self, f: &mut fmt::Formatter<W>) -> fmt::Result {
+        f.write_str(match self {
+            ExtraOperator::Equal => "==",
+            ExtraOperator::NotEqual => "!=",
+        })
+    }
 }

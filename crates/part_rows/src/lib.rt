@@ -12,6 +12,8 @@ mod environments;
 #[cfg(test)]
 mod faults;
 #[cfg(test)]
+mod hashes;
+#[cfg(test)]
 mod hostile;
 #[cfg(test)]
 mod orders;

@@ -2,12 +2,13 @@
 
 use crate::told::parsed;
 use marker_parts::{
-    ExtraOperator, MarkerOperator, MarkerValueString, MarkerValueVersion, MarkerWarningKind,
+    ExtraOperator, MarkerOperator, MarkerValue, MarkerValueString, MarkerValueVersion,
+    MarkerWarningKind,
 };
 use std::alloc::Global;
 use std::test::Fail;
 
-const OPERATORS: [MarkerOperator; 11] = [
+pub const OPERATORS: [MarkerOperator; 11] = [
     MarkerOperator::Equal,
     MarkerOperator::NotEqual,
     MarkerOperator::GreaterThan,
@@ -21,13 +22,13 @@ const OPERATORS: [MarkerOperator; 11] = [
     MarkerOperator::NotContains,
 ];
 
-const VERSION_KEYS: [MarkerValueVersion; 3] = [
+pub const VERSION_KEYS: [MarkerValueVersion; 3] = [
     MarkerValueVersion::ImplementationVersion,
     MarkerValueVersion::PythonFullVersion,
     MarkerValueVersion::PythonVersion,
 ];
 
-const TEXT_KEYS: [MarkerValueString; 14] = [
+pub const TEXT_KEYS: [MarkerValueString; 14] = [
     MarkerValueString::ImplementationName,
     MarkerValueString::OsName,
     MarkerValueString::OsNameDeprecated,
@@ -44,7 +45,7 @@ const TEXT_KEYS: [MarkerValueString; 14] = [
     MarkerValueString::SysPlatformDeprecated,
 ];
 
-const KINDS: [MarkerWarningKind; 6] = [
+pub const KINDS: [MarkerWarningKind; 6] = [
     MarkerWarningKind::DeprecatedMarkerName,
     MarkerWarningKind::ExtraInvalidComparison,
     MarkerWarningKind::LexicographicComparison,
@@ -69,6 +70,22 @@ fn variants_stand_in_order(rt: HostRuntime) {
     assert!(rt; is_ascending(&VERSION_KEYS));
     assert!(rt; is_ascending(&TEXT_KEYS));
     assert!(rt; is_ascending(&KINDS));
+}
+
+// By their variant, then by the key or the text.
+#[test]
+fn values_stand_in_order(rt: HostRuntime) -> Result<(), Fail> {
+    let values = [
+        MarkerValue::MarkerEnvVersion(MarkerValueVersion::ImplementationVersion),
+        MarkerValue::MarkerEnvVersion(MarkerValueVersion::PythonVersion),
+        MarkerValue::MarkerEnvString(MarkerValueString::ImplementationName),
+        MarkerValue::MarkerEnvString(MarkerValueString::SysPlatformDeprecated),
+        MarkerValue::Extra,
+        MarkerValue::QuotedString(String::from_str(rt.alloc(), "")?),
+        MarkerValue::QuotedString(String::from_str(rt.alloc(), "é")?),
+    ];
+    assert!(rt; is_ascending(&values));
+    Ok(())
 }
 
 // Comparisons in ascending order: by their variant, then field by field.

@@ -1,4 +1,5 @@
 mod ReadingLaws
+mod OneReading
 mod StackLaws
 mod EndLaws
 mod ReaderLaws

@@ -4,6 +4,7 @@
 
 mod cell;
 mod formula;
+pub mod laws;
 mod reader;
 
 pub use cell::{Cell, Comparison, Step};

@@ -2,6 +2,7 @@
 
 use crate::{ExtraName, InvalidNameError, PackageName};
 use refusal::Refusal;
+use std::alloc::{AllocError, Global};
 use std::string::ToString;
 use std::test::Fail;
 
@@ -96,5 +97,69 @@ fn order_of_names(rt: HostRuntime) -> Result<(), Fail> {
     let second = PackageName::parse(rt.alloc(), "A1")?;
     assert!(rt; first < second);
     assert!(rt; first != second);
+    Ok(())
+}
+
+const CHARACTERS: [char; 6] = ['a', 'B', '7', '-', '_', '.'];
+
+// The text that a number names: its digits to the base six are a character each.
+fn text_of(alloc: Global, count: u32, code: u32) -> Result<String, AllocError> {
+    let mut text = String::new(alloc);
+    let mut code = code;
+    for _ in 0..count {
+        for (digit, character) in CHARACTERS.iter().enumerate() {
+            if digit == (code % 6) as usize {
+                text.push(*character)?;
+            }
+        }
+        code /= 6;
+    }
+    Ok(text)
+}
+
+// The normal form, made character by character, or `None` where the text is no name.
+fn normal_of(alloc: Global, text: &str) -> Result<Option<String>, AllocError> {
+    let mut normal = String::new(alloc);
+    let mut is_behind_separator = true;
+    for character in text.chars() {
+        if character.is_ascii_alphanumeric() {
+            normal.push(character.to_ascii_lowercase())?;
+            is_behind_separator = false;
+        } else {
+            if normal.is_empty() {
+                return Ok(None);
+            }
+            if !is_behind_separator {
+                normal.push('-')?;
+            }
+            is_behind_separator = true;
+        }
+    }
+    Ok(if is_behind_separator {
+        None
+    } else {
+        Some(normal)
+    })
+}
+
+// Whether a text is read as the plain program above does.
+fn is_plain(alloc: Global, text: &str) -> Result<bool, Fail> {
+    let expected = normal_of(alloc, text)?;
+    let read = PackageName::parse(alloc, text);
+    Ok(match (&read, &expected) {
+        (Ok(name), Some(normal)) => name.as_str() == normal.as_str(),
+        (Err(Refusal::Fault(error)), None) => error.as_str() == text,
+        _ => false,
+    })
+}
+
+#[test]
+fn small_texts_are_names_where_a_plain_program_finds_them(rt: HostRuntime) -> Result<(), Fail> {
+    for (count, codes) in [(0, 1), (1, 6), (2, 36), (3, 216), (4, 1296)] {
+        for code in 0..codes {
+            let text = text_of(rt.alloc(), count, code)?;
+            assert!(rt; is_plain(rt.alloc(), &text)?, "{text}");
+        }
+    }
     Ok(())
 }

@@ -20,13 +20,14 @@ pub enum SpecifierCall {
     FromEqualBounds,
     FromBounds,
     FromLocalBound,
+    FromTwoBounds,
     FromList,
     CloneSet,
     SetText,
 }
 
 impl SpecifierCall {
-    pub const ALL: [SpecifierCall; 13] = [
+    pub const ALL: [SpecifierCall; 14] = [
         SpecifierCall::Parse,
         SpecifierCall::Refused,
         SpecifierCall::FaultText,
@@ -37,6 +38,7 @@ impl SpecifierCall {
         SpecifierCall::FromEqualBounds,
         SpecifierCall::FromBounds,
         SpecifierCall::FromLocalBound,
+        SpecifierCall::FromTwoBounds,
         SpecifierCall::FromList,
         SpecifierCall::CloneSet,
         SpecifierCall::SetText,
@@ -89,6 +91,7 @@ impl Call for SpecifierCall {
             SpecifierCall::FromEqualBounds => from_equal_bounds(alloc, &lent.lower),
             SpecifierCall::FromBounds => from_bounds(alloc, &lent.lower),
             SpecifierCall::FromLocalBound => from_local_bound(alloc, &lent.local),
+            SpecifierCall::FromTwoBounds => from_two_bounds(alloc, &lent.lower, &lent.local),
             SpecifierCall::FromList => from_list(alloc),
             SpecifierCall::CloneSet => Ok(is_set(&lent.set.clone()?)),
             SpecifierCall::SetText => set_text(alloc, &lent.set),
@@ -171,6 +174,20 @@ fn from_local_bound(alloc: Global, version: &Version) -> Result<bool, AllocError
         Some(below) => Ok(is_specifier(&below, Operator::LessThanEqual, &[1, 2, 3, 4, 6])),
         None => Ok(false),
     }
+}
+
+// Each bound takes memory: the second one is refused when the specifier of the first is made.
+fn from_two_bounds(alloc: Global, lower: &Version, upper: &Version) -> Result<bool, AllocError> {
+    let bounds = (Bound::Included(lower), Bound::Excluded(upper));
+    let mut specifiers = VersionSpecifier::from_release_only_bounds(alloc, bounds)?;
+    let (Some(from), Some(below)) = (specifiers.next(), specifiers.next()) else {
+        return Ok(false);
+    };
+    Ok(
+        is_specifier(&from, Operator::GreaterThanEqual, &[1, 2, 3, 4, 5])
+            && is_specifier(&below, Operator::LessThan, &[1, 2, 3, 4, 6])
+            && specifiers.next().is_none(),
+    )
 }
 
 // Three specifiers, not in the order of their versions. `None` where one is refused for another cause than memory.

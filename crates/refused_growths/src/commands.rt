@@ -1,6 +1,6 @@
 //! Commands, each given again where it was refused for want of memory.
 
-use crate::given::{FaultRow, Given, JOINED, READ, REFUSED, ReadRow};
+use crate::given::{COMPARISON, FaultRow, Given, JOINED, READ, REFUSED, ReadRow};
 use marker_session::{Command, Reason, Reply, Session};
 use std::alloc::Global;
 use std::fmt;
@@ -145,25 +145,50 @@ fn make_again(session: &mut Session, index: usize, command: Command<'_>, given: 
     }
 }
 
-// Joins cells, reads the text that says the same, and asks whether the two cells are equal.
+// Makes a cell, reads the text that says the same, and asks whether the two cells are equal and no contraries.
+fn make_both(
+    session: &mut Session,
+    row: usize,
+    command: Command<'_>,
+    text: &str,
+    given: &Given,
+) -> Met {
+    let made = row.saturating_mul(2).saturating_add(READ.len());
+    let read = made.saturating_add(1);
+    let parts = [
+        make_again(session, made, command, given),
+        make_again(session, read, Command::Parse(text), given),
+    ];
+    let equal = session.execute(Command::Equal(made, read));
+    let disjoint = session.execute(Command::Disjoint(made, read));
+    if equal != Reply::Truth(true)
+        || disjoint != Reply::Truth(false)
+        || parts.contains(&Met::WrongAnswer)
+    {
+        return Met::WrongAnswer;
+    }
+    if parts.contains(&Met::Joining) {
+        Met::Joining
+    } else {
+        Met::Nothing
+    }
+}
+
+// Joins cells, and makes one of a comparison.
 fn join_all(session: &mut Session, given: &Given) -> Met {
     let mut met = Met::Nothing;
     for (row, (command, text)) in JOINED.iter().enumerate() {
-        let joined = row.saturating_mul(2).saturating_add(READ.len());
-        let read = joined.saturating_add(1);
-        let parts = [
-            make_again(session, joined, *command, given),
-            make_again(session, read, Command::Parse(text), given),
-        ];
-        let equal = session.execute(Command::Equal(joined, read));
-        if equal != Reply::Truth(true) || parts.contains(&Met::WrongAnswer) {
-            return Met::WrongAnswer;
-        }
-        if parts.contains(&Met::Joining) {
-            met = Met::Joining;
+        match make_both(session, row, *command, text, given) {
+            Met::Nothing => {}
+            Met::Joining => met = Met::Joining,
+            _ => return Met::WrongAnswer,
         }
     }
-    met
+    let command = Command::Expression(&given.comparison);
+    match make_both(session, JOINED.len(), command, COMPARISON, given) {
+        Met::Nothing => met,
+        other => other,
+    }
 }
 
 // Two commands at once. Where there is no room for the replies, neither was run.

@@ -1,16 +1,23 @@
 //! What the commands are run on, and what they must answer.
 
-use marker_parts::{MarkerEnvironment, MarkerEnvironmentBuilder, MarkerWarningKind};
+use marker_parts::{
+    MarkerEnvironment, MarkerEnvironmentBuilder, MarkerExpression, MarkerWarningKind,
+};
 use marker_session::Command;
 use pep508_names::ExtraName;
 use std::alloc::Global;
+use url::Url;
 
-/// An environment, and the extra `dev-tools`.
+/// An environment, the extra `dev-tools`, and a comparison.
 #[derive(Drop)]
 pub struct Given {
     pub environment: MarkerEnvironment,
     pub extras: [ExtraName; 1],
+    pub comparison: MarkerExpression,
 }
+
+/// The text of the comparison.
+pub const COMPARISON: &str = "'x' not in os_name";
 
 impl Given {
     /// `None` for want of memory.
@@ -30,9 +37,11 @@ impl Given {
         };
         let environment = MarkerEnvironment::try_from(alloc, builder).ok()?;
         let name = ExtraName::parse(alloc, "dev-tools").ok()?;
+        let comparison = MarkerExpression::parse::<Url>(alloc, COMPARISON).ok()??;
         Some(Given {
             environment,
             extras: [name],
+            comparison,
         })
     }
 }

@@ -14,10 +14,15 @@ parse python_version > '3.18446744073709551615'
 eval 0 -
 parse extra < 'x' or platform_machine in 'x' and os_name == ''
 eval 2 dev six
-eval 1";
+eval 1
+not 0
+and 0 1
+or 0 1
+equal 0 0
+disjoint 0 0";
 
 /// The replies.
-pub const REPLIES: [&str; 14] = [
+pub const REPLIES: [&str; 19] = [
     "ok",
     "cell 0",
     "true",
@@ -32,18 +37,29 @@ pub const REPLIES: [&str; 14] = [
     "cell 2 ExtraInvalidComparison",
     "false",
     "true",
+    "cell 3",
+    "cell 4",
+    "cell 5",
+    "true",
+    "false",
 ];
 
-// The reply to a line where the command of one was refused for want of memory. Only a text may be refused so; then there
-// is no cell of it, the later cells have numbers less by one, and the earlier ones are evaluated as before.
+// The reply to a line where the command of one was refused for want of memory. Only a text or a joining of cells may be
+// refused so; then there is no cell of it, the later cells have numbers less by one, and the earlier ones are evaluated as
+// before.
 fn reply(index: usize, refused: Option<usize>) -> Option<&'static str> {
     match (refused, index) {
         (Some(1), 2) | (Some(1 | 4), 5) | (Some(1 | 4 | 11), 12) => Some("error cell"),
         (Some(1), 4) => Some("cell 0 DeprecatedMarkerName LexicographicComparison"),
         (Some(1 | 4), 11) => Some("cell 1 ExtraInvalidComparison"),
         (Some(1 | 4), 13) => Some("false"),
-        (Some(1 | 4 | 8 | 9 | 11), _) if refused == Some(index) => Some("error memory"),
-        (None | Some(1 | 4 | 8 | 9 | 11), _) => REPLIES.get(index).copied(),
+        (Some(1 | 4 | 11), 14) => Some("cell 2"),
+        (Some(1 | 4 | 11 | 14), 15) => Some("cell 3"),
+        (Some(1 | 4 | 11 | 14 | 15), 16) => Some("cell 4"),
+        (Some(1 | 4 | 8 | 9 | 11 | 14 | 15 | 16), _) if refused == Some(index) => Some(
+            "error memory",
+        ),
+        (None | Some(1 | 4 | 8 | 9 | 11 | 14 | 15 | 16), _) => REPLIES.get(index).copied(),
         _ => None,
     }
 }

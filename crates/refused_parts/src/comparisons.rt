@@ -243,15 +243,16 @@ fn reads(alloc: Global, expected: &MarkerExpression) -> Result<bool, AllocError>
 // The same for a comparison that is dropped, and adds its kinds.
 fn reads_dropped(alloc: Global) -> Result<bool, AllocError> {
     let mut kinds = earlier(alloc)?;
-    let read = read_comparison(alloc, "'x' == os.name or os_name == ''", &mut kinds);
+    let read = read_comparison(alloc, "'x' ~= os.name or os_name == ''", &mut kinds);
     match read {
         Ok((found, rest)) => Ok(
-            found.is_some()
+            found.is_none()
                 && rest == " or os_name == ''"
                 && kinds.as_slice()
                     == [
                         MarkerWarningKind::StringStringComparison,
                         MarkerWarningKind::DeprecatedMarkerName,
+                        MarkerWarningKind::LexicographicComparison,
                     ]
                     .as_slice(),
         ),

@@ -79,22 +79,13 @@ impl Call for SerializedCall {
             SerializedCall::ReadStringVersion => read_string_version(alloc),
             SerializedCall::ReadEnvironment => read_environment(alloc),
             SerializedCall::RefusedPackage => {
-                refused(
-                    alloc,
-                    serde_json::from_str::<PackageName>(alloc, "\"a\\u005f\""),
-                )
+                refused(serde_json::from_str::<PackageName>(alloc, "\"a\\u005f\""))
             }
             SerializedCall::RefusedVersion => {
-                refused(
-                    alloc,
-                    serde_json::from_str::<Version>(alloc, "\"1\\u002ex\""),
-                )
+                refused(serde_json::from_str::<Version>(alloc, "\"1\\u002ex\""))
             }
             SerializedCall::RefusedStringVersion => {
-                refused(
-                    alloc,
-                    serde_json::from_str::<StringVersion>(alloc, "\"1\\u002ex\""),
-                )
+                refused(serde_json::from_str::<StringVersion>(alloc, "\"1\\u002ex\""))
             }
             SerializedCall::WritePackage => {
                 writes(
@@ -140,24 +131,12 @@ fn is_long(version: &Version) -> bool {
     version.release() == [1, 2, 3, 4, 5].as_slice() && version.local().len() == 1
 }
 
-// Whether an error tells want of memory. A version that cannot be read or written tells it by its error's text.
-fn is_of_memory(alloc: Global, error: &Error) -> Result<bool, AllocError> {
-    if error.is_memory() {
-        return Ok(true);
-    }
-    let text = error.to_string(alloc)?;
-    Ok(text.as_str().starts_with("Out of memory"))
-}
-
-// The value that was read or written. `None` where it was refused for another cause than memory.
-fn unless_memory<T: Drop>(
-    alloc: Global,
-    answer: Result<T, Error>,
-) -> Result<Option<T>, AllocError> {
+// The value that was read. `None` where it was refused for another cause than memory.
+fn unless_memory<T: Drop>(answer: Result<T, Error>) -> Result<Option<T>, AllocError> {
     match answer {
         Ok(value) => Ok(Some(value)),
         Err(error) => {
-            if is_of_memory(alloc, &error)? {
+            if error.is_memory() {
                 Err(AllocError)
             } else {
                 Ok(None)
@@ -167,34 +146,28 @@ fn unless_memory<T: Drop>(
 }
 
 fn read_package(alloc: Global) -> Result<bool, AllocError> {
-    match unless_memory(
-        alloc,
-        serde_json::from_str::<PackageName>(alloc, "\"Friendly\\u005fBard\""),
-    )? {
+    match unless_memory(serde_json::from_str::<PackageName>(alloc, "\"Friendly\\u005fBard\""))? {
         Some(name) => Ok(name.as_str() == "friendly-bard"),
         None => Ok(false),
     }
 }
 
 fn read_extra(alloc: Global) -> Result<bool, AllocError> {
-    match unless_memory(
-        alloc,
-        serde_json::from_str::<ExtraName>(alloc, "\"Dev\\u005fTools\""),
-    )? {
+    match unless_memory(serde_json::from_str::<ExtraName>(alloc, "\"Dev\\u005fTools\""))? {
         Some(name) => Ok(name.as_str() == "dev-tools"),
         None => Ok(false),
     }
 }
 
 fn read_version(alloc: Global) -> Result<bool, AllocError> {
-    match unless_memory(alloc, serde_json::from_str::<Version>(alloc, WRITTEN))? {
+    match unless_memory(serde_json::from_str::<Version>(alloc, WRITTEN))? {
         Some(version) => Ok(is_long(&version)),
         None => Ok(false),
     }
 }
 
 fn read_string_version(alloc: Global) -> Result<bool, AllocError> {
-    match unless_memory(alloc, serde_json::from_str::<StringVersion>(alloc, WRITTEN))? {
+    match unless_memory(serde_json::from_str::<StringVersion>(alloc, WRITTEN))? {
         Some(version) => {
             Ok(version.string.as_str() == "1.2.3.4.5+local" && is_long(&version.version))
         }
@@ -203,19 +176,25 @@ fn read_string_version(alloc: Global) -> Result<bool, AllocError> {
 }
 
 fn read_environment(alloc: Global) -> Result<bool, AllocError> {
-    match unless_memory(
-        alloc,
-        serde_json::from_str::<MarkerEnvironment>(alloc, ENVIRONMENT),
-    )? {
+    match unless_memory(serde_json::from_str::<MarkerEnvironment>(alloc, ENVIRONMENT))? {
         Some(environment) => Ok(is_as_given(&environment)),
         None => Ok(false),
     }
 }
 
 // Whether a text was refused for another cause than memory.
-fn refused<T: Drop>(alloc: Global, answer: Result<T, Error>) -> Result<bool, AllocError> {
-    let read = unless_memory(alloc, answer)?;
+fn refused<T: Drop>(answer: Result<T, Error>) -> Result<bool, AllocError> {
+    let read = unless_memory(answer)?;
     Ok(read.is_none())
+}
+
+// Whether a value was not written for want of memory. A version tells that by its error's text.
+fn is_of_memory(alloc: Global, error: &Error) -> Result<bool, AllocError> {
+    if error.is_memory() {
+        return Ok(true);
+    }
+    let text = error.to_string(alloc)?;
+    Ok(text.as_str().starts_with("Out of memory"))
 }
 
 // Whether a value was written so.
@@ -224,8 +203,14 @@ fn writes(
     answer: Result<String, Error>,
     expected: &str,
 ) -> Result<bool, AllocError> {
-    match unless_memory(alloc, answer)? {
-        Some(text) => Ok(text.as_str() == expected),
-        None => Ok(false),
+    match answer {
+        Ok(text) => Ok(text.as_str() == expected),
+        Err(error) => {
+            if is_of_memory(alloc, &error)? {
+                Err(AllocError)
+            } else {
+                Ok(false)
+            }
+        }
     }
 }

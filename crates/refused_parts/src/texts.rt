@@ -2,7 +2,8 @@
 
 use growths::{Call, fault_of, unless_memory};
 use marker_parts::{
-    ExtraName, MarkerExpression, MarkerValueExtra, Pep508Error, Pep508Url, Refusal, Surroundings,
+    ExtraName, MarkerExpression, MarkerValue, MarkerValueExtra, Pep508Error, Pep508Url, Refusal,
+    Surroundings,
 };
 use std::alloc::{AllocError, Global};
 use std::collections::BTreeMap;
@@ -19,12 +20,14 @@ pub enum TextCall {
     ValueText,
     CloneValue,
     CloneArbitrary,
+    QuotedText,
+    CloneQuoted,
     ParseUrl,
     RefusedUrl,
 }
 
 impl TextCall {
-    pub const ALL: [TextCall; 10] = [
+    pub const ALL: [TextCall; 12] = [
         TextCall::VersionText,
         TextCall::VersionInText,
         TextCall::StringText,
@@ -33,6 +36,8 @@ impl TextCall {
         TextCall::ValueText,
         TextCall::CloneValue,
         TextCall::CloneArbitrary,
+        TextCall::QuotedText,
+        TextCall::CloneQuoted,
         TextCall::ParseUrl,
         TextCall::RefusedUrl,
     ];
@@ -48,6 +53,7 @@ pub struct Texts {
     fault: Pep508Error<Url>,
     value: MarkerValueExtra,
     arbitrary: MarkerValueExtra,
+    quoted: MarkerValue,
 }
 
 impl Call for TextCall {
@@ -62,6 +68,7 @@ impl Call for TextCall {
             fault: fault_of(MarkerExpression::parse::<Url>(alloc, "'好' ié 'a'")).ok()??,
             value: MarkerValueExtra::Extra(ExtraName::parse(alloc, "dev-tools").ok()?),
             arbitrary: MarkerValueExtra::Arbitrary(String::from_str(alloc, "é").ok()?),
+            quoted: MarkerValue::QuotedString(String::from_str(alloc, "it's").ok()?),
         })
     }
 
@@ -71,6 +78,7 @@ impl Call for TextCall {
             && lent.fault.input.as_str() == "'好' ié 'a'"
             && is_name(&lent.value, "dev-tools")
             && is_arbitrary(&lent.arbitrary, "é")
+            && is_quoted(&lent.quoted, "it's")
     }
 
     fn answer(self, alloc: Global, lent: &Texts) -> Result<bool, AllocError> {
@@ -83,6 +91,8 @@ impl Call for TextCall {
             TextCall::ValueText => value_text(alloc, &lent.value),
             TextCall::CloneValue => Ok(is_name(&lent.value.clone()?, "dev-tools")),
             TextCall::CloneArbitrary => Ok(is_arbitrary(&lent.arbitrary.clone()?, "é")),
+            TextCall::QuotedText => quoted_text(alloc, &lent.quoted),
+            TextCall::CloneQuoted => Ok(is_quoted(&lent.quoted.clone()?, "it's")),
             TextCall::ParseUrl => parse_url(alloc),
             TextCall::RefusedUrl => refused_url(alloc),
         }
@@ -116,6 +126,13 @@ fn is_arbitrary(value: &MarkerValueExtra, text: &str) -> bool {
     }
 }
 
+fn is_quoted(value: &MarkerValue, text: &str) -> bool {
+    match value {
+        MarkerValue::QuotedString(kept) => kept.as_str() == text,
+        _ => false,
+    }
+}
+
 // Whether the comparison is printed as this text.
 fn prints(alloc: Global, given: &MarkerExpression, text: &str) -> Result<bool, AllocError> {
     let printed = given.to_string(alloc)?;
@@ -133,6 +150,11 @@ fn fault_text(alloc: Global, fault: &Pep508Error<Url>) -> Result<bool, AllocErro
 fn value_text(alloc: Global, value: &MarkerValueExtra) -> Result<bool, AllocError> {
     let printed = value.to_string(alloc)?;
     Ok(printed.as_str() == "dev-tools")
+}
+
+fn quoted_text(alloc: Global, value: &MarkerValue) -> Result<bool, AllocError> {
+    let printed = value.to_string(alloc)?;
+    Ok(printed.as_str() == "\"it's\"")
 }
 
 fn url(alloc: Global, text: &str) -> Result<Url, Refusal<ParseError>> {

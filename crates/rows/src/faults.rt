@@ -4,8 +4,8 @@ use marker_session::{Command, Reason, Reply, Session};
 use std::alloc::Global;
 use std::test::Fail;
 
-// A text, where its fault starts, how long it is (both in bytes), and the message.
-type Row = (&'static str, usize, usize, &'static str);
+/// A text, where its fault starts, how long it is (both in bytes), and the message.
+pub type Row = (&'static str, usize, usize, &'static str);
 
 const VALUES: [Row; 23] = [
     (
@@ -148,7 +148,7 @@ const VALUES: [Row; 23] = [
     ),
 ];
 
-const OPERATORS: [Row; 24] = [
+const OPERATORS: [Row; 26] = [
     (
         "os_name é 'a'",
         8,
@@ -269,6 +269,18 @@ const OPERATORS: [Row; 24] = [
         1,
         "Expected 'n', found end of dependency specification",
     ),
+    (
+        "'é' not ",
+        9,
+        1,
+        "Expected 'i', found end of dependency specification",
+    ),
+    (
+        "'é' not i",
+        10,
+        1,
+        "Expected 'n', found end of dependency specification",
+    ),
     ("os_name not on 'a'", 12, 1, "Expected `i`, found `o`"),
     ("os_name not im 'a'", 13, 1, "Expected `n`, found `m`"),
     ("os_name not é", 12, 2, "Expected `i`, found `é`"),
@@ -374,7 +386,8 @@ const READ: [&str; 6] = [
     "extra == 'a b' and '' == extra and extra ~= 'é'",
 ];
 
-fn is_refused(alloc: Global, row: Row) -> bool {
+/// Whether the text is refused as the row tells.
+pub fn is_refused(alloc: Global, row: Row) -> bool {
     let (text, at, bytes, line) = row;
     let reply = Session::new(alloc).execute(Command::Parse(text));
     match &reply {

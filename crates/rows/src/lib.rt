@@ -4,6 +4,8 @@
 #[cfg(test)]
 mod bounds;
 #[cfg(test)]
+mod compared;
+#[cfg(test)]
 mod connectives;
 #[cfg(test)]
 mod faults;

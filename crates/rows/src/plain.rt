@@ -1,6 +1,7 @@
 //! Small texts, each compared with what a plain program makes of them.
 
 use crate::values::linux;
+use marker_parts::MarkerWarningKind;
 use marker_session::{Command, Reply, Session};
 use std::alloc::{AllocError, Global};
 use std::process::Abort;
@@ -102,6 +103,15 @@ fn text_of(alloc: Global, parts: &[Part], first: usize, last: usize) -> Result<S
     Ok(text)
 }
 
+// Whether the kinds are those of the parts that are dropped, in order.
+fn are_kinds(kinds: &[MarkerWarningKind], parts: &[Part]) -> bool {
+    let dropped = parts.iter().filter(|part| part.truth.is_none()).count();
+    kinds.len() == dropped
+        && kinds
+            .iter()
+            .all(|kind| *kind == MarkerWarningKind::StringStringComparison)
+}
+
 // What the text says. Where nothing is left it is true.
 fn truth_of(parts: &[Part], first: usize, last: usize) -> bool {
     let mut outside = Truth::NOTHING;
@@ -132,9 +142,10 @@ fn compare(rt: &impl Abort, alloc: Global, count: u32, codes: u32) -> Result<(),
         for first in 0..parts.len() {
             for last in first..parts.len() {
                 let text = text_of(alloc, &parts, first, last)?;
-                let Reply::Cell(cell, _) = session.execute(Command::Parse(&text)) else {
+                let Reply::Cell(cell, kinds) = session.execute(Command::Parse(&text)) else {
                     return Err("a marker that is not read".into());
                 };
+                assert!(rt; are_kinds(&kinds, &parts), "{text}");
                 let found = session.execute(Command::Evaluate(cell, &environment, &[]));
                 let expected = Reply::Truth(truth_of(&parts, first, last));
                 assert_eq!(rt; found, expected, "{text}");

@@ -1,5 +1,6 @@
 //! Whole texts with version keys, on Python 3.12.1.
 
+use crate::faults::{Row, is_refused};
 use crate::values::{linux, truth};
 use marker_parts::{MarkerWarningKind, StringVersion};
 use marker_session::{Command, Reason, Reply, Session};
@@ -103,6 +104,18 @@ fn segments_at_the_end(rt: HostRuntime) -> Result<(), Fail> {
     ));
     assert!(rt; matches!(&reply, Reply::Refused(Reason::Marker { .. })));
     Ok(())
+}
+
+const STAR_BEHIND_THE_QUOTES: Row = (
+    "python_version == \"3.8\".*",
+    23,
+    1,
+    "Unexpected character '.', expected 'and', 'or' or end of input",
+);
+
+#[test]
+fn a_star_behind_the_quotes_is_refused(rt: HostRuntime) {
+    assert!(rt; is_refused(rt.alloc(), STAR_BEHIND_THE_QUOTES));
 }
 
 const WARNED: [(&str, &[MarkerWarningKind]); 5] = [

@@ -1,6 +1,8 @@
 //! Operators and values that are read from whole texts, and how values are printed.
 
-use marker_words::{MarkerOperator, MarkerValue, MarkerValueString, MarkerValueVersion, Quoted};
+use marker_words::{
+    ExtraOperator, MarkerOperator, MarkerValue, MarkerValueString, MarkerValueVersion, Quoted,
+};
 use std::test::Fail;
 
 // PEP 508, "Environment Markers" and its grammar: the operators, and white space inside `not in`.
@@ -47,6 +49,17 @@ fn operators_are_read(rt: HostRuntime) {
     for text in NO_OPERATORS {
         assert_eq!(rt; MarkerOperator::parse(text), None, "{text:?}");
     }
+}
+
+#[test]
+fn operators_beside_extra_are_printed(rt: HostRuntime) -> Result<(), Fail> {
+    for (operator, text) in [
+        (ExtraOperator::Equal, "=="),
+        (ExtraOperator::NotEqual, "!="),
+    ] {
+        assert_eq!(rt; operator.to_string(rt.alloc())?.as_str(), text);
+    }
+    Ok(())
 }
 
 // A name, the value that it stands for, and the name that this value prints.

@@ -111,7 +111,8 @@ module _ {T K : Type 0} (f : T → K) (cmp : T → T → Ordering) (cmp' : K →
       ∙ place_cmp cmp (cut_point (λ v. v) c) (cut_point (λ v. v) d) ∙ sym (named_points (cut_point (λ v. v) c) (cut_point (λ v. v) d))
       ∙ ap (λ p. point_cmp cmp' p (point_map f (cut_point (λ v. v) d))) (sym (named_cut c)) ∙ ap (point_cmp cmp' (cut_point f c)) (sym (named_cut d))
 
-  standing : (q : Point K) → IsStanding (cut_cmp cmp) (stands_before f cmp' q)
+  -- a point by the other names is such a test
+  pub standing : (q : Point K) → IsStanding (cut_cmp cmp) (stands_before f cmp' q)
   standing q = record {
     upward = λ c d h e. ap is_lt ((point_total cmp' o').trans q (cut_point f c) (cut_point f d) (lt_less _ h) (sym (cut_by_points c d) ∙ e));
     alike = λ c d e. ap is_lt (alike_right (point_total cmp' o') (cut_point f c) (cut_point f d) q (sym (cut_by_points c d) ∙ e));

@@ -1,19 +1,20 @@
 -- The intervals of a set: its points and no other, in order.
 use Rattle.std.proofs.Common.{◌≡◌, Bool, true, false, not, cond, ◌&&◌, ◌||◌, List, [], ◌∷◌, Option, Some, None, refl, sym, ap, ◌∙◌}
+use mathlib.Core.Bool.{beq}
 use Rattle.std.specs.List.{list_any}
 use Rattle.std.specs.declared.cmp.Ordering.{Ordering}
 use Rattle.std.specs.declared.cmp.Ordering.TheVariants.{Less}
 use Rattle.std.specs.declared.ops.Bound.{Bound}
 use Rattle.std.specs.declared.ops.Bound.TheVariants.{Unbounded}
 use Rattle.std.specs.Cmp.{IsTotalOrder}
-use Rattle.std.proofs.lemmas.Bool.{and_parts, and_from, false≢true}
+use Rattle.std.proofs.lemmas.Bool.{and_parts, and_from, true≢false, false≢true}
 use Rattle.version_ranges.specs.declared.cut.Cut.{Cut}
 use Rattle.version_ranges.specs.declared.ranges.Ranges.{Ranges}
 use Rattle.version_ranges.specs.Point.{Point, point_cmp, is_from, is_until}
 use Rattle.version_ranges.specs.Cut.{cut_cmp, stands_before, lower_of, upper_of}
-use Rattle.version_ranges.specs.Steps.{value_at, is_before, ascends}
+use Rattle.version_ranges.specs.Steps.{value_at, is_before, ascends, is_merged}
 use Rattle.version_ranges.specs.Parts.{parts_from}
-use Rattle.version_ranges.specs.Intervals.{held, is_within, StandsBefore, AreAscending, AreIntervals, intervals_of}
+use Rattle.version_ranges.specs.Intervals.{held, is_within, StandsBefore, AreAscending, HasGap, AreApart, AreIntervals, intervals_of}
 use Rattle.version_ranges.proofs.StepLaws.{lt_less, before_itself}
 use Rattle.version_ranges.proofs.PointLaws.{cut_total, point_of, place_before, place_point}
 use Rattle.version_ranges.proofs.PartLaws.{lower_is, upper_is, bottom_from, before_later, parted_less, is_not}
@@ -88,7 +89,45 @@ module _ {T : Type 0} {cmp : T → T → Ordering} (o : IsTotalOrder cmp) where
       (before_rest (lower, upper_of x.0) x.0 x.0 x.1 xs (λ p f. sym (upper_is cmp p x.0) ∙ (and_parts _ _ f).1) (λ q f. f) q.1)
       (held_ascending (Some x.0) (lower_of x.0) x.1 xs q.1 (lower_is cmp (point_of (Some x.0)) x.0 ∙ ap not here))
 
+  other_flag : (v w : Bool) → not (beq v w) ≡ true → w ≡ not v
+  other_flag true true e = absurd (false≢true e)
+  other_flag true false e = refl
+  other_flag false true e = refl
+  other_flag false false e = absurd (false≢true e)
+
+  -- an interval that ends at a cut does not touch one that begins at a later cut: the point of the first cut is between
+  gap_at : (i : Bound T × Bound T) (c d : Cut T) (upper : Bound T) → ((p : Point T) → is_within cmp i p ≡ true → stands_before (λ v. v) cmp p c ≡ true) → is_before (cut_cmp cmp) (Some c) d ≡ true →
+      (p : Point T) × ((q : Point T) → is_within cmp i q ≡ true → point_cmp cmp q p ≡ Less) × ((q : Point T) → is_within cmp (lower_of d, upper) q ≡ true → point_cmp cmp p q ≡ Less)
+  gap_at i c d upper h l =
+      let before : stands_before (λ v. v) cmp (point_of (Some c)) d ≡ true = place_before cmp (point_of (Some c)) d ∙ ap (λ p. is_before (cut_cmp cmp) p d) (place_point (Some c)) ∙ l in
+      (point_of (Some c), λ q e. lt_less _ (h q e), λ q e. parted_less cmp o (point_of (Some c)) q d before (is_not _ (sym (lower_is cmp q d) ∙ (and_parts _ _ e).0)))
+
+  gap_by : (i : Bound T × Bound T) (c d : Cut T) (v : Bool) (xs : List (Cut T × Bool)) → ((p : Point T) → is_within cmp i p ≡ true → stands_before (λ v. v) cmp p c ≡ true) → is_before (cut_cmp cmp) (Some c) d ≡ true →
+      v ≡ true → HasGap cmp i (held (parts_from (lower_of d) v xs))
+  gap_by i c d false xs h l e = absurd (false≢true e)
+  gap_by i c d true [] h l e = gap_at i c d Unbounded h l
+  gap_by i c d true (x ∷ xs) h l e = gap_at i c d (upper_of x.0) h l
+
+  gap_after : (i : Bound T × Bound T) (c : Cut T) (v : Bool) (xs : List (Cut T × Bool)) → ((p : Point T) → is_within cmp i p ≡ true → stands_before (λ v. v) cmp p c ≡ true) →
+      ascends (cut_cmp cmp) (Some c) xs ≡ true → is_merged beq v xs ≡ true → v ≡ false → HasGap cmp i (held (parts_from (lower_of c) v xs))
+  gap_after i c true xs h a m e = absurd (true≢false e)
+  gap_after i c false [] h a m e = tt
+  gap_after i c false (x ∷ xs) h a m e =
+      gap_by i c x.0 x.1 xs h ((and_parts _ _ a).0) (other_flag false x.1 ((and_parts (not (beq false x.1)) (is_merged beq x.1 xs) m).0))
+
+  held_apart : (low : Option (Cut T)) (lower : Bound T) (v : Bool) (xs : List (Cut T × Bool)) → ascends (cut_cmp cmp) low xs ≡ true → is_merged beq v xs ≡ true → AreApart cmp (held (parts_from lower v xs))
+  held_apart low lower true [] a m = (tt, tt)
+  held_apart low lower false [] a m = tt
+  held_apart low lower true (x ∷ xs) a m =
+      let q = and_parts _ _ a in
+      let n = and_parts (not (beq true x.1)) (is_merged beq x.1 xs) m in
+      (gap_after (lower, upper_of x.0) x.0 x.1 xs (λ p f. sym (upper_is cmp p x.0) ∙ (and_parts _ _ f).1) q.1 n.1 (other_flag true x.1 n.0), held_apart (Some x.0) (lower_of x.0) x.1 xs q.1 n.1)
+  held_apart low lower false (x ∷ xs) a m = held_apart (Some x.0) (lower_of x.0) x.1 xs ((and_parts _ _ a).1) ((and_parts (not (beq false x.1)) (is_merged beq x.1 xs) m).1)
+
   module _ {a : _} {b : _} {c : _} where
+    pub intervals_apart : (ranges : Ranges T a b c) → ascends (cut_cmp cmp) None ranges.cuts.rest.items ≡ true → is_merged beq ranges.cuts.first ranges.cuts.rest.items ≡ true → AreApart cmp (intervals_of ranges)
+    intervals_apart ranges h m = held_apart None Unbounded ranges.cuts.first ranges.cuts.rest.items h m
+
     pub are_intervals : (ranges : Ranges T a b c) → ascends (cut_cmp cmp) None ranges.cuts.rest.items ≡ true → AreIntervals cmp ranges (intervals_of ranges)
     are_intervals ranges h = record {
       covers = λ p. held_covers p None Unbounded ranges.cuts.first ranges.cuts.rest.items h (bottom_from cmp p);

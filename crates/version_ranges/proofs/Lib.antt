@@ -4,6 +4,7 @@ pub mod Combines
 pub mod EachPiece
 pub mod Elsewhere
 pub mod EqualLaws
+pub mod FunctionLaws
 pub mod Gathers
 pub mod IntervalLaws
 pub mod Merges
@@ -14,6 +15,7 @@ pub mod PieceLaws
 pub mod Places
 pub mod PointLaws
 pub mod SameParts
+pub mod SamePoints
 pub mod Seen
 pub mod SetLaws
 pub mod Sides

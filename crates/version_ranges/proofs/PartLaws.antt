@@ -12,7 +12,7 @@ use Rattle.std.specs.declared.ops.Bound.TheVariants.{Included, Excluded, Unbound
 use Rattle.version_ranges.specs.declared.cut.Cut.{Cut}
 use Rattle.version_ranges.specs.Point.{Point, bottom, at, above, point_cmp, point_lt, is_from, is_until}
 use Rattle.version_ranges.specs.Cut.{cut_cmp, cut_point, stands_before, lower_of, upper_of}
-use Rattle.version_ranges.specs.Steps.{value_at, piece_at, is_before, ascends}
+use Rattle.version_ranges.specs.Steps.{value_at, piece_at, ascends}
 use Rattle.version_ranges.specs.Parts.{Part, parts_from, parts_of, IsIn, ArePieces}
 use Rattle.version_ranges.specs.Cuts.{piece_of}
 use Rattle.version_ranges.specs.declared.cuts.Cuts.{Cuts}
@@ -53,13 +53,26 @@ module _ {C V : Type 0} (t : C → Bool) where
       by_test false e true f l k = absurd (omega (arith, l))
       by_test false e false f l k = k (omega (arith, l))
 
-not_both : (b : Bool) → b ≡ true → not b ≡ false
-not_both true e = refl
-not_both false e = absurd (false≢true e)
-
 pub is_not : (b : Bool) → not b ≡ true → b ≡ false
 is_not true e = absurd (false≢true e)
 is_not false e = refl
+
+module _ {C V : Type 0} (cmp : C → C → Ordering) (t : C → Bool) (upward : (c d : C) → t c ≡ true → cmp c d ≡ Less → t d ≡ true) where
+  -- where the test holds of a cut, it holds of each later one
+  later_holds : (c : C) (xs : List (C × V)) (j : ℕ) (d : C × V) → ascends cmp (Some c) xs ≡ true → j < length xs → t c ≡ true → t (get_or xs j d).0 ≡ true
+  later_holds c [] j d a h k = absurd (omega (arith, h))
+  later_holds c (x ∷ xs) zero d a h k = upward c x.0 k (lt_less _ ((and_parts _ _ a).0))
+  later_holds c (x ∷ xs) (suc j) d a h k =
+      let q = and_parts _ _ a in
+      later_holds x.0 xs j d q.1 (omega (arith, h)) (upward c x.0 k (lt_less _ q.0))
+
+  -- the cuts of which the test does not hold stand before the others
+  pub parted_by : (low : Option C) (xs : List (C × V)) → ascends cmp low xs ≡ true → IsPartitionedBy (λ y. not (t y.0)) xs
+  parted_by low [] a i j d h k e = absurd (omega (arith, k))
+  parted_by low (x ∷ xs) a zero zero d h k e = e
+  parted_by low (x ∷ xs) a zero (suc j) d h k e = ap not (not_true _ _ (later_holds x.0 xs j d ((and_parts _ _ a).1) (omega (arith, k))) (is_not _ e))
+  parted_by low (x ∷ xs) a (suc i) zero d h k e = absurd (omega (arith, h))
+  parted_by low (x ∷ xs) a (suc i) (suc j) d h k e = parted_by (Some x.0) xs ((and_parts _ _ a).1) i j d (omega (arith, h)) (omega (arith, k)) e
 
 then_equal : (r : Ordering) → ordering_then r Equal ≡ r
 then_equal Less = refl
@@ -92,28 +105,6 @@ module _ {T : Type 0} (cmp : T → T → Ordering) where
 
   pub before_later : IsTotalOrder cmp → (p : Point T) (c d : Cut T) → stands_before (λ v. v) cmp p c ≡ true → cut_cmp cmp c d ≡ Less → stands_before (λ v. v) cmp p d ≡ true
   before_later o p c d h e = place_before cmp p d ∙ before_trans (cut_total o) (place p) c d (sym (place_before cmp p c) ∙ h) e
-
-  -- where one cut lies after the point, each later one does
-  later_before : IsTotalOrder cmp → {V : Type 0} → (p : Point T) (low : Option (Cut T)) (xs : List (Cut T × V)) → ascends (cut_cmp cmp) low xs ≡ true → (c : Cut T) → low ≡ Some c →
-      (j : ℕ) (d : Cut T × V) → j < length xs → stands_before (λ v. v) cmp p c ≡ true → stands_before (λ v. v) cmp p (get_or xs j d).0 ≡ true
-  later_before o p low [] a c e j d h k = absurd (omega (arith, h))
-  later_before o p low (x ∷ xs) a c e zero d h k = let q = and_parts _ _ a in before_later o p c x.0 k (lt_less _ (subst (λ l. is_before (cut_cmp cmp) l x.0 ≡ true) e q.0))
-  later_before o p low (x ∷ xs) a c e (suc j) d h k =
-      let q = and_parts _ _ a in
-      later_before o p (Some x.0) xs q.1 x.0 refl j d (omega (arith, h)) (before_later o p c x.0 k (lt_less _ (subst (λ l. is_before (cut_cmp cmp) l x.0 ≡ true) e q.0)))
-
-  -- the cuts that a point has passed stand before the others
-  pub parted_by : IsTotalOrder cmp → {V : Type 0} → (p : Point T) (xs : List (Cut T × V)) → ascends (cut_cmp cmp) None xs ≡ true → IsPartitionedBy (λ y. not (stands_before (λ v. v) cmp p y.0)) xs
-  parted_by o {V} p xs a = parted_from None xs a
-    where
-      parted_from : (low : Option (Cut T)) (xs : List (Cut T × V)) → ascends (cut_cmp cmp) low xs ≡ true → IsPartitionedBy (λ y. not (stands_before (λ v. v) cmp p y.0)) xs
-      parted_from low [] a i j d h k e = absurd (omega (arith, k))
-      parted_from low (x ∷ xs) a zero zero d h k e = e
-      parted_from low (x ∷ xs) a zero (suc j) d h k e =
-          let q = and_parts _ _ a in
-          ap not (not_true _ _ (later_before o p (Some x.0) xs q.1 x.0 refl j d (omega (arith, k))) (is_not _ e))
-      parted_from low (x ∷ xs) a (suc i) zero d h k e = absurd (omega (arith, h))
-      parted_from low (x ∷ xs) a (suc i) (suc j) d h k e = parted_from (Some x.0) xs ((and_parts _ _ a).1) i j d (omega (arith, h)) (omega (arith, k)) e
 
   module _ {V : Type 0} where
     -- a point lies in the part at the index of its piece

@@ -4,9 +4,18 @@ use Rattle.std.specs.Prelude.{slice_get}
 use Rattle.std.specs.declared.cmp.Ordering.{Ordering}
 use Rattle.std.specs.Cmp.{IsTotalOrder}
 use Rattle.std.proofs.lemmas.Bool.{and_parts}
-use Rattle.version_ranges.specs.Steps.{is_before, ascends}
+use Rattle.version_ranges.specs.Steps.{is_before, ascends, piece_at}
 use Rattle.version_ranges.proofs.StepLaws.{IsFrom, from_itself, from_later, value_from, piece_from}
 use Rattle.std.proofs.lemmas.Option.{slice_get_read}
+
+-- a point lies in one of the pieces
+pub piece_bound : {C V : Type 0} (t : C → Bool) (xs : List (C × V)) → piece_at t xs < suc (length xs)
+piece_bound t [] = omega arith
+piece_bound t (x ∷ xs) = by_test (t x.0) (piece_bound t xs)
+  where
+    by_test : (b : Bool) → piece_at t xs < suc (length xs) → cond b 0 (suc (piece_at t xs)) < suc (suc (length xs))
+    by_test true h = omega arith
+    by_test false h = omega arith
 
 module _ {C V : Type 0} (cmp : C → C → Ordering) where
   pub piece_value : (v : V) (xs : List (C × V)) (p : Option C) → slice_get (v ∷ map (λ s. s.1) xs) (piece_from cmp xs p) ≡ Some (value_from cmp v xs p)
@@ -17,14 +26,6 @@ module _ {C V : Type 0} (cmp : C → C → Ordering) where
           slice_get (v ∷ x.1 ∷ map (λ s. s.1) xs) (cond b 0 (suc (piece_from cmp xs p))) ≡ Some (cond b v (value_from cmp x.1 xs p))
       by_test true h = refl
       by_test false h = h
-
-  pub piece_bound : (xs : List (C × V)) (p : Option C) → piece_from cmp xs p < suc (length xs)
-  piece_bound [] p = omega arith
-  piece_bound (x ∷ xs) p = by_test (is_before cmp p x.0) (piece_bound xs p)
-    where
-      by_test : (b : Bool) → piece_from cmp xs p < suc (length xs) → cond b 0 (suc (piece_from cmp xs p)) < suc (suc (length xs))
-      by_test true h = omega arith
-      by_test false h = omega arith
 
   module _ (o : IsTotalOrder cmp) where
     pub piece_low : (xs : List (C × V)) (p : Option C) → ascends cmp p xs ≡ true → piece_from cmp xs p ≡ 0

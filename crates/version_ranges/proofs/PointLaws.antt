@@ -63,7 +63,8 @@ module _ {T : Type 0} where
       at_equal Greater = refl
   above_before cmp v w false = refl
 
-  bottom_before : (cmp : T → T → Ordering) (w : T) (b : Bool) → point_lt cmp bottom (cond b (above w) (at w)) ≡ true
+  -- the point below all values stands before each cut
+  pub bottom_before : (cmp : T → T → Ordering) (w : T) (b : Bool) → point_lt cmp bottom (cond b (above w) (at w)) ≡ true
   bottom_before cmp w true = refl
   bottom_before cmp w false = refl
 

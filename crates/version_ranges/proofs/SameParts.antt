@@ -1,9 +1,9 @@
--- Equal lists of cuts have equal pieces and equal intervals.
+-- Equal lists of cuts have equal pieces and equal intervals, and where the pieces are equal the cuts are.
 use Rattle.std.proofs.Common.{◌≡◌, Bool, true, false, cond, ◌&&◌, List, [], ◌∷◌, refl}
 use mathlib.Core.Bool.{beq}
 use Rattle.std.proofs.lemmas.Bool.{and_parts, and_from, false≢true}
 use Rattle.std.specs.declared.ops.Bound.{Bound}
-use Rattle.std.specs.declared.ops.Bound.TheVariants.{Included, Excluded}
+use Rattle.std.specs.declared.ops.Bound.TheVariants.{Included, Excluded, Unbounded}
 use Rattle.version_ranges.specs.declared.cut.Cut.{Cut}
 use Rattle.version_ranges.specs.Cut.{lower_of, upper_of}
 use Rattle.version_ranges.specs.Parts.{Part, parts_from, same_bound, same_part, same_parts}
@@ -23,6 +23,21 @@ module _ {T : Type 0} (eq : T → T → Bool) where
   bounds_same : (c d : Cut T) → cut_eq eq c d ≡ true → (same_bound eq (lower_of c) (lower_of d) ≡ true) × (same_bound eq (upper_of c) (upper_of d) ≡ true)
   bounds_same c d e = let q = and_parts (eq c.value d.value) (beq c.above d.above) e in bounds_by c.value d.value c.above d.above q.0 q.1
 
+  -- and the other way round
+  cuts_by : (v w : T) (a b : Bool) → same_bound eq (cond a (Included v) (Excluded v)) (cond b (Included w) (Excluded w)) ≡ true → (eq v w && beq a b) ≡ true
+  cuts_by v w true true h = and_from _ _ h refl
+  cuts_by v w true false h = absurd (false≢true h)
+  cuts_by v w false true h = absurd (false≢true h)
+  cuts_by v w false false h = and_from _ _ h refl
+
+  not_open : (w : T) (b : Bool) → same_bound eq Unbounded (cond b (Included w) (Excluded w)) ≡ true → ⊥
+  not_open w true h = false≢true h
+  not_open w false h = false≢true h
+
+  not_closed : (w : T) (b : Bool) → same_bound eq (cond b (Included w) (Excluded w)) Unbounded ≡ true → ⊥
+  not_closed w true h = false≢true h
+  not_closed w false h = false≢true h
+
   module _ {V : Type 0} (same : V → V → Bool) where
     pub parts_same : (low low' : Bound T) (v w : V) (xs ys : List (Cut T × V)) → same_bound eq low low' ≡ true → same v w ≡ true → same_steps (cut_eq eq) same xs ys ≡ true →
         same_parts eq same (parts_from low v xs) (parts_from low' w ys) ≡ true
@@ -34,6 +49,28 @@ module _ {T : Type 0} (eq : T → T → Bool) where
         let r = and_parts (cut_eq eq x.0 y.0) (same x.1 y.1) q.0 in
         let k = bounds_same x.0 y.0 r.0 in
         and_from _ _ (and_from _ _ b (and_from _ _ k.1 s)) (parts_same (lower_of x.0) (lower_of y.0) x.1 y.1 xs ys k.0 r.1 q.1)
+
+    part_parts : (p q : Part T V) → same_part eq same p q ≡ true → (same_bound eq p.upper q.upper ≡ true) × (same p.value q.value ≡ true)
+    part_parts p q e =
+        and_parts (same_bound eq p.upper q.upper) (same p.value q.value)
+        ((and_parts (same_bound eq p.lower q.lower) (same_bound eq p.upper q.upper && same p.value q.value) e).1)
+
+    pub steps_same : (low low' : Bound T) (v w : V) (xs ys : List (Cut T × V)) → same_parts eq same (parts_from low v xs) (parts_from low' w ys) ≡ true → (same v w && same_steps (cut_eq eq) same xs ys) ≡ true
+    steps_same low low' v w [] [] e =
+        and_from _ _ ((part_parts (record { lower = low; upper = Unbounded; value = v }) (record { lower = low'; upper = Unbounded; value = w }) ((and_parts _ _ e).0)).1) refl
+    steps_same low low' v w [] (y ∷ ys) e =
+        absurd
+        (not_open y.0.value y.0.above
+        ((part_parts (record { lower = low; upper = Unbounded; value = v }) (record { lower = low'; upper = upper_of y.0; value = w }) ((and_parts _ _ e).0)).0))
+    steps_same low low' v w (x ∷ xs) [] e =
+        absurd
+        (not_closed x.0.value x.0.above
+        ((part_parts (record { lower = low; upper = upper_of x.0; value = v }) (record { lower = low'; upper = Unbounded; value = w }) ((and_parts _ _ e).0)).0))
+    steps_same low low' v w (x ∷ xs) (y ∷ ys) e =
+        let q = and_parts _ _ e in
+        let r = part_parts (record { lower = low; upper = upper_of x.0; value = v }) (record { lower = low'; upper = upper_of y.0; value = w }) q.0 in
+        let k = and_parts (same x.1 y.1) (same_steps (cut_eq eq) same xs ys) (steps_same (lower_of x.0) (lower_of y.0) x.1 y.1 xs ys q.1) in
+        and_from _ _ r.1 (and_from _ _ (and_from _ _ (cuts_by x.0.value y.0.value x.0.above y.0.above r.0) k.0) k.1)
 
   -- equal pieces of sets are equal intervals
   held_by : (i j : Bound T × Bound T) (a b : Bool) (is js : List (Bound T × Bound T)) → same_bound eq i.0 j.0 ≡ true → same_bound eq i.1 j.1 ≡ true → beq a b ≡ true →

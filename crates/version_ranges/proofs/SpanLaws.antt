@@ -1,5 +1,5 @@
 -- The span of the intervals of a set, by its first and its last cut.
-use Rattle.std.proofs.Common.{◌≡◌, Bool, true, false, cond, List, [], ◌∷◌, ◌++◌, Option, Some, refl, sym, ap, ◌∙◌}
+use Rattle.std.proofs.Common.{◌≡◌, Bool, true, false, cond, List, [], ◌∷◌, ◌++◌, Some, refl, ap, ◌∙◌}
 use mathlib.Core.Bool.{beq}
 use Rattle.std.specs.Option.{option_map}
 use Rattle.std.specs.declared.ops.Bound.{Bound}

@@ -28,6 +28,10 @@ module _ {T V : Type 0} {a : _} {b : _} {c : _} where
   abbrev pub piece_count : Cuts T V a b c → ℕ
   piece_count cuts = vec_len cuts.rest + 1
 
+  -- whether neighboring pieces have values that differ
+  abbrev pub neighbors_differ : (V → V → Bool) → Cuts T V a b c → Bool
+  neighbors_differ same cuts = is_merged same cuts.first cuts.rest.items
+
   -- neighboring pieces have values that differ
   abbrev pub IsMerged : (V → V → Bool) → Cuts T V a b c → Type 0
-  IsMerged same cuts = is_merged same cuts.first cuts.rest.items ≡ true
+  IsMerged same cuts = neighbors_differ same cuts ≡ true

@@ -77,6 +77,16 @@ module _ {T : Type 0} where
     AreAscending [] = Unit {0}
     AreAscending (i ∷ is) = (p : Point T) × (is_within i p ≡ true) × StandsBefore i is × AreAscending is
 
+    -- between an interval and the first of these there is a point, behind the one and before the other
+    abbrev pub HasGap : Bound T × Bound T → List (Bound T × Bound T) → Type 0
+    HasGap i [] = Unit {0}
+    HasGap i (j ∷ js) = (p : Point T) × ((q : Point T) → is_within i q ≡ true → point_cmp cmp q p ≡ Less) × ((q : Point T) → is_within j q ≡ true → point_cmp cmp p q ≡ Less)
+
+    -- no two intervals touch
+    abbrev pub AreApart : List (Bound T × Bound T) → Type 0
+    AreApart [] = Unit {0}
+    AreApart (i ∷ is) = HasGap i is × AreApart is
+
   module _ {a : _} {b : _} {c : _} where
     -- all intervals
     abbrev pub intervals_of : Ranges T a b c → List (Bound T × Bound T)

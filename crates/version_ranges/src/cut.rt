@@ -1,5 +1,7 @@
 //! A cut of an ordered set: the place where a piece of a function begins.
-ghost use Rattle.std.specs.Prelude.{◌≡◌};
+ghost use Rattle.std.specs.Prelude.{◌≡◌, string_bytes};
+ghost use Rattle.std.specs.Ordering.{nat_cmp};
+ghost use Rattle.std.specs.Cmp.Lexicographic.{slice_cmp};
 ghost use Rattle.version_ranges.specs.Cut.{cut_cmp, cut_point, stands_before};
 ghost use Rattle.version_ranges.specs.Point.{at};
 
@@ -21,6 +23,19 @@ impl<T: Ord> Cut<T> {
             Ordering::Less => true,
             Ordering::Equal => self.above,
             Ordering::Greater => false,
+        }
+    }
+}
+
+impl Cut<String> {
+    // Whether the point of a text lies before this cut.
+    pub(crate) fn is_after_str(&self, text: &str) -> bool
+        ensures { result ≡ stands_before string_bytes (slice_cmp nat_cmp) (at text.now) self.now }
+    {
+        if self.above {
+            text <= self.value.as_str()
+        } else {
+            text < self.value.as_str()
         }
     }
 }

@@ -62,6 +62,22 @@ impl<T: Ord, V> Cuts<T, V> {
     }
 }
 
+impl<V> Cuts<String, V> {
+    ghost use Rattle.std.specs.Prelude.{◌≡◌, string_bytes};
+    ghost use Rattle.std.specs.Ordering.{nat_cmp};
+    ghost use Rattle.std.specs.Cmp.Lexicographic.{slice_cmp};
+    ghost use Rattle.version_ranges.specs.Point.{at};
+    ghost use Rattle.version_ranges.specs.Cuts.{value_by};
+
+    /// The value at the point of a text, which need be no `String`.
+    pub fn at_str(&self, text: &str) -> &V
+        ensures { result.now ≡ value_by string_bytes (slice_cmp nat_cmp) self.now (at text.now) }
+    {
+        let passed = self.rest.partition_point(|step| !step.0.is_after_str(text));
+        self.piece_value(passed)
+    }
+}
+
 impl<T: Ord + Drop, V: Drop> Cuts<T, V> {
     ghost use Rattle.std.specs.Prelude.{ℕ, IfOk, ◌≡◌, Bool, true, slice_get, Some, vec_len};
     ghost use Rattle.version_ranges.specs.Bounds.{all_cuts};

@@ -37,12 +37,13 @@ impl<T: Ord> Ranges<T> {
     ghost use Rattle.std.specs.Prelude.{◌≡◌, Bool, true};
     ghost use Rattle.version_ranges.specs.Bounds.{all_bounds, passes_at_both};
     ghost use Rattle.std.specs.Range.Bound.{bound_map};
-    ghost use Rattle.version_ranges.specs.Intervals.{interval_of, intervals_of, intervals_left, lower_from, span_of, upper_after, AreIntervals};
+    ghost use Rattle.version_ranges.specs.Intervals.{interval_of, intervals_of, intervals_left, lower_from, span_of, upper_after, AreApart, AreIntervals};
 
     /// The intervals of the set, in ascending order: none is empty, and no two touch.
     pub fn iter(&self) -> Intervals<'_, T>
         ensures items { intervals_left result ≡ intervals_of self.now }
         ensures intervals { AreIntervals T.cmp self.now (intervals_of self.now) }
+        ensures apart { AreApart T.cmp (intervals_of self.now) }
         ensures bounds { (test : T → Bool) → all_bounds test self.now ≡ true → list_all (passes_at_both test) (intervals_of self.now) ≡ true }
     {
         Intervals {

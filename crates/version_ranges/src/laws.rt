@@ -2,6 +2,7 @@
 ghost use Rattle.std.specs.Prelude.{◌≡◌, ℕ, Bool, List, true, Some, slice_get, string_bytes};
 ghost use Rattle.std.specs.Ordering.{nat_cmp};
 ghost use Rattle.std.specs.Cmp.Lexicographic.{slice_cmp};
+ghost use Rattle.std.specs.String.{string_eq};
 ghost use Rattle.version_ranges.specs.Point.{Point, point_map};
 ghost use Rattle.version_ranges.specs.Cuts.{value_of, value_by, piece_of, piece_by, IsMerged};
 ghost use Rattle.version_ranges.specs.Ranges.{contains_point};
@@ -12,18 +13,22 @@ use crate::cuts::Cuts;
 use crate::ranges::Ranges;
 
 /// Functions whose neighboring pieces differ, as `with_values` makes them, are equal by `==` where they have equal
-/// values at every point. Equal functions have equal pieces: as many, with equal bounds and equal values.
+/// values at every point. Equal functions have equal pieces: as many, with equal bounds and equal values. Functions with
+/// equal pieces have equal values at every point.
 pub fn same_values_make_same_pieces<T: Ord, V: Eq>(left: &Cuts<T, V>, right: &Cuts<T, V>)
     requires left_merged { IsMerged V.eq left.now }
     requires right_merged { IsMerged V.eq right.now }
     ensures equal { ((p : Point T) → V.eq (value_of T.cmp left.now p) (value_of T.cmp right.now p) ≡ true) → ⟦<Cuts<T, V> as PartialEq>⟧.eq left.now right.now ≡ true }
     ensures pieces { ⟦<Cuts<T, V> as PartialEq>⟧.eq left.now right.now ≡ true → same_parts T.eq V.eq (parts_of left.now) (parts_of right.now) ≡ true }
+    ensures values { same_parts T.eq V.eq (parts_of left.now) (parts_of right.now) ≡ true → (p : Point T) → V.eq (value_of T.cmp left.now p) (value_of T.cmp right.now p) ≡ true }
 {}
 
-/// Sets with the same points are equal by `==`. Equal sets have equal intervals: as many, with equal bounds.
+/// Sets with the same points are equal by `==`. Equal sets have equal intervals: as many, with equal bounds. Sets with
+/// equal intervals have the same points.
 pub fn same_points_make_same_intervals<T: Ord>(left: &Ranges<T>, right: &Ranges<T>)
     ensures equal { ((p : Point T) → contains_point T.cmp left.now p ≡ contains_point T.cmp right.now p) → ⟦<Ranges<T> as PartialEq>⟧.eq left.now right.now ≡ true }
     ensures intervals { ⟦<Ranges<T> as PartialEq>⟧.eq left.now right.now ≡ true → same_intervals T.eq (intervals_of left.now) (intervals_of right.now) ≡ true }
+    ensures points { same_intervals T.eq (intervals_of left.now) (intervals_of right.now) ≡ true → (p : Point T) → contains_point T.cmp left.now p ≡ contains_point T.cmp right.now p }
 {}
 
 /// Each point lies between the bounds of one piece and of no other, and the value at the point is that of this piece.
@@ -59,6 +64,7 @@ pub fn functions_of_texts<V: Eq>(left: &Cuts<String, V>, right: &Cuts<String, V>
     requires left_merged { IsMerged V.eq left.now }
     requires right_merged { IsMerged V.eq right.now }
     ensures equal { ((q : Point (List ℕ)) → V.eq (value_by string_bytes (slice_cmp nat_cmp) left.now q) (value_by string_bytes (slice_cmp nat_cmp) right.now q) ≡ true) → ⟦<Cuts<String, V> as PartialEq>⟧.eq left.now right.now ≡ true }
+    ensures pieces { ((q : Point (List ℕ)) → V.eq (value_by string_bytes (slice_cmp nat_cmp) left.now q) (value_by string_bytes (slice_cmp nat_cmp) right.now q) ≡ true) → same_parts string_eq V.eq (parts_of left.now) (parts_of right.now) ≡ true }
     ensures value { (q : Point (List ℕ)) → (i : ℕ) × (part : _) × (slice_get (parts_of left.now) i ≡ Some part) × (value_by string_bytes (slice_cmp nat_cmp) left.now q ≡ part.value) }
     ensures each { (holds : V → Bool) → ((i : ℕ) (part : _) → slice_get (parts_of left.now) i ≡ Some part → holds part.value ≡ true) → (q : Point (List ℕ)) → holds (value_by string_bytes (slice_cmp nat_cmp) left.now q) ≡ true }
 {

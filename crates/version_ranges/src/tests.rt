@@ -4,8 +4,9 @@ ghost use Rattle.std.specs.Ordering.{eq_by_cmp, nat_cmp, on};
 ghost use Rattle.std.specs.Cmp.{eq_by_cmp_equiv, nat_cmp_total, on_total, partial_equiv_from_equiv, po};
 
 use crate::{Cuts, Ranges};
-use std::alloc::AllocError;
+use std::alloc::{AllocError, Global};
 use std::cmp::Ordering;
+use std::hash::{DefaultHasher, Hash, Hasher};
 use std::ops::Bound;
 use std::test::Fail;
 
@@ -106,7 +107,7 @@ fn overlay_counts_comparisons(rt: HostRuntime) -> Result<(), Fail> {
     assert_eq!(rt; from_one.piece_count(), 2);
     let (both, comparisons) = one.overlay(alloc, &from_one)?;
     assert_eq!(rt; both.piece_count(), 3);
-    assert!(rt; 1 <= comparisons && comparisons <= 3);
+    assert_eq!(rt; comparisons, 1);
     assert!(rt; *both.at(&0) == (8, 6) && *both.at(&1) == (7, 5) && *both.at(&2) == (8, 5));
     let joined = both.with_values(vec![in alloc; 1u8, 2, 2]?)?;
     assert_eq!(rt; joined.piece_count(), 2);
@@ -122,6 +123,50 @@ fn overlay_counts_comparisons(rt: HostRuntime) -> Result<(), Fail> {
     Ok(())
 }
 
+// The values from the first one up to the second, and from the third on.
+fn with_cuts(alloc: Global, begin: u8, end: u8, again: u8) -> Result<Ranges<u8>, AllocError> {
+    let low = Ranges::from_range_bounds(alloc, (Bound::Included(begin), Bound::Excluded(end)))?;
+    low.union(alloc, &Ranges::higher_than(alloc, again)?)
+}
+
+// How many pieces two functions have side by side, and how many of their cuts were compared.
+fn counts(
+    alloc: Global,
+    left: &Ranges<u8>,
+    right: &Ranges<u8>,
+) -> Result<(usize, usize), AllocError> {
+    let left = Cuts::from_ranges(alloc, left, 1u8, 0)?;
+    let right = Cuts::from_ranges(alloc, right, 1u8, 0)?;
+    let (both, comparisons) = left.overlay(alloc, &right)?;
+    Ok((both.piece_count(), comparisons))
+}
+
+#[test]
+fn each_comparison_is_counted(rt: HostRuntime) -> Result<(), Fail> {
+    let alloc = rt.alloc();
+    let odd = with_cuts(alloc, 1, 3, 5)?;
+    let even = with_cuts(alloc, 2, 4, 6)?;
+    let one = Ranges::higher_than(alloc, 1u8)?;
+    let nine = Ranges::higher_than(alloc, 9u8)?;
+    let full = Ranges::full(alloc);
+    let empty = Ranges::empty(alloc);
+    for (left, right, expected) in [
+        (&odd, &even, (7, 5)),
+        (&even, &odd, (7, 5)),
+        (&odd, &odd, (4, 3)),
+        (&one, &even, (5, 1)),
+        (&even, &one, (5, 1)),
+        (&odd, &one, (4, 1)),
+        (&odd, &nine, (5, 3)),
+        (&nine, &odd, (5, 3)),
+        (&odd, &full, (4, 0)),
+        (&empty, &odd, (4, 0)),
+    ] {
+        assert!(rt; counts(alloc, left, right)? == expected);
+    }
+    Ok(())
+}
+
 #[test]
 fn pairs_are_given_in_order(rt: HostRuntime) -> Result<(), Fail> {
     let alloc = rt.alloc();
@@ -132,6 +177,36 @@ fn pairs_are_given_in_order(rt: HostRuntime) -> Result<(), Fail> {
     assert!(rt; pairs.next() == Some((&7, &5)));
     assert!(rt; pairs.next() == Some((&8, &5)));
     assert!(rt; pairs.next().is_none());
+    Ok(())
+}
+
+fn hash_of_set(set: &Ranges<u8>) -> u64 {
+    let mut state = DefaultHasher::new();
+    set.hash(&mut state);
+    state.finish()
+}
+
+fn hash_of_function(function: &Cuts<u8, u8>) -> u64 {
+    let mut state = DefaultHasher::new();
+    function.hash(&mut state);
+    state.finish()
+}
+
+#[test]
+fn equal_sets_and_functions_hash_alike(rt: HostRuntime) -> Result<(), Fail> {
+    let alloc = rt.alloc();
+    let points = Ranges::from_points(vec![in alloc; 3u8, 1, 3]?)?;
+    let singles = Ranges::singleton(alloc, 1)?.union(alloc, &Ranges::singleton(alloc, 3)?)?;
+    assert!(rt; points == singles && hash_of_set(&points) == hash_of_set(&singles));
+    assert!(rt; hash_of_set(&points.clone()?) == hash_of_set(&points));
+    assert!(rt; hash_of_set(&points.complement(alloc)?) != hash_of_set(&points));
+    let made = Cuts::from_ranges(alloc, &points, 7u8, 8)?;
+    let outside = points.complement(alloc)?;
+    let turned = Cuts::from_ranges(alloc, &outside, 8u8, 7)?;
+    assert!(rt; made == turned && hash_of_function(&made) == hash_of_function(&turned));
+    assert_eq!(rt; made.piece_count(), 5);
+    let named = made.with_values(vec![in alloc; 8u8, 7, 8, 7, 8]?)?;
+    assert!(rt; named == turned && hash_of_function(&named) == hash_of_function(&turned));
     Ok(())
 }
 
@@ -168,6 +243,37 @@ fn texts_have_room_between_neighbors(rt: HostRuntime) -> Result<(), Fail> {
         above.contains(&String::from_str(alloc, "a\0")?)
             && !above.contains(&String::from_str(alloc, "a")?)
     );
+    Ok(())
+}
+
+#[test]
+fn texts_have_the_value_of_their_piece(rt: HostRuntime) -> Result<(), Fail> {
+    let alloc = rt.alloc();
+    let from_b = Ranges::higher_than(alloc, String::from_str(alloc, "b")?)?;
+    let to_d = Ranges::lower_than(alloc, String::from_str(alloc, "d")?)?;
+    let both = from_b.intersection(alloc, &to_d)?;
+    let inside = Cuts::from_ranges(alloc, &both, 1u8, 0)?;
+    let outside = Cuts::from_ranges(alloc, &both.complement(alloc)?, 1u8, 0)?;
+    let above_b = Ranges::strictly_higher_than(alloc, String::from_str(alloc, "b")?)?;
+    let below_d = Ranges::strictly_lower_than(alloc, String::from_str(alloc, "d")?)?;
+    let between = Cuts::from_ranges(alloc, &above_b.intersection(alloc, &below_d)?, 1u8, 0)?;
+    for (text, in_both, in_between) in [
+        ("", 0, 0),
+        ("a", 0, 0),
+        ("b", 1, 0),
+        ("b\0", 1, 1),
+        ("c", 1, 1),
+        ("d", 1, 0),
+        ("d\0", 0, 0),
+        ("é", 0, 0),
+    ] {
+        assert_eq!(rt; *inside.at_str(text), in_both);
+        assert_eq!(rt; *outside.at_str(text), 1 - in_both);
+        assert_eq!(rt; *between.at_str(text), in_between);
+        assert_eq!(rt; *inside.at(&String::from_str(alloc, text)?), in_both);
+    }
+    let everywhere = Cuts::<String, u8>::constant(alloc, 3);
+    assert!(rt; *everywhere.at_str("") == 3 && *everywhere.at_str("b") == 3);
     Ok(())
 }
 

@@ -44,7 +44,7 @@ const READ: [(&str, Operator, &str); 24] = [
 ];
 
 // A text that is no specifier, the byte of its fault, and what is told.
-const FAULTS: [(&str, usize, &str); 22] = [
+const FAULTS: [(&str, usize, &str); 23] = [
     (
         "",
         0,
@@ -116,6 +116,11 @@ const FAULTS: [(&str, usize, &str); 22] = [
         "Expected the end of the version, found '.' at byte 7 of \"==3.8a1.*\"",
     ),
     (
+        "===foobar",
+        3,
+        "Expected a release number, found 'f' at byte 3 of \"===foobar\"",
+    ),
+    (
         "==*",
         2,
         "Expected a release number, found '*' at byte 2 of \"==*\"",
@@ -155,6 +160,72 @@ const FAULTS: [(&str, usize, &str); 22] = [
         5,
         "Expected a version without a local part after `~=`, found '+' at byte 5 of \"~=1.0+x\"",
     ),
+];
+
+// The examples of PEP 440, "Version specifiers", and further ones of each operator, as they are printed.
+const EXAMPLES: [&str; 26] = [
+    "~=0.9",
+    ">=1.0",
+    "!=1.3.4.*",
+    "<2.0",
+    "~=2.2",
+    "~=1.4.5",
+    "~=2.2.post3",
+    "~=1.4.5a4",
+    "~=2.2.0",
+    "~=1.4.5.0",
+    "==1.1",
+    "==1.1.post1",
+    "==1.1.*",
+    "!=1.1.post1",
+    ">1.7",
+    ">1.7.post2",
+    "~=3.1a1",
+    "~=3.1.0",
+    "!=3.1.3",
+    "==2.1.0.3",
+    "!=2.2.*",
+    "!=2.2.0.5",
+    "<=5",
+    ">=7.9a1",
+    "<1.0.dev1",
+    ">2.0.post1",
+];
+
+// What PEP 440 does not allow: no operator, one that it has not, no version, a local part or a star where none may stand,
+// a star not at the end, and one number behind `~=`.
+const NOT_ALLOWED: [&str; 31] = [
+    "2.0",
+    "=>2.0",
+    "=2.0",
+    "==",
+    "~=1.0+5",
+    ">=1.0+deadbeef",
+    "<=1.0+abc123",
+    ">1.0+watwat",
+    "<1.0+1.0",
+    "===1.0.*",
+    "~=1.0.*",
+    ">=1.0.*",
+    "<=1.0.*",
+    ">1.0.*",
+    "<1.0.*",
+    "==1.0.*+5",
+    "!=1.0.*+deadbeef",
+    "==2.0a1.*",
+    "!=2.0a1.*",
+    "==2.0.post1.*",
+    "!=2.0.post1.*",
+    "==2.0.dev1.*",
+    "!=2.0.dev1.*",
+    "==1.0+5.*",
+    "!=1.0+deadbeef.*",
+    "==1.0.*.5",
+    "!=1.0.*.0",
+    "~=1",
+    "~=1a1",
+    "==1.0.dev1.*",
+    "!=1.0.dev1.*",
 ];
 
 // An operator, a pattern, and what they make: a text, or what is told.
@@ -211,6 +282,71 @@ const COMBINED: [(Operator, &str, Result<&str, &str>); 16] = [
     ),
     (Operator::NotEqual, "3+x", Ok("!=3+x")),
     (Operator::GreaterThan, "3a1", Ok(">3a1")),
+];
+
+// Versions: one and two numbers, an epoch and a zero at the end, then each suffix and a local part.
+const KINDS: [&str; 7] = [
+    "3",
+    "3.9",
+    "1!3.9.0",
+    "3.9a1",
+    "3.9.post1",
+    "3.9.dev1",
+    "3.9+x",
+];
+
+// An operator, and what it makes of the pattern `3.9.*` and of those versions. Where it makes nothing, `-` stands.
+const OF_KINDS: [(Operator, &str, &str); 10] = [
+    (
+        Operator::Equal,
+        "==3.9.*",
+        "==3 ==3.9 ==1!3.9.0 ==3.9a1 ==3.9.post1 ==3.9.dev1 ==3.9+x",
+    ),
+    (
+        Operator::EqualStar,
+        "-",
+        "==3.* ==3.9.* ==1!3.9.0.* - - - -",
+    ),
+    (
+        Operator::ExactEqual,
+        "-",
+        "===3 ===3.9 ===1!3.9.0 ===3.9a1 ===3.9.post1 ===3.9.dev1 ===3.9+x",
+    ),
+    (
+        Operator::NotEqual,
+        "!=3.9.*",
+        "!=3 !=3.9 !=1!3.9.0 !=3.9a1 !=3.9.post1 !=3.9.dev1 !=3.9+x",
+    ),
+    (
+        Operator::NotEqualStar,
+        "-",
+        "!=3.* !=3.9.* !=1!3.9.0.* - - - -",
+    ),
+    (
+        Operator::TildeEqual,
+        "-",
+        "- ~=3.9 ~=1!3.9.0 ~=3.9a1 ~=3.9.post1 ~=3.9.dev1 -",
+    ),
+    (
+        Operator::LessThan,
+        "-",
+        "<3 <3.9 <1!3.9.0 <3.9a1 <3.9.post1 <3.9.dev1 -",
+    ),
+    (
+        Operator::LessThanEqual,
+        "-",
+        "<=3 <=3.9 <=1!3.9.0 <=3.9a1 <=3.9.post1 <=3.9.dev1 -",
+    ),
+    (
+        Operator::GreaterThan,
+        "-",
+        ">3 >3.9 >1!3.9.0 >3.9a1 >3.9.post1 >3.9.dev1 -",
+    ),
+    (
+        Operator::GreaterThanEqual,
+        "-",
+        ">=3 >=3.9 >=1!3.9.0 >=3.9a1 >=3.9.post1 >=3.9.dev1 -",
+    ),
 ];
 
 // Specifiers in ascending order.
@@ -362,6 +498,28 @@ fn faults_of_specifiers_name_the_place_and_the_cause(rt: HostRuntime) -> Result<
     Ok(())
 }
 
+// Whether the text is a specifier that is printed as it was written.
+fn is_kept(alloc: Global, text: &str) -> Result<bool, Fail> {
+    let specifier = VersionSpecifier::parse(alloc, text)?;
+    prints(alloc, &specifier, text)
+}
+
+#[test]
+fn examples_of_specifiers_are_read(rt: HostRuntime) -> Result<(), Fail> {
+    for text in EXAMPLES {
+        assert!(rt; is_kept(rt.alloc(), text)?, "{text:?}");
+    }
+    Ok(())
+}
+
+#[test]
+fn what_is_not_allowed_is_refused(rt: HostRuntime) {
+    for text in NOT_ALLOWED {
+        let fault = fault_of(VersionSpecifier::parse(rt.alloc(), text));
+        assert!(rt; fault.is_some(), "{text:?}");
+    }
+}
+
 // Whether the error prints so. It has no place in a text.
 fn is_error(alloc: Global, error: &VersionSpecifierError, expected: &str) -> Result<bool, Fail> {
     let printed = error.to_string(alloc)?;
@@ -407,6 +565,104 @@ fn operators_and_versions_are_combined(rt: HostRuntime) -> Result<(), Fail> {
         Err(error) => {
             assert_eq!(rt; error.fault(), SpecifierFault::NoLocal(Operator::LessThan));
         }
+    }
+    Ok(())
+}
+
+// Whether a specifier prints so, or there is none where `-` is expected.
+fn is_made(
+    alloc: Global,
+    made: Result<VersionSpecifier, VersionSpecifierError>,
+    expected: &str,
+) -> Result<bool, Fail> {
+    match made {
+        Ok(specifier) => prints(alloc, &specifier, expected),
+        Err(_) => Ok(expected == "-"),
+    }
+}
+
+// Whether the operator makes this of the pattern.
+fn is_made_of_pattern(
+    alloc: Global,
+    operator: Operator,
+    text: &str,
+    expected: &str,
+) -> Result<bool, Fail> {
+    let pattern = VersionPattern::parse(alloc, text)?;
+    is_made(
+        alloc,
+        VersionSpecifier::from_pattern(operator, pattern),
+        expected,
+    )
+}
+
+// Whether the operator makes this of the version.
+fn is_made_of_version(
+    alloc: Global,
+    operator: Operator,
+    text: &str,
+    expected: &str,
+) -> Result<bool, Fail> {
+    let version = Version::parse(alloc, text)?;
+    is_made(
+        alloc,
+        VersionSpecifier::from_version(operator, version),
+        expected,
+    )
+}
+
+// Whether the text of the operator and the pattern is read as this.
+fn is_made_of_text(
+    alloc: Global,
+    operator: Operator,
+    text: &str,
+    expected: &str,
+) -> Result<bool, Fail> {
+    let star = if operator.is_star() { ".*" } else { "" };
+    let text = format!(in alloc; "{operator}{text}{star}")?;
+    match VersionSpecifier::parse(alloc, text.as_str()) {
+        Ok(specifier) => prints(alloc, &specifier, expected),
+        Err(Refusal::Fault(_)) => Ok(expected == "-"),
+        Err(_) => Ok(false),
+    }
+}
+
+// Whether the operator makes these of the versions, in each way.
+fn are_made(alloc: Global, operator: Operator, row: &str) -> Result<bool, Fail> {
+    let mut cells = row.split(' ');
+    for text in KINDS {
+        let Some(expected) = cells.next() else {
+            return Ok(false);
+        };
+        let is_row = is_made_of_version(alloc, operator, text, expected)?
+            && is_made_of_pattern(alloc, operator, text, expected)?
+            && is_made_of_text(alloc, operator, text, expected)?;
+        if !is_row {
+            return Ok(false);
+        }
+    }
+    Ok(cells.next().is_none())
+}
+
+#[test]
+fn each_operator_stands_before_each_kind_of_version(rt: HostRuntime) -> Result<(), Fail> {
+    for (operator, _, row) in OF_KINDS {
+        assert!(rt; are_made(rt.alloc(), operator, row)?, "{row}");
+    }
+    Ok(())
+}
+
+#[test]
+fn each_operator_stands_before_a_star(rt: HostRuntime) -> Result<(), Fail> {
+    for (operator, starred, _) in OF_KINDS {
+        assert!(rt;
+            is_made_of_pattern(rt.alloc(), operator, "3.9.*", starred)?,
+            "{operator:?}"
+        );
+        assert!(rt;
+            is_made_of_text(rt.alloc(), operator, "3.9.*", starred)?,
+            "{operator:?}"
+        );
     }
     Ok(())
 }

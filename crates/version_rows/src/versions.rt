@@ -9,7 +9,7 @@ use std::cmp::Ordering;
 use std::hash::{DefaultHasher, Hash, Hasher};
 use std::test::Fail;
 
-const NORMALIZED: [(&str, &str); 33] = [
+const NORMALIZED: [(&str, &str); 48] = [
     ("1.1RC1", "1.1rc1"),
     ("00", "0"),
     ("09000", "9000"),
@@ -31,7 +31,22 @@ const NORMALIZED: [(&str, &str); 33] = [
     ("1.2.dev", "1.2.dev0"),
     ("1.0+ubuntu-1", "1.0+ubuntu.1"),
     ("1.0+Ubuntu_01.x", "1.0+ubuntu.1.x"),
+    ("1.0b2-346", "1.0b2.post346"),
+    ("1.2+123abc", "1.2+123abc"),
+    ("1.2+1234.abc", "1.2+1234.abc"),
+    ("1.2.r32+123456", "1.2.post32+123456"),
+    ("1.2.rev33+123456", "1.2.post33+123456"),
+    ("1.0+AbC", "1.0+abc"),
+    ("1.01", "1.1"),
+    ("1.0c056", "1.0rc56"),
+    ("1.0.post000", "1.0.post0"),
+    ("1.1.dev09000", "1.1.dev9000"),
+    ("1.0-5", "1.0.post5"),
+    ("00!1.2", "1.2"),
+    ("0100!0.0", "100!0.0"),
+    ("   v1.0\t\n", "1.0"),
     ("v1.0", "1.0"),
+    ("v1", "1"),
     ("V1", "1"),
     ("1.0\n", "1.0"),
     ("\u{A0}\u{85} 1.0\u{3000}", "1.0"),
@@ -95,7 +110,67 @@ const ORDERED: [&str; 27] = [
     "1!2.0",
 ];
 
-const FAULTS: [(&str, usize, &str); 24] = [
+// PEP 440, "Final releases", "Examples of compliant version schemes" and "Version epochs": the versions of a scheme, in
+// ascending order. The last two lines have post releases written in two ways, and local parts.
+const SCHEMES: [&str; 10] = [
+    "0.9 0.9.1 0.9.2 0.9.10 0.9.11 1.0 1.0.1 1.1 2.0 2.0.1",
+    "0.1 0.2 0.3 1.0 1.1",
+    "1.1.0 1.1.1 1.1.2 1.2.0",
+    "0.9 1.0a1 1.0a2 1.0b1 1.0rc1 1.0 1.1a1",
+    "0.9 1.0.dev1 1.0.dev2 1.0.dev3 1.0.dev4 1.0c1 1.0c2 1.0 1.0.post1 1.1.dev1",
+    "2012.1 2012.2 2012.3 2012.15 2013.1 2013.2",
+    "1.0 1.1 2.0 2013.10 2014.04",
+    "2013.10 2014.04 1!1.0 1!1.1 1!2.0",
+    "1.0b2 1.0b2.post345.dev456 1.0b2.post345 1.0b2-346 1.0c1.dev456 1.0c1 1.0rc2 1.0c3 1.0",
+    "1.2 1.2+123abc 1.2+123abc456 1.2+abc 1.2+abc123 1.2+abc123def 1.2+1234.abc 1.2+123456 1.2.r32+123456 1.2.rev33+123456",
+];
+
+// A word of a version, and near misses of it: cut, lengthened, or with other letters.
+const NEAR_MISSES: [(&str, &str); 7] = [
+    ("alpha", "al alph alpah alphaa aa A\u{301}"),
+    ("beta", "be bet betaa bb"),
+    ("rc", "cc rcc rrc"),
+    ("preview", "pr pree prev previe preveiw previews"),
+    ("post", "po pos postt posts p\u{F6}st"),
+    ("rev", "re revv revs rr"),
+    ("dev", "d de deb devv devel dev.dev"),
+];
+
+// Texts that are near a version: a mark, an epoch, separators, and suffixes twice or not in their order.
+const NO_VERSIONS: [&str; 30] = [
+    "v",
+    "w1",
+    "v 1",
+    "1v",
+    "-1",
+    ".1",
+    "+a",
+    "!1",
+    "1!!1",
+    "1!2!3",
+    "v!1",
+    "1!v1",
+    "1!a1",
+    "a1",
+    "dev",
+    "1,0",
+    "1.0 a1",
+    "1.0a 1",
+    "1.0--a1",
+    "1.0a--1",
+    "1.0.-dev1",
+    "1.0--1",
+    "1.0_1",
+    "1.0-1-1",
+    "1.0a1b1",
+    "1.0.post1a1",
+    "1.0.post1.post2",
+    "1.0.dev1.post1",
+    "1.0.dev1.dev2",
+    "1.0-+a",
+];
+
+const FAULTS: [(&str, usize, &str); 28] = [
     ("", 0, "Expected a release number, found the end of \"\""),
     (
         "   ",
@@ -181,6 +256,26 @@ const FAULTS: [(&str, usize, &str); 24] = [
         "1.0+_a",
         4,
         "Expected letters or digits of the local version, found '_' at byte 4 of \"1.0+_a\"",
+    ),
+    (
+        "1.0+a+",
+        5,
+        "Expected the end of the version, found '+' at byte 5 of \"1.0+a+\"",
+    ),
+    (
+        "1.0++",
+        4,
+        "Expected letters or digits of the local version, found '+' at byte 4 of \"1.0++\"",
+    ),
+    (
+        "1.0+_foobar",
+        4,
+        "Expected letters or digits of the local version, found '_' at byte 4 of \"1.0+_foobar\"",
+    ),
+    (
+        "1.0+foo&asd",
+        7,
+        "Expected the end of the version, found '&' at byte 7 of \"1.0+foo&asd\"",
     ),
     (
         "1.0+1+1",
@@ -339,6 +434,28 @@ fn versions_stand_in_order(rt: HostRuntime) -> Result<(), Fail> {
     Ok(())
 }
 
+// Whether each version of a line stands before the next one.
+fn is_ascending(alloc: Global, scheme: &str) -> Result<bool, Fail> {
+    let mut last: Option<&str> = None;
+    for text in scheme.split(' ') {
+        if let Some(low) = last {
+            if !is_before(alloc, low, text)? {
+                return Ok(false);
+            }
+        }
+        last = Some(text);
+    }
+    Ok(last.is_some())
+}
+
+#[test]
+fn schemes_of_versions_stand_in_order(rt: HostRuntime) -> Result<(), Fail> {
+    for scheme in SCHEMES {
+        assert!(rt; is_ascending(rt.alloc(), scheme)?, "{scheme}");
+    }
+    Ok(())
+}
+
 // Whether both are one version, whatever the zeros at the end of its release.
 fn is_tie(alloc: Global, short: &str, long: &str) -> Result<bool, Fail> {
     let left = Version::parse(alloc, short)?;
@@ -428,6 +545,47 @@ fn fault_of<T: Drop>(read: Result<T, Refusal<VersionParseError>>) -> Option<Vers
             Refusal::OutOfMemory => None,
             Refusal::SegmentAtEnd => None,
         },
+    }
+}
+
+fn is_no_version(alloc: Global, text: &str) -> bool {
+    fault_of(Version::parse(alloc, text)).is_some()
+}
+
+// Whether no version has this in place of a word, behind its release with a separator or none, with a number or none.
+fn is_no_word(alloc: Global, word: &str) -> Result<bool, Fail> {
+    for before in ["", "-", "_", "."] {
+        let bare = format!(in alloc; "1.0{before}{word}")?;
+        let numbered = format!(in alloc; "1.0{before}{word}1")?;
+        if !is_no_version(alloc, bare.as_str()) || !is_no_version(alloc, numbered.as_str()) {
+            return Ok(false);
+        }
+    }
+    Ok(true)
+}
+
+// Whether none of these stands for a word.
+fn are_no_words(alloc: Global, words: &str) -> Result<bool, Fail> {
+    for word in words.split(' ') {
+        if !is_no_word(alloc, word)? {
+            return Ok(false);
+        }
+    }
+    Ok(true)
+}
+
+#[test]
+fn near_misses_of_words_are_refused(rt: HostRuntime) -> Result<(), Fail> {
+    for (word, misses) in NEAR_MISSES {
+        assert!(rt; are_no_words(rt.alloc(), misses)?, "of {word}");
+    }
+    Ok(())
+}
+
+#[test]
+fn near_misses_of_versions_are_refused(rt: HostRuntime) {
+    for text in NO_VERSIONS {
+        assert!(rt; is_no_version(rt.alloc(), text), "{text:?}");
     }
 }
 

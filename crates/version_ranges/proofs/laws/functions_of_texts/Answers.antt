@@ -14,6 +14,9 @@ returns-clause-equal g c =
     let n = c.names_have_the_values_of_points.ensures.named string_bytes (λ x y. refl) p in
     sym (ap (λ v. g.V.PartialEq.eq v (value_by string_bytes (slice_cmp nat_cmp) h (point_map string_bytes p))) n.0 ∙ ap (g.V.PartialEq.eq _) n.1) ∙ e (point_map string_bytes p))
 
+pub returns-clause-pieces : goal.returns-clause-pieces
+returns-clause-pieces g c = λ e. c.same_values_make_same_pieces.ensures.pieces (returns-clause-equal g c e)
+
 pub returns-clause-value : goal.returns-clause-value
 returns-clause-value g c = λ q.
     let n = c.names_have_the_values_of_points.ensures.found string_bytes (λ x y. refl) q in

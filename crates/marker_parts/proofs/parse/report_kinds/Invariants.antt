@@ -1,6 +1,6 @@
 use Rattle.std.proofs.Common.{take}
 use Rattle.marker_warnings.specs.Kinds.{Adds}
-use Rattle.marker_parts.proofs.parse.report_all.Given as goal
+use Rattle.marker_parts.proofs.parse.report_kinds.Given as goal
 
 abbrev pub invariant-loop-kind : goal.invariant-loop-kind
 invariant-loop-kind g l = record {
