@@ -125,67 +125,70 @@ fn answers_what_was_read(rt: HostRuntime) -> Result<(), Fail> {
     Ok(())
 }
 
+// What is said to lines behind `LINES`.
+const REPLIES_TO_EACH: [(&str, &str); 27] = [
+    ("eval 0 dev", "true"),
+    ("eval 0", "false"),
+    ("eval 1", "error cell"),
+    ("eval 1 -", "error name"),
+    ("eval 0 -", "error name"),
+    ("noop", "error command"),
+    ("parse", "error command"),
+    (
+        "parse ",
+        "error marker 0 1 Expected marker value, found end of dependency specification",
+    ),
+    ("env foo x", "error key"),
+    ("env  x", "error key"),
+    ("env os.name x", "error key"),
+    ("env python_version 3", "ok"),
+    ("env python_full_version 3.8.1 ", "ok"),
+    ("env implementation_version 3.x", "error version"),
+    (
+        "parse implementation_version == '3.8.1'\neval 1\nenv implementation_version 3.8.1\neval 1",
+        "cell 1\nfalse\nok\ntrue",
+    ),
+    ("env python_version ", "error version"),
+    ("env python_version x", "error version"),
+    (
+        "parse 'wat' ~= os_name\nparse 'a' == 'b'\nequal 1 2",
+        "cell 1 LexicographicComparison\ncell 2 StringStringComparison\ntrue",
+    ),
+    (
+        "parse os.name == 'nt'\nparse os_name == 'nt'\nequal 1 2",
+        "cell 1 DeprecatedMarkerName\ncell 2\ntrue",
+    ),
+    (
+        "parse python_version < '18446744073709551616'",
+        "cell 1 Pep440Error",
+    ),
+    ("parse python_version > '3'", "cell 1"),
+    (
+        "env python_full_version 3.8.1\nparse python_version == '3.8'\neval 1",
+        "ok\ncell 1\ntrue",
+    ),
+    (
+        "parse python_version > '3.18446744073709551615'",
+        "error segment",
+    ),
+    (
+        "parse python_full_version > '3.18446744073709551615'",
+        "cell 1",
+    ),
+    ("parse python_version == 'x'", "cell 1 Pep440Error"),
+    (
+        "parse os.name ~= 'x'",
+        "cell 1 DeprecatedMarkerName LexicographicComparison",
+    ),
+    (
+        "parse extra < 'x' or 'a' == 'b' or os_name == sys_platform",
+        "cell 1 ExtraInvalidComparison StringStringComparison MarkerMarkerComparison",
+    ),
+];
+
 #[test]
 fn tells_each_reply(rt: HostRuntime) -> Result<(), Fail> {
-    for (line, reply) in [
-        ("eval 0 dev", "true"),
-        ("eval 0", "false"),
-        ("eval 1", "error cell"),
-        ("eval 1 -", "error name"),
-        ("eval 0 -", "error name"),
-        ("noop", "error command"),
-        ("parse", "error command"),
-        (
-            "parse ",
-            "error marker 0 1 Expected marker value, found end of dependency specification",
-        ),
-        ("env foo x", "error key"),
-        ("env  x", "error key"),
-        ("env os.name x", "error key"),
-        ("env python_version 3", "ok"),
-        ("env python_full_version 3.8.1 ", "ok"),
-        ("env implementation_version 3.x", "error version"),
-        (
-            "parse implementation_version == '3.8.1'\neval 1\nenv implementation_version 3.8.1\neval 1",
-            "cell 1\nfalse\nok\ntrue",
-        ),
-        ("env python_version ", "error version"),
-        ("env python_version x", "error version"),
-        (
-            "parse 'wat' ~= os_name\nparse 'a' == 'b'\nequal 1 2",
-            "cell 1 LexicographicComparison\ncell 2 StringStringComparison\ntrue",
-        ),
-        (
-            "parse os.name == 'nt'\nparse os_name == 'nt'\nequal 1 2",
-            "cell 1 DeprecatedMarkerName\ncell 2\ntrue",
-        ),
-        (
-            "parse python_version < '18446744073709551616'",
-            "cell 1 Pep440Error",
-        ),
-        ("parse python_version > '3'", "cell 1"),
-        (
-            "env python_full_version 3.8.1\nparse python_version == '3.8'\neval 1",
-            "ok\ncell 1\ntrue",
-        ),
-        (
-            "parse python_version > '3.18446744073709551615'",
-            "error segment",
-        ),
-        (
-            "parse python_full_version > '3.18446744073709551615'",
-            "cell 1",
-        ),
-        ("parse python_version == 'x'", "cell 1 Pep440Error"),
-        (
-            "parse os.name ~= 'x'",
-            "cell 1 DeprecatedMarkerName LexicographicComparison",
-        ),
-        (
-            "parse extra < 'x' or 'a' == 'b' or os_name == sys_platform",
-            "cell 1 ExtraInvalidComparison StringStringComparison MarkerMarkerComparison",
-        ),
-    ] {
+    for (line, reply) in REPLIES_TO_EACH {
         let input = format!(in rt.alloc(); "{LINES}{line}")?;
         let output = format!(in rt.alloc(); "{REPLIES}{reply}\n")?;
         let written = replies(rt.alloc(), input.as_bytes())?;
