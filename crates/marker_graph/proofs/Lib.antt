@@ -1,4 +1,6 @@
 pub mod AndLaws
+pub mod Assumptions
+pub mod BesideLaws
 pub mod Branches
 pub mod CountLaws
 pub mod Descents
@@ -6,6 +8,8 @@ pub mod Disjoints
 pub mod Firsts
 pub mod NeighborLaws
 pub mod PairLaws
+pub mod RangeLaws
 pub mod SubtreeLaws
 pub mod TreeLaws
+pub mod TrimLaws
 pub mod TruthLaws

@@ -3,8 +3,10 @@ use Rattle.std.proofs.Common.{◌≡◌, ℕ, zero, ◌+◌, ◌≤◌, ◌<◌,
 use Rattle.std.specs.Prelude.{map, slice_get, option_map, not, ◌&&◌, ◌||◌, Option, IsTrue, if◌then◌else◌}
 use Rattle.std.proofs.lemmas.List.{map_push, take_more, length-map}
 use Rattle.std.proofs.lemmas.Option.{slice_get-map}
+use Rattle.std.specs.declared.ops.Bound.{Bound}
 use Rattle.refusal.specs.declared.Refusal.{Refusal}
 use Rattle.refusal.specs.declared.Refusal.TheVariants.{SegmentAtEnd, Fault}
+use Rattle.pep440_version.specs.Parts.{Parts}
 use Rattle.marker_warnings.specs.declared.warning.MarkerWarningKind.{MarkerWarningKind}
 use Rattle.marker_environment.specs.Valuation.{Valuation}
 use Rattle.marker_graph.specs.declared.tree.MarkerTree.{MarkerTree}
@@ -12,13 +14,16 @@ use Rattle.marker_parts.specs.Expression.{Test, holds, IsAtEnd}
 use Rattle.marker_graph.specs.Contents.{Contents, IsHeld, IsKept, Separated, truth}
 use Rattle.marker_graph.specs.Expression.{IsInvalid}
 use Rattle.marker_graph.specs.Expression as graph
+use Rattle.marker_graph.specs.Python.{Assumes, require}
+use Rattle.marker_graph.specs.Extras.{grant, is_listed}
+use Rattle.marker_graph.specs.Possible.{IsPossible, IsImpossible}
 use Rattle.pep508_markers.specs.Formula.{Formula}
 use Rattle.pep508_markers.specs.Formula as formulas
 use Rattle.pep508_markers.specs.Grammar.{Reads}
 use Rattle.marker_session.specs.SomeTest.{Says, IsUnmade}
 use Rattle.marker_session.specs.declared.session.Command.{Command}
 use Rattle.marker_session.specs.declared.session.Reply.{Reply}
-use Rattle.marker_session.specs.Machine.{Truth, Cells, Request, Answer, Holds, Makes, Tells, TellsEqual, TellsDisjoint, named, IsMissing, MakesCell, Step, Run, parse, expression, negation, conjunction, disjunction, equal, disjoint, evaluate}
+use Rattle.marker_session.specs.Machine.{Truth, Cells, Request, Answer, Holds, Makes, Tells, TellsEqual, TellsDisjoint, named, IsMissing, MakesCell, Step, Run, TellsPossible, parse, expression, negation, conjunction, disjunction, simplify_python, complexify_python, simplify_extras, equal, disjoint, evaluate, evaluate_extras}
 use Rattle.marker_session.specs.Cells.{AreHeld, truths_of}
 use Rattle.marker_session.specs.Session.{request_of, answer_of}
 use Rattle.marker_session.proofs.TreeLaws.{held_kept, truth_kept}
@@ -82,9 +87,13 @@ makes_cell cells (expression e) f kinds m = (_, λ h. h)
 makes_cell cells (negation a) f kinds m = (_, one_there cells a m.0 m.1)
 makes_cell cells (conjunction a b) f kinds m = (_, two_there cells a b m.0 m.1 m.2 m.3)
 makes_cell cells (disjunction a b) f kinds m = (_, two_there cells a b m.0 m.1 m.2 m.3)
+makes_cell cells (simplify_python a lower upper) f kinds m = (_, one_there cells a m.0 m.1)
+makes_cell cells (complexify_python a lower upper) f kinds m = (_, one_there cells a m.0 m.1)
+makes_cell cells (simplify_extras a extras) f kinds m = (_, one_there cells a m.0 m.1)
 makes_cell cells (equal a b) f kinds m = absurd m
 makes_cell cells (disjoint a b) f kinds m = absurd m
 makes_cell cells (evaluate a values extras) f kinds m = absurd m
+makes_cell cells (evaluate_extras a extras) f kinds m = absurd m
 
 pub may_want_one : (c : Contents) (trees : List MarkerTree) (a : ℕ) (t : MarkerTree) → slice_get trees a ≡ Some t → ¬ IsMissing (truths_of c trees) (a ∷ [])
 may_want_one c trees a t found = one_there _ a (truth c t) (cell_holds c trees a t found)
@@ -119,6 +128,15 @@ module _ (c : Contents) (trees : List MarkerTree) (kinds : List MarkerWarningKin
   pub makes_negation : (u : MarkerTree) → ((v : Valuation) → truth c u v ≡ not (truth c t v)) → Makes (truths_of c trees) (negation a) (truth c u) kinds
   makes_negation u means = (truth c t, cell_holds c trees a t found, (λ i v. means v i), none)
 
+  pub makes_assumed : (lower upper : Bound Parts) (u : MarkerTree) → Assumes lower upper (truth c t) (truth c u) → Makes (truths_of c trees) (simplify_python a lower upper) (truth c u) kinds
+  makes_assumed lower upper u means = (truth c t, cell_holds c trees a t found, means, none)
+
+  pub makes_required : (lower upper : Bound Parts) (u : MarkerTree) → ((v : Valuation) → truth c u v ≡ require lower upper (truth c t) v) → Makes (truths_of c trees) (complexify_python a lower upper) (truth c u) kinds
+  makes_required lower upper u means = (truth c t, cell_holds c trees a t found, (λ i v. means v i), none)
+
+  pub makes_granted : (extras : List (List ℕ)) (u : MarkerTree) → ((v : Valuation) → truth c u v ≡ grant (is_listed extras) (truth c t) v) → Makes (truths_of c trees) (simplify_extras a extras) (truth c u) kinds
+  makes_granted extras u means = (truth c t, cell_holds c trees a t found, (λ i v. means v i), none)
+
   module _ (b : ℕ) (u : MarkerTree) (other : slice_get trees b ≡ Some u) where
     pub makes_and : (w : MarkerTree) → ((v : Valuation) → truth c w v ≡ (truth c t v && truth c u v)) → Makes (truths_of c trees) (conjunction a b) (truth c w) kinds
     makes_and w means = (truth c t, truth c u, cell_holds c trees a t found, cell_holds c trees b u other, (λ i v. means v i), none)
@@ -144,6 +162,15 @@ module _ (c : Contents) (trees : List MarkerTree) (a b : ℕ) (t u : MarkerTree)
 
   pub tells_disjoint : (answer : Bool) → (answer ≡ true → (v : Valuation) → (truth c t v && truth c u v) ≡ false) → (answer ≡ false → IsShared) → Tells (truths_of c trees) (disjoint a b) answer
   tells_disjoint answer apart shared = (truth c t, truth c u, cell_holds c trees a t found, cell_holds c trees b u other, disjoints answer apart shared)
+
+-- whether a cell is true in some valuation with these extras
+module _ (c : Contents) (trees : List MarkerTree) (a : ℕ) (t : MarkerTree) (found : slice_get trees a ≡ Some t) (extras : List (List ℕ)) where
+  possibles : (answer : Bool) → (answer ≡ true → IsPossible extras (truth c t)) → (answer ≡ false → IsImpossible extras (truth c t)) → TellsPossible extras (truth c t) answer
+  possibles true yes no = yes refl
+  possibles false yes no = no refl
+
+  pub tells_possible : (answer : Bool) → (answer ≡ true → IsPossible extras (truth c t)) → (answer ≡ false → IsImpossible extras (truth c t)) → Tells (truths_of c trees) (evaluate_extras a extras) answer
+  tells_possible answer yes no = (truth c t, cell_holds c trees a t found, possibles answer yes no)
 
 -- a run goes on by one step
 run_more : (old mid new : Cells) (rs : List Request) (as_ : List Answer) (r : Request) (a : Answer) → Run old rs as_ mid → Step mid r a new → Run old (rs ++ (r ∷ [])) (as_ ++ (a ∷ [])) new
