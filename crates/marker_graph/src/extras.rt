@@ -60,7 +60,7 @@ impl MarkerTree {
         ensures means { IfOk result (λ t. (granted : List ℕ → Bool) → AnswersBy (FnReturnsAt F.Fn is_extra) granted
             → (v : Valuation) → truth interner.new t v ≡ grant granted (truth interner.new self) v) }
     {
-        let mut known = HashMap::new(interner.alloc());
+        let mut known = HashMap::new(interner.allocator());
         let id = interner.granted(&mut known, &is_extra, self.id)?;
         Ok(MarkerTree { id })
     }
@@ -152,7 +152,7 @@ impl Interner {
         ensures granted { IfOk result (IsGranted self.new.nodes (FnReturnsAt F.Fn is_extra.now) id) }
         ensures known { AreKnown self.new.nodes (FnReturnsAt F.Fn is_extra.now) known.new.entries }
     {
-        let children = piece_values(self.alloc(), &edges)?;
+        let children = piece_values(self.allocator(), &edges)?;
         let children = self.granted_all(known, is_extra, id, &children)?;
         self.place_versions(variable, edges, children)
     }
@@ -176,7 +176,7 @@ impl Interner {
         ensures granted { IfOk result (IsGranted self.new.nodes (FnReturnsAt F.Fn is_extra.now) id) }
         ensures known { AreKnown self.new.nodes (FnReturnsAt F.Fn is_extra.now) known.new.entries }
     {
-        let children = piece_values(self.alloc(), &edges)?;
+        let children = piece_values(self.allocator(), &edges)?;
         let children = self.granted_all(known, is_extra, id, &children)?;
         self.place_texts(variable, edges, children)
     }
@@ -223,7 +223,7 @@ impl Interner {
         ensures granted { IfOk result (λ r. AreGranted self.new.nodes (FnReturnsAt F.Fn is_extra.now) ids.now r.items) }
         ensures known { AreKnown self.new.nodes (FnReturnsAt F.Fn is_extra.now) known.new.entries }
     {
-        let mut made = Vec::with_capacity(self.alloc(), ids.len())?;
+        let mut made = Vec::with_capacity(self.allocator(), ids.len())?;
         for i in 0..ids.len() {
             let id = self.granted(known, is_extra, ids[i])?;
             made.push(id)?;

@@ -138,7 +138,7 @@ impl Interner {
     {
         let lower = trimmed_bound(lower)?;
         let upper = trimmed_bound(upper)?;
-        let range = Ranges::from_range_bounds(self.alloc(), (lower, upper))?;
+        let range = Ranges::from_range_bounds(self.allocator(), (lower, upper))?;
         self.asks_version(VersionVariable::PythonFullVersion, &range)
     }
 
@@ -160,7 +160,7 @@ impl Interner {
             return self.assumed_at_python(id, lower, upper);
         };
         let edges = edges.clone()?;
-        let children = piece_values(self.alloc(), &edges)?;
+        let children = piece_values(self.allocator(), &edges)?;
         let children = self.assumed_all(&children, lower, upper)?;
         let placed = self.place_versions(variable, edges, children)?;
         Ok(placed.negate(id))
@@ -184,7 +184,7 @@ impl Interner {
         let Some(edges) = self.edges_at(variable, id) else {
             return Ok(id);
         };
-        let edges = edges.clamped(self.alloc(), lower, upper)?;
+        let edges = edges.clamped(self.allocator(), lower, upper)?;
         let placed = self.place(Node::Version(variable, edges))?;
         Ok(placed.negate(id))
     }
@@ -202,8 +202,8 @@ impl Interner {
         ensures count { IfOk result (λ r. vec_len r ≡ length children.now) }
         ensures assumed { IfOk result (λ r. AreAssumed self.new.nodes (bound_of lower.entry) (bound_of upper.entry) children.now r.items) }
     {
-        let mut known = HashMap::new(self.alloc());
-        let mut made = Vec::with_capacity(self.alloc(), children.len())?;
+        let mut known = HashMap::new(self.allocator());
+        let mut made = Vec::with_capacity(self.allocator(), children.len())?;
         for child in children {
             let id = self.assumed_once(&mut known, *child, lower, upper)?;
             made.push(id)?;

@@ -52,7 +52,7 @@ impl MarkerTree {
         ensures answer { IfOk result (λ r. r.0 ≡ truth interner.now self.now (valuation_of (values_of environment.now) extras.now)) }
         ensures warnings { IfOk result (λ r. All (λ warning. warning.0 ≡ LexicographicComparison) r.1.items) }
     {
-        let mut warnings = Vec::new(interner.alloc());
+        let mut warnings = Vec::new(interner.allocator());
         let answer = self.evaluate_reporter(interner, environment, extras, &mut warnings)?;
         Ok((answer, warnings))
     }
@@ -76,7 +76,7 @@ impl Interner {
         let mut at = id;
         while let Some(node) = self.table().node(at) {
             if let Node::Text(variable, edges) = node {
-                report_order(self.alloc(), environment.text(*variable), edges, reporter)?;
+                report_order(self.allocator(), environment.text(*variable), edges, reporter)?;
             }
             at = child_in(node, environment, extras).negate(at);
         }

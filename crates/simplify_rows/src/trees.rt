@@ -23,7 +23,7 @@ pub fn tree(alloc: Global, interner: &mut Interner, text: &str) -> Result<Marker
     let Ok(reading) = read(alloc, text) else {
         return Err("not read".into());
     };
-    let tree = tree_of(alloc, interner, reading.formula).map_err(failure)?;
+    let tree = tree_of(interner, reading.formula).map_err(failure)?;
     held(interner, tree)
 }
 
