@@ -10,6 +10,8 @@ mod equalities;
 #[cfg(test)]
 mod negations;
 #[cfg(test)]
+mod places;
+#[cfg(test)]
 mod plain;
 #[cfg(test)]
 mod sessions;

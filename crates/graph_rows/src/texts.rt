@@ -27,7 +27,7 @@ const NO_VERSION: MarkerWarningKind = MarkerWarningKind::Pep440Error;
 const TWO_TEXTS: MarkerWarningKind = MarkerWarningKind::StringStringComparison;
 
 // A text, one that has the same tree, and the kinds of the first one's warnings.
-const READ: [(&str, &str, &[MarkerWarningKind]); 34] = [
+const READ: [(&str, &str, &[MarkerWarningKind]); 35] = [
     ("os_name == 'a'", "'a' == os_name", &[]),
     (
         "implementation_name > 'a'",
@@ -56,6 +56,11 @@ const READ: [(&str, &str, &[MarkerWarningKind]); 34] = [
     (
         "python_version >= '3.8'",
         "python_full_version >= '3.8'",
+        &[],
+    ),
+    (
+        "python_full_version ~= '3.18446744073709551615'",
+        "python_full_version >= '3.18446744073709551615' and python_full_version < '4'",
         &[],
     ),
     (
@@ -392,6 +397,31 @@ fn texts_that_are_read(rt: HostRuntime) -> Result<(), Fail> {
         let expected = tree(rt.alloc(), &mut interner, same)?;
         let found = read_twice(rt.alloc(), &mut interner, text)?;
         assert!(rt; found.are_tree(expected, kinds), "{text}");
+    }
+    Ok(())
+}
+
+// A text that is no marker, and the underline of its fault.
+const UNDERLINED: [(&str, &str); 2] = [
+    ("python_version == \"3.8\".*", "                       ^"),
+    ("os_name == 'a' é b", "               ^^"),
+];
+
+// The lines of a text's fault.
+fn lines_of_fault(alloc: Global, interner: &mut Interner, text: &str) -> Result<String, Fail> {
+    match MarkerTree::parse_str::<Url>(text, interner) {
+        Err(Refusal::Fault(error)) => Ok(error.to_string(alloc)?),
+        _ => Err("no fault".into()),
+    }
+}
+
+#[test]
+fn faults_are_underlined(rt: HostRuntime) -> Result<(), Fail> {
+    let mut interner = Interner::new(rt.alloc());
+    for (text, underline) in UNDERLINED {
+        let lines = lines_of_fault(rt.alloc(), &mut interner, text)?;
+        let last = format!(in rt.alloc(); "end of input\n{text}\n{underline}")?;
+        assert!(rt; lines.as_str().ends_with(last.as_str()), "{text}");
     }
     Ok(())
 }

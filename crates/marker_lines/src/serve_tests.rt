@@ -126,10 +126,15 @@ fn answers_what_was_read(rt: HostRuntime) -> Result<(), Fail> {
 }
 
 // What is said to lines behind `LINES`.
-const REPLIES_TO_EACH: [(&str, &str); 27] = [
+const REPLIES_TO_EACH: [(&str, &str); 29] = [
     ("eval 0 dev", "true"),
     ("eval 0", "false"),
     ("eval 1", "error cell"),
+    ("eval 99999999999999999999", "error cell"),
+    (
+        "parse sys_platform == '' and python_full_version == '0'\neval 1",
+        "cell 1\ntrue",
+    ),
     ("eval 1 -", "error name"),
     ("eval 0 -", "error name"),
     ("noop", "error command"),
@@ -506,6 +511,10 @@ fn texts_cut_after_each_character(rt: HostRuntime) -> Result<(), Fail> {
     for (text, _) in LARGEST {
         assert!(rt; cut_texts_are_told(rt.alloc(), text)?, "{text}");
     }
+    let before = "(".repeat(rt.alloc(), 201)?;
+    let behind = ")".repeat(rt.alloc(), 201)?;
+    let deep = format!(in rt.alloc(); "{before}os_name == 'a'{behind}")?;
+    assert!(rt; cut_texts_are_told(rt.alloc(), &deep)?);
     Ok(())
 }
 

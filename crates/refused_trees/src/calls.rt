@@ -31,12 +31,14 @@ enum TreeCall {
     Asks(&'static str),
     /// `TRUE`, where the text is refused for the largest number of a version.
     AtEnd(&'static str),
+    /// `TRUE`, where the text is refused for a parenthesis that stays open.
+    Faulty(&'static str),
     /// `TRUE`, where the text's formula is true without a tree.
     Cell(&'static str),
 }
 
 // Each call, and another text with the same tree.
-const CALLS: [(TreeCall, &str); 13] = [
+const CALLS: [(TreeCall, &str); 14] = [
     (
         TreeCall::Expression("'posix' > platform_version"),
         "platform_version < 'posix'",
@@ -83,10 +85,17 @@ const CALLS: [(TreeCall, &str); 13] = [
         "'a' == 'b'",
     ),
     (
+        TreeCall::Faulty("'a' == 'b' or os_name == 'é' and (os_name == 'a'"),
+        "'a' == 'b'",
+    ),
+    (
         TreeCall::Cell("python_version >= '3.9' and os_name == 'posix'"),
         "'a' == 'b'",
     ),
 ];
+
+// Where the parenthesis that stays open stands in the faulty text.
+const OPEN: usize = 34;
 
 // The tree of a comparison.
 fn expression(
@@ -146,6 +155,26 @@ fn at_end(interner: &mut Interner, text: &str) -> Result<Option<MarkerTree>, All
     match MarkerTree::parse_str::<Url>(text, interner) {
         Err(Refusal::OutOfMemory) => Err(AllocError),
         Err(Refusal::SegmentAtEnd) => Ok(Some(MarkerTree::TRUE)),
+        _ => Ok(None),
+    }
+}
+
+// `TRUE`, where the text is refused for a parenthesis that stays open, and nothing is reported.
+fn faulty(
+    alloc: Global,
+    interner: &mut Interner,
+    text: &str,
+) -> Result<Option<MarkerTree>, AllocError> {
+    let mut warnings: Vec<(MarkerWarningKind, String)> = Vec::new(alloc);
+    let tree = MarkerTree::parse_reporter::<Url, _>(text, &mut warnings, interner);
+    let Err(refusal) = tree else {
+        return Ok(None);
+    };
+    match refusal {
+        Refusal::OutOfMemory => Err(AllocError),
+        Refusal::Fault(error) if error.start == OPEN && warnings.is_empty() => {
+            Ok(Some(MarkerTree::TRUE))
+        }
         _ => Ok(None),
     }
 }
@@ -225,6 +254,7 @@ impl Forest {
             TreeCall::Nested(text) => nested(alloc, &mut self.interner, text),
             TreeCall::Asks(name) => extra(alloc, &mut self.interner, name),
             TreeCall::AtEnd(text) => at_end(&mut self.interner, text),
+            TreeCall::Faulty(text) => faulty(alloc, &mut self.interner, text),
             TreeCall::Cell(text) => self.evaluated(alloc, text),
         }
     }

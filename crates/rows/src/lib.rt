@@ -10,6 +10,8 @@ mod connectives;
 #[cfg(test)]
 mod faults;
 #[cfg(test)]
+mod grammar;
+#[cfg(test)]
 mod keys;
 #[cfg(test)]
 mod operators;

@@ -112,9 +112,10 @@ const ORDERED: [&str; 27] = [
 
 // PEP 440, "Final releases", "Examples of compliant version schemes" and "Version epochs": the versions of a scheme, in
 // ascending order. The last two lines have post releases written in two ways, and local parts.
-const SCHEMES: [&str; 10] = [
+const SCHEMES: [&str; 11] = [
     "0.9 0.9.1 0.9.2 0.9.10 0.9.11 1.0 1.0.1 1.1 2.0 2.0.1",
     "0.1 0.2 0.3 1.0 1.1",
+    "1.0.dev1 1.0a1 1.0 1.0.post1",
     "1.1.0 1.1.1 1.1.2 1.2.0",
     "0.9 1.0a1 1.0a2 1.0b1 1.0rc1 1.0 1.1a1",
     "0.9 1.0.dev1 1.0.dev2 1.0.dev3 1.0.dev4 1.0c1 1.0c2 1.0 1.0.post1 1.1.dev1",
