@@ -1,5 +1,5 @@
 -- Ids where the Python version is taken to lie in a range.
-use Rattle.std.proofs.Common.{◌≡◌, ℕ, ◌<◌, ◌≤◌, Bool, true, false, cond, List, [], ◌∷◌, ◌++◌, length, Some, refl, sym, ap, ◌∙◌, subst, arith}
+use Rattle.std.proofs.Common.{◌≡◌, ℕ, ◌<◌, ◌≤◌, Bool, true, false, cond, List, [], ◌∷◌, ◌++◌, length, get_or, Some, refl, sym, ap, ◌∙◌, subst, arith}
 use Rattle.std.specs.Map.{lookup}
 use lib.Dec.{eqb}
 use Rattle.std.specs.Prelude.{slice_get}
@@ -23,7 +23,7 @@ use Rattle.marker_diagrams.specs.Id.{place_of, is_negated, signed, signed_id, sa
 use Rattle.marker_diagrams.proofs.IdLaws.{same_id_is}
 use Rattle.marker_diagrams.specs.Diagram.{node_of, IsHeld, IsStore, Keeps, IsAfter, IsChoice, AreChildren, truth, with_variable}
 use Rattle.marker_diagrams.proofs.KeyLaws.{get_last}
-use Rattle.marker_diagrams.proofs.NodeLaws.{same_some, truth_child, truth_signed, truth_still, after_still, after_before}
+use Rattle.marker_diagrams.proofs.NodeLaws.{same_some, none_some, truth_child, truth_signed, truth_still, after_still, after_before}
 use Rattle.marker_diagrams.proofs.Canonicity.{unseen}
 use Rattle.marker_nodes.specs.declared.variable.TruthVariable.TheVariants.{In, Contains, Extra, Arbitrary}
 use Rattle.marker_nodes.specs.declared.node.Node.{Node}
@@ -190,6 +190,12 @@ children_later nodes store t held edges copy stands same children given e found 
 
 -- ---- one id after another
 module _ (lower upper : Bound Parts) where
+  pub found_none : (nodes : List Node) (found : List (NodeId × NodeId)) → found ≡ [] → AreFound nodes lower upper found
+  found_none nodes found none a t e = none_some t (sym (ap (lookup (same_id a)) none) ∙ e)
+
+  pub assumed_none : (nodes : List Node) (ids made : List NodeId) → made ≡ [] → AreAssumed nodes lower upper ids made
+  assumed_none nodes ids made none i a t e h = none_some t (sym (ap (λ l. slice_get l i) none) ∙ h)
+
   pub found_kept : (old new : List Node) (found : List (NodeId × NodeId)) → Keeps markers old new → AreFound old lower upper found → AreFound new lower upper found
   found_kept old new found k w a t e = let h = w a t e in (held_kept old new a k h.0, assumed_kept old new lower upper a t k h.0 h.1)
 
@@ -211,3 +217,18 @@ module _ (lower upper : Bound Parts) where
           let same : a ≡ b = same_some a b (sym at_j ∙ ap (slice_get ids) (sym (eqb-true k (length made) u ∙ len)) ∙ e) in
           subst (IsAssumed new lower upper b) (same_some t s w) (subst (λ x. IsAssumed new lower upper x t) same last)
       by_test false u w = assumed_kept old new lower upper b s keeps (held k b e) (done k b s e w)
+
+-- ---- the children of an id one after another
+module _ (first now : List Node) (lower upper : Bound Parts) (ids : List NodeId) (later : AreLater first (of_version ImplementationVersion) ids) (k : Keeps markers first now) (i : ℕ) (within : i < length ids) (d : NodeId) where
+  next_later : IsHeld first (get_or ids i d) × IsAfter markers first (of_version ImplementationVersion) (get_or ids i d)
+  next_later = later i (get_or ids i d) (slice_get-get_or ids i d within)
+
+  pub next_held : IsHeld now (get_or ids i d)
+  next_held = held_kept first now (get_or ids i d) k next_later.0
+
+  pub next_after : IsAfter markers now (of_version ImplementationVersion) (get_or ids i d)
+  next_after = after_still markers first now (of_version ImplementationVersion) (get_or ids i d) k next_later.0 next_later.1
+
+  pub next_assumed : (new : List Node) (t : NodeId) (made more : List NodeId) → Keeps markers now new → length made ≡ i → AreAssumed now lower upper ids made → IsAssumed new lower upper (get_or ids i d) t → more ≡ made ++ t ∷ [] → AreAssumed new lower upper ids more
+  next_assumed new t made more keeps len done last more_is =
+      assumed_more lower upper now new ids i (get_or ids i d) t made more keeps (λ n b e. held_kept first now b k ((later n b e).0)) len (slice_get-get_or ids i d within) done last more_is

@@ -18,7 +18,7 @@ use Rattle.marker_environment.specs.Valuation.{Valuation}
 use Rattle.marker_diagrams.specs.declared.node_id.NodeId.{NodeId}
 use Rattle.marker_diagrams.specs.Id.{signed, same_id}
 use Rattle.marker_diagrams.proofs.IdLaws.{same_id_is}
-use Rattle.marker_graph.specs.Python.{Assumes, IsEmpty, IsPoint, is_python_in, python_of, with_python}
+use Rattle.marker_graph.specs.Python.{Assumes, IsEmpty, IsPoint, is_python_in, python_of, require, with_python}
 
 -- without bounds each truth is what it is
 unbounded_by : (f : Valuation → Bool) → Assumes Unbounded Unbounded f f
@@ -31,6 +31,17 @@ unbounded_by f = record {
 
 pub assumes_unbounded : (lower upper : Bound Parts) → lower ≡ Unbounded → upper ≡ Unbounded → (f : Valuation → Bool) → Assumes lower upper f f
 assumes_unbounded lower upper e h f = subst (λ l. Assumes l upper f f) (sym e) (subst (λ u. Assumes Unbounded u f f) (sym h) (unbounded_by f))
+
+-- and each version lies in them
+in_unbounded : (lower upper : Bound Parts) → lower ≡ Unbounded → upper ≡ Unbounded → (v : Valuation) → is_python_in lower upper v ≡ true
+in_unbounded lower upper e h v = ap (λ l. is_in_bounds version_cmp l upper (python_of v)) e ∙ ap (λ u. is_in_bounds version_cmp Unbounded u (python_of v)) h ∙ and_from _ _ (bottom_from version_cmp (python_of v)) refl
+
+and_true : (b : Bool) → (b && true) ≡ b
+and_true true = refl
+and_true false = refl
+
+pub required_unbounded : (lower upper : Bound Parts) → lower ≡ Unbounded → upper ≡ Unbounded → (f : Valuation → Bool) (v : Valuation) → f v ≡ require lower upper f v
+required_unbounded lower upper e h f v = sym (ap (λ b. f v && b) (in_unbounded lower upper e h v) ∙ and_true (f v))
 
 module _ (lower upper : Bound Parts) where
   -- the same of truths that are the same
