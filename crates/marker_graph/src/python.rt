@@ -16,7 +16,7 @@ ghost use Rattle.marker_nodes.specs.Node.{markers, variable as asked_by};
 ghost use Rattle.marker_nodes.specs.Variable.{of_version, variable_cmp};
 ghost use Rattle.marker_graph.specs.Contents.{IsHeld, IsKept, truth};
 ghost use Rattle.marker_graph.specs.Expression.{IsTruthOf};
-ghost use Rattle.marker_graph.specs.Python.{Assumes, IsPoint, bound_of, is_python_in, require};
+ghost use Rattle.marker_graph.specs.Python.{Assumes, IsPoint, bound_of, is_python_in, is_whole, require};
 ghost use Rattle.marker_graph.specs.Simplified.{AreAssumed, AreFound, AreLater, IsAssumed};
 
 use crate::interner::Interner;
@@ -86,9 +86,7 @@ impl MarkerTree {
 
 // Whether a range leaves nothing out.
 fn is_unbounded(lower: Bound<&Version>, upper: Bound<&Version>) -> bool
-    ensures below { result ≡ true → bound_of lower.entry ≡ Unbounded }
-    ensures above { result ≡ true → bound_of upper.entry ≡ Unbounded }
-    ensures no { result ≡ false → bound_of lower.entry ≡ Unbounded → bound_of upper.entry ≡ Unbounded → ⊥ }
+    ensures { result ≡ is_whole (bound_of lower.entry) (bound_of upper.entry) }
 {
     match (lower, upper) {
         (Bound::Unbounded, Bound::Unbounded) => true,
