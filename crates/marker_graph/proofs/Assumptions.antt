@@ -2,6 +2,7 @@
 use Rattle.std.proofs.Common.{◌≡◌, ℕ, ◌<◌, ◌≤◌, Bool, true, false, cond, List, [], ◌∷◌, ◌++◌, length, get_or, Some, refl, sym, ap, ◌∙◌, subst, arith}
 use Rattle.std.specs.Map.{lookup}
 use lib.Dec.{eqb}
+use denote.Enum.Bare.{sameb, same_true}
 use Rattle.std.specs.Prelude.{slice_get}
 use Rattle.std.specs.Ordering.{is_eq}
 use Rattle.std.specs.declared.cmp.Ordering.TheVariants.{Less, Equal}
@@ -14,6 +15,7 @@ use Rattle.version_ranges.specs.Cuts.{value_of, piece_of}
 use Rattle.version_ranges.specs.Clamp.{IsClamped}
 use Rattle.pep440_version.specs.Parts.{Parts}
 use Rattle.pep440_version.specs.Order.{version_cmp}
+use Rattle.marker_words.specs.contracts.key.VersionVariable.{the_type as version_type}
 use Rattle.marker_words.specs.declared.key.VersionVariable.{VersionVariable}
 use Rattle.marker_words.specs.declared.key.VersionVariable.TheVariants.{ImplementationVersion, PythonFullVersion}
 use Rattle.marker_environment.specs.Valuation.{Valuation}
@@ -70,6 +72,22 @@ later_first (Truth (In x s) high low) g = refl
 later_first (Truth (Contains x s) high low) g = refl
 later_first (Truth (Extra s) high low) g = refl
 later_first (Truth (Arbitrary s) high low) g = refl
+
+-- ---- the node of an id, beside a version variable
+pub version_other : (x y : VersionVariable) → sameb version_type y x ≡ false → is_eq (variable_cmp (of_version x) (of_version y)) ≡ false
+version_other ImplementationVersion ImplementationVersion h = absurd (true≢false h)
+version_other ImplementationVersion PythonFullVersion h = refl
+version_other PythonFullVersion ImplementationVersion h = refl
+version_other PythonFullVersion PythonFullVersion h = absurd (true≢false h)
+
+module _ (nodes : List Node) (t : NodeId) (x : VersionVariable) where
+  -- it asks about the variable
+  pub version_node : {g1 : _} {h1 : _} {i1 : _} (asked : VersionVariable) (edges : Cuts Parts NodeId g1 h1 i1) (n : Node) → Some n ≡ node_of nodes t → n ≡ Version asked edges → sameb version_type asked x ≡ true → node_of nodes t ≡ Some (Version x edges)
+  version_node asked edges n e f h = sym e ∙ ap Some (f ∙ ap (λ y. Version y edges) (same_true version_type tt asked x h))
+
+  -- or about another one
+  pub other_node : (n : Node) → Some n ≡ node_of nodes t → is_eq (variable_cmp (of_version x) (variable n)) ≡ false → (m : Node) → node_of nodes t ≡ Some m → is_eq (variable_cmp (of_version x) (variable m)) ≡ false
+  other_node n e h m f = ap (λ k. is_eq (variable_cmp (of_version x) (variable k))) (same_some m n (sym f ∙ sym e)) ∙ h
 
 -- what is so stays so
 pub assumed_kept : (old new : List Node) (lower upper : Bound Parts) (a t : NodeId) → Keeps markers old new → IsHeld old a → IsAssumed old lower upper a t → IsAssumed new lower upper a t
