@@ -76,12 +76,7 @@ impl Interner {
         let mut at = id;
         while let Some(node) = self.table().node(at) {
             if let Node::Text(variable, edges) = node {
-                report_order(
-                    self.allocator(),
-                    environment.text(*variable),
-                    edges,
-                    reporter,
-                )?;
+                report_order(self.allocator(), environment.text(*variable), edges, reporter)?;
             }
             at = child_in(node, environment, extras).negate(at);
         }
