@@ -29,3 +29,6 @@ loop-child-preserved c = record {
   done = next_assumed c.args.self.now.nodes c.loop-child.self.nodes (bound_of c.args.lower) (bound_of c.args.upper) c.args.children.now c.requires.children c.loop-child.invariant.kept c.loop-child.child-index c.loop-child-test.true _
       c.assumed_once.new.self.nodes c.in_ok-id.id c.loop-child.made.items _ c.in_ok-id.ensures.kept (sym c.loop-child.made.ok.0 ∙ c.loop-child.invariant.len) c.loop-child.invariant.done c.in_ok-id.ensures.assumed c.in_ok-push.ensures.items;
 }
+
+pub returns-clause-assumed : goal.returns-clause-assumed
+returns-clause-assumed c = c.loop-child.invariant.done
