@@ -1,7 +1,8 @@
 -- Ids where the Python version is taken to lie in a range.
-use Rattle.std.proofs.Common.{◌≡◌, ℕ, ◌<◌, ◌≤◌, Bool, true, false, cond, List, [], ◌∷◌, ◌++◌, length, Some, refl, sym, ap, ◌∙◌, subst, arith}
+use Rattle.std.proofs.Common.{◌≡◌, ℕ, ◌<◌, ◌≤◌, Bool, true, false, cond, List, [], ◌∷◌, ◌++◌, length, get_or, Some, refl, sym, ap, ◌∙◌, subst, arith}
 use Rattle.std.specs.Map.{lookup}
 use lib.Dec.{eqb}
+use denote.Enum.Bare.{sameb, same_true}
 use Rattle.std.specs.Prelude.{slice_get}
 use Rattle.std.specs.Ordering.{is_eq}
 use Rattle.std.specs.declared.cmp.Ordering.TheVariants.{Less, Equal}
@@ -14,6 +15,7 @@ use Rattle.version_ranges.specs.Cuts.{value_of, piece_of}
 use Rattle.version_ranges.specs.Clamp.{IsClamped}
 use Rattle.pep440_version.specs.Parts.{Parts}
 use Rattle.pep440_version.specs.Order.{version_cmp}
+use Rattle.marker_words.specs.contracts.key.VersionVariable.{the_type as version_type}
 use Rattle.marker_words.specs.declared.key.VersionVariable.{VersionVariable}
 use Rattle.marker_words.specs.declared.key.VersionVariable.TheVariants.{ImplementationVersion, PythonFullVersion}
 use Rattle.marker_environment.specs.Valuation.{Valuation}
@@ -23,7 +25,7 @@ use Rattle.marker_diagrams.specs.Id.{place_of, is_negated, signed, signed_id, sa
 use Rattle.marker_diagrams.proofs.IdLaws.{same_id_is}
 use Rattle.marker_diagrams.specs.Diagram.{node_of, IsHeld, IsStore, Keeps, IsAfter, IsChoice, AreChildren, truth, with_variable}
 use Rattle.marker_diagrams.proofs.KeyLaws.{get_last}
-use Rattle.marker_diagrams.proofs.NodeLaws.{same_some, truth_child, truth_signed, truth_still, after_still, after_before}
+use Rattle.marker_diagrams.proofs.NodeLaws.{same_some, none_some, truth_child, truth_signed, truth_still, after_still, after_before}
 use Rattle.marker_diagrams.proofs.Canonicity.{unseen}
 use Rattle.marker_nodes.specs.declared.variable.TruthVariable.TheVariants.{In, Contains, Extra, Arbitrary}
 use Rattle.marker_nodes.specs.declared.node.Node.{Node}
@@ -70,6 +72,22 @@ later_first (Truth (In x s) high low) g = refl
 later_first (Truth (Contains x s) high low) g = refl
 later_first (Truth (Extra s) high low) g = refl
 later_first (Truth (Arbitrary s) high low) g = refl
+
+-- ---- the node of an id, beside a version variable
+pub version_other : (x y : VersionVariable) → sameb version_type y x ≡ false → is_eq (variable_cmp (of_version x) (of_version y)) ≡ false
+version_other ImplementationVersion ImplementationVersion h = absurd (true≢false h)
+version_other ImplementationVersion PythonFullVersion h = refl
+version_other PythonFullVersion ImplementationVersion h = refl
+version_other PythonFullVersion PythonFullVersion h = absurd (true≢false h)
+
+module _ (nodes : List Node) (t : NodeId) (x : VersionVariable) where
+  -- it asks about the variable
+  pub version_node : {g1 : _} {h1 : _} {i1 : _} (asked : VersionVariable) (edges : Cuts Parts NodeId g1 h1 i1) (n : Node) → Some n ≡ node_of nodes t → n ≡ Version asked edges → sameb version_type asked x ≡ true → node_of nodes t ≡ Some (Version x edges)
+  version_node asked edges n e f h = sym e ∙ ap Some (f ∙ ap (λ y. Version y edges) (same_true version_type tt asked x h))
+
+  -- or about another one
+  pub other_node : (n : Node) → Some n ≡ node_of nodes t → is_eq (variable_cmp (of_version x) (variable n)) ≡ false → (m : Node) → node_of nodes t ≡ Some m → is_eq (variable_cmp (of_version x) (variable m)) ≡ false
+  other_node n e h m f = ap (λ k. is_eq (variable_cmp (of_version x) (variable k))) (same_some m n (sym f ∙ sym e)) ∙ h
 
 -- what is so stays so
 pub assumed_kept : (old new : List Node) (lower upper : Bound Parts) (a t : NodeId) → Keeps markers old new → IsHeld old a → IsAssumed old lower upper a t → IsAssumed new lower upper a t
@@ -190,6 +208,12 @@ children_later nodes store t held edges copy stands same children given e found 
 
 -- ---- one id after another
 module _ (lower upper : Bound Parts) where
+  pub found_none : (nodes : List Node) (found : List (NodeId × NodeId)) → found ≡ [] → AreFound nodes lower upper found
+  found_none nodes found none a t e = none_some t (sym (ap (lookup (same_id a)) none) ∙ e)
+
+  pub assumed_none : (nodes : List Node) (ids made : List NodeId) → made ≡ [] → AreAssumed nodes lower upper ids made
+  assumed_none nodes ids made none i a t e h = none_some t (sym (ap (λ l. slice_get l i) none) ∙ h)
+
   pub found_kept : (old new : List Node) (found : List (NodeId × NodeId)) → Keeps markers old new → AreFound old lower upper found → AreFound new lower upper found
   found_kept old new found k w a t e = let h = w a t e in (held_kept old new a k h.0, assumed_kept old new lower upper a t k h.0 h.1)
 
@@ -211,3 +235,18 @@ module _ (lower upper : Bound Parts) where
           let same : a ≡ b = same_some a b (sym at_j ∙ ap (slice_get ids) (sym (eqb-true k (length made) u ∙ len)) ∙ e) in
           subst (IsAssumed new lower upper b) (same_some t s w) (subst (λ x. IsAssumed new lower upper x t) same last)
       by_test false u w = assumed_kept old new lower upper b s keeps (held k b e) (done k b s e w)
+
+-- ---- the children of an id one after another
+module _ (first now : List Node) (lower upper : Bound Parts) (ids : List NodeId) (later : AreLater first (of_version ImplementationVersion) ids) (k : Keeps markers first now) (i : ℕ) (within : i < length ids) (d : NodeId) where
+  next_later : IsHeld first (get_or ids i d) × IsAfter markers first (of_version ImplementationVersion) (get_or ids i d)
+  next_later = later i (get_or ids i d) (slice_get-get_or ids i d within)
+
+  pub next_held : IsHeld now (get_or ids i d)
+  next_held = held_kept first now (get_or ids i d) k next_later.0
+
+  pub next_after : IsAfter markers now (of_version ImplementationVersion) (get_or ids i d)
+  next_after = after_still markers first now (of_version ImplementationVersion) (get_or ids i d) k next_later.0 next_later.1
+
+  pub next_assumed : (new : List Node) (t : NodeId) (made more : List NodeId) → Keeps markers now new → length made ≡ i → AreAssumed now lower upper ids made → IsAssumed new lower upper (get_or ids i d) t → more ≡ made ++ t ∷ [] → AreAssumed new lower upper ids more
+  next_assumed new t made more keeps len done last more_is =
+      assumed_more lower upper now new ids i (get_or ids i d) t made more keeps (λ n b e. held_kept first now b k ((later n b e).0)) len (slice_get-get_or ids i d within) done last more_is

@@ -1,6 +1,5 @@
 pub mod AndLaws
 pub mod Assumptions
-pub mod BesideLaws
 pub mod Branches
 pub mod CountLaws
 pub mod Descents

@@ -1,6 +1,6 @@
 -- Bounds without zeros at the end of their versions.
-use Rattle.std.proofs.Common.{◌≡◌, Bool, not, ◌&&◌, List, refl, ap, ◌∙◌, Result, Ok, Err}
-use Rattle.std.specs.Prelude.{IfOk}
+use Rattle.std.proofs.Common.{◌≡◌, Bool, not, ◌&&◌, List, refl, ap, ◌∙◌}
+use Rattle.std.specs.Prelude.{Result, Ok, Err, IfOk}
 use Rattle.std.specs.declared.alloc.AllocError.{AllocError}
 use Rattle.std.specs.Ordering.{is_lt}
 use Rattle.std.specs.declared.cmp.Ordering.TheVariants.{Equal}
@@ -17,9 +17,13 @@ use Rattle.pep440_version.proofs.Trimmed.{trimmed-version}
 use Rattle.marker_words.specs.declared.key.VersionVariable.TheVariants.{PythonFullVersion}
 use Rattle.marker_environment.specs.Valuation.{Valuation}
 use Rattle.marker_diagrams.specs.declared.node_id.NodeId.{NodeId}
+use Rattle.marker_diagrams.specs.Diagram.{Keeps, truth}
+use Rattle.marker_diagrams.proofs.NodeLaws.{truth_still}
 use Rattle.marker_nodes.specs.declared.node.Node.{Node}
+use Rattle.marker_nodes.specs.Node.{markers}
+use Rattle.marker_graph.specs.Contents.{IsAnd}
 use Rattle.marker_graph.specs.Expression.{IsTruthOf}
-use Rattle.marker_graph.specs.Python.{is_python_in}
+use Rattle.marker_graph.specs.Python.{is_python_in, require}
 
 trimmed_tied : (v : Parts) → version_cmp (trimmed_parts v) v ≡ Equal
 trimmed_tied v = same-tied (trimmed_parts v) v (trimmed-version (trimmed_parts v) v refl)
@@ -55,3 +59,7 @@ module _ (nodes : List Node) (lower upper from until : Bound Parts) (from_is : f
         h.means v ∙ set_is p ∙ ap (λ b. is_in_bounds version_cmp b until p) from_is ∙ ap (λ b. is_in_bounds version_cmp (bound_map trimmed_parts lower) b p) until_is ∙ in_trimmed lower upper p;
   }
   range_asked (Err e) h = h
+
+-- the conjunction of an id with one that is true in the range
+pub range_required : (mid last : List Node) (lower upper : Bound Parts) (a range t : NodeId) → Keeps markers mid last → IsTruthOf mid (is_python_in lower upper) range → IsAnd last a range t → (v : Valuation) → truth markers last t v ≡ require lower upper (truth markers last a) v
+range_required mid last lower upper a range t k r h v = h.means v ∙ ap (λ b. truth markers last a v && b) (truth_still markers mid last range v k r.held ∙ r.means v)

@@ -3,6 +3,7 @@ use Rattle.std.specs.Prelude.{◌≡◌, Bool, true, false, ◌&&◌}
 use Rattle.std.specs.Borrow.{Bor}
 use Rattle.std.specs.Range.Bound.{bound_map}
 use Rattle.std.specs.declared.ops.Bound.{Bound}
+use Rattle.std.specs.declared.ops.Bound.TheVariants.{Included, Excluded, Unbounded}
 use Rattle.version_ranges.specs.Point.{Point, begin_point, point_lt, is_from, is_until, is_in_bounds}
 use Rattle.pep440_version.specs.Parts.{Parts}
 use Rattle.pep440_version.specs.Order.{version_cmp}
@@ -13,6 +14,14 @@ use Rattle.marker_environment.specs.Valuation.{Valuation}
 -- the bound that a reference points to
 abbrev pub bound_of : Bound (Bor Parts) → Bound Parts
 bound_of bound = bound_map (λ v. v.now) bound
+
+-- whether a range leaves nothing out
+abbrev pub is_whole : Bound Parts → Bound Parts → Bool
+is_whole Unbounded Unbounded = true
+is_whole Unbounded (Included last) = false
+is_whole Unbounded (Excluded end) = false
+is_whole (Included first) upper = false
+is_whole (Excluded before) upper = false
 
 -- where the Python version stands
 abbrev pub python_of : Valuation → Point Parts

@@ -16,7 +16,7 @@ ghost use Rattle.marker_nodes.specs.Node.{markers, variable as asked_by};
 ghost use Rattle.marker_nodes.specs.Variable.{of_version, variable_cmp};
 ghost use Rattle.marker_graph.specs.Contents.{IsHeld, IsKept, truth};
 ghost use Rattle.marker_graph.specs.Expression.{IsTruthOf};
-ghost use Rattle.marker_graph.specs.Python.{Assumes, IsPoint, bound_of, is_python_in, require};
+ghost use Rattle.marker_graph.specs.Python.{Assumes, IsPoint, bound_of, is_python_in, is_whole, require};
 ghost use Rattle.marker_graph.specs.Simplified.{AreAssumed, AreFound, AreLater, IsAssumed};
 
 use crate::interner::Interner;
@@ -48,7 +48,7 @@ impl MarkerTree {
         ensures means { IfOk result (λ t. Assumes (bound_of lower.entry) (bound_of upper.entry) (truth interner.new self) (truth interner.new t)) }
         ensures unbounded { bound_of lower.entry ≡ Unbounded → bound_of upper.entry ≡ Unbounded → result ≡ Ok self }
     {
-        if is_unbounded(lower) && is_unbounded(upper) {
+        if is_unbounded(lower, upper) {
             return Ok(self);
         }
         if !has_point(lower, upper) {
@@ -75,7 +75,7 @@ impl MarkerTree {
         ensures means { IfOk result (λ t. (v : Valuation) → truth interner.new t v ≡ require (bound_of lower.entry) (bound_of upper.entry) (truth interner.new self) v) }
         ensures unbounded { bound_of lower.entry ≡ Unbounded → bound_of upper.entry ≡ Unbounded → result ≡ Ok self }
     {
-        if is_unbounded(lower) && is_unbounded(upper) {
+        if is_unbounded(lower, upper) {
             return Ok(self);
         }
         let range = interner.python_range(lower, upper)?;
@@ -84,15 +84,16 @@ impl MarkerTree {
     }
 }
 
-// Whether a bound leaves nothing out.
-fn is_unbounded(bound: Bound<&Version>) -> bool
-    ensures yes { result ≡ true → bound_of bound.entry ≡ Unbounded }
-    ensures no { bound_of bound.entry ≡ Unbounded → result ≡ true }
+// Whether a range leaves nothing out.
+fn is_unbounded(lower: Bound<&Version>, upper: Bound<&Version>) -> bool
+    ensures { result ≡ is_whole (bound_of lower.entry) (bound_of upper.entry) }
 {
-    match bound {
-        Bound::Unbounded => true,
-        Bound::Included(_) => false,
-        Bound::Excluded(_) => false,
+    match (lower, upper) {
+        (Bound::Unbounded, Bound::Unbounded) => true,
+        (Bound::Unbounded, Bound::Included(_)) => false,
+        (Bound::Unbounded, Bound::Excluded(_)) => false,
+        (Bound::Included(_), _) => false,
+        (Bound::Excluded(_), _) => false,
     }
 }
 

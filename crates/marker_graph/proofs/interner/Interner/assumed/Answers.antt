@@ -12,7 +12,7 @@ assumed_at_python-requires-clause-after c = λ n e. later_first n (c.in_default.
 
 pub assumed_all-requires-clause-children : goal.assumed_all-requires-clause-children
 assumed_all-requires-clause-children c =
-    children_later c.args.self.now.nodes c.keeps_the_rules.ensures c.args.id c.requires.held c.in-Some.edges.now c.in_ok-edges.edges c.in-Some.ensures.found c.in_ok-edges.ensures.cases.1
+    children_later c.args.self.now.nodes c.keeps_the_rules.ensures.nodes c.args.id c.requires.held c.in-Some.edges.now c.in_ok-edges.edges c.in-Some.ensures.found c.in_ok-edges.ensures.cases.1
     c.in_ok-children.children.items c.deref.result.now c.deref.ensures.value c.in_ok-children.ensures.inhabited
 
 pub place_versions-requires-clause-children : goal.place_versions-requires-clause-children
@@ -21,7 +21,7 @@ place_versions-requires-clause-children c =
     let upper = bound_of c.args.upper in
     let mid = c.assumed_all.new.self.nodes in
     let made = c.in_ok-children-2.children.items in
-    made_children c.args.self.now.nodes c.keeps_the_rules.ensures lower upper c.requires.point.0 c.requires.point.1 c.args.id c.requires.held c.in-Some.edges.now c.in-Some.ensures.found mid c.in_ok-children-2.ensures.kept
+    made_children c.args.self.now.nodes c.keeps_the_rules.ensures.nodes lower upper c.requires.point.0 c.requires.point.1 c.args.id c.requires.held c.in-Some.edges.now c.in-Some.ensures.found mid c.in_ok-children-2.ensures.kept
     (λ q. child_at made (piece_of version_cmp c.in_ok-edges.edges q))
     (made_at mid lower upper c.in-Some.edges.now c.in_ok-edges.edges c.in_ok-children.children.items made c.in_ok-edges.ensures.cases.1 c.in_ok-children.ensures.value
     (sym c.in_ok-children-2.children.ok.0 ∙ c.in_ok-children-2.ensures.count ∙ ap length c.deref.ensures.value) (subst (λ l. AreAssumed mid lower upper l made) c.deref.ensures.value c.in_ok-children-2.ensures.assumed))
@@ -33,7 +33,7 @@ returns-clause-assumed c =
     let mid = c.assumed_all.new.self.nodes in
     let made = c.in_ok-children-2.children.items in
     subst (IsAssumed c.place_versions.new.self.nodes lower upper c.args.id) (sym c.negate.ensures)
-    (made_is c.args.self.now.nodes c.keeps_the_rules.ensures lower upper c.requires.point.0 c.requires.point.1 c.args.id c.requires.held c.in-Some.edges.now c.in-Some.ensures.found mid c.in_ok-children-2.ensures.kept
+    (made_is c.args.self.now.nodes c.keeps_the_rules.ensures.nodes lower upper c.requires.point.0 c.requires.point.1 c.args.id c.requires.held c.in-Some.edges.now c.in-Some.ensures.found mid c.in_ok-children-2.ensures.kept
     (λ q. child_at made (piece_of version_cmp c.in_ok-edges.edges q))
     (made_at mid lower upper c.in-Some.edges.now c.in_ok-edges.edges c.in_ok-children.children.items made c.in_ok-edges.ensures.cases.1 c.in_ok-children.ensures.value
     (sym c.in_ok-children-2.children.ok.0 ∙ c.in_ok-children-2.ensures.count ∙ ap length c.deref.ensures.value) (subst (λ l. AreAssumed mid lower upper l made) c.deref.ensures.value c.in_ok-children-2.ensures.assumed))
