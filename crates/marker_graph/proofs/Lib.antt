@@ -1,6 +1,5 @@
 pub mod AndLaws
 pub mod Assumptions
-pub mod BesideLaws
 pub mod Branches
 pub mod CountLaws
 pub mod Descents
@@ -8,7 +7,9 @@ pub mod Disjoints
 pub mod Firsts
 pub mod NeighborLaws
 pub mod PairLaws
+pub mod PossibleLaws
 pub mod RangeLaws
+pub mod ReportLaws
 pub mod SubtreeLaws
 pub mod TreeLaws
 pub mod TrimLaws
