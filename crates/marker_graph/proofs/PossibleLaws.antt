@@ -14,7 +14,7 @@ use Rattle.std.proofs.lemmas.Cmp.{tied_itself}
 use Rattle.std.proofs.lemmas.List.Folds.{list_any_at}
 use Rattle.version_ranges.specs.declared.cuts.Cuts.{Cuts}
 use Rattle.version_ranges.specs.Point.{Point, bottom, at, point_map, is_in_bounds}
-use Rattle.version_ranges.specs.Cuts.{value_of, piece_of}
+use Rattle.version_ranges.specs.Cuts.{value_of, value_by, piece_of}
 use Rattle.version_ranges.specs.Parts.{Part, IsIn, ArePieces}
 use Rattle.version_ranges.proofs.Elsewhere.{at_names, value_by_name}
 use Rattle.pep440_version.specs.Parts.{Parts}
@@ -31,7 +31,7 @@ use Rattle.marker_diagrams.proofs.Canonicity.{child_seen}
 use Rattle.marker_nodes.specs.declared.variable.TruthVariable.{TruthVariable}
 use Rattle.marker_nodes.specs.declared.variable.TruthVariable.TheVariants as truths
 use Rattle.marker_nodes.specs.declared.node.Node.{Node}
-use Rattle.marker_nodes.specs.declared.node.Node.TheVariants.{Version, Text, Truth}
+use Rattle.marker_nodes.specs.declared.node.Node.TheVariants.{Truth}
 use Rattle.marker_nodes.specs.Variable.{Variable, of_version, of_extra, of_arbitrary, answer, mix, variable_cmp}
 use Rattle.marker_nodes.specs.Node.{markers, variable, pick, text_cmp}
 use Rattle.marker_nodes.proofs.VariableLaws.{variable_total}
@@ -86,6 +86,12 @@ enters x versions part = may_lie_in x versions part.lower part.upper
 
 abbrev pub always : {T : Type 0} → Part T NodeId → Bool
 always part = true
+
+-- the Python version may lie where one of the listed ones does
+pub listed_enter : (x : VersionVariable) (versions : Option (Bor (List Parts))) (list : Bor (List Parts)) (lower upper : Bound Parts) (z : Bool) → x ≡ PythonFullVersion → versions ≡ Some list →
+    z ≡ list_any (λ version. is_in_bounds version_cmp lower upper (at version)) list.now → z ≡ may_lie_in x (listed_versions versions) lower upper
+listed_enter x versions list lower upper z e f h =
+    h ∙ sym (ap (λ y. may_lie_in y (listed_versions versions) lower upper) e ∙ ap (λ o. may_lie_in PythonFullVersion (listed_versions o) lower upper) f)
 
 -- ---- valuations that are looked at
 
@@ -288,36 +294,37 @@ module _ (extras : List (List ℕ)) (versions : Option (List Parts)) where
       }
 
     module _ (store : IsStore markers nodes) (t : NodeId) (start : Valuation) (ready : HasExtras extras start) (among : IsAmong versions start) where
-      -- ---- versions
-      module _ {a : _} {b : _} {c : _} (x : VersionVariable) (edges : Cuts Parts NodeId a b c) (parts : List (Part Parts NodeId)) (are : ArePieces version_cmp edges parts) where
-        version_found : (k : ℕ) (part : Part Parts NodeId) → slice_get parts k ≡ Some part → enters x versions part ≡ true → (s : Valuation) × IsSought s × (pick (Version x edges) s ≡ part.value)
+      -- ---- a node of versions, by the function of its edges
+      module _ {a : _} {b : _} {c : _} (x : VersionVariable) (edges : Cuts Parts NodeId a b c) (parts : List (Part Parts NodeId)) (are : ArePieces version_cmp edges parts) (n : Node) (picks : (v : Valuation) → pick n v ≡ value_of version_cmp edges (v.version x)) where
+        version_found : (k : ℕ) (part : Part Parts NodeId) → slice_get parts k ≡ Some part → enters x versions part ≡ true → (s : Valuation) × IsSought s × (pick n s ≡ part.value)
         version_found k part e m =
             let s = version_inside extras versions x start ready among part (are.nonempty k part e) m in
-            (s.0, (s.1, s.2), piece_value version_cmp edges parts are k part (s.0.version x) e s.3)
+            (s.0, (s.1, s.2), picks s.0 ∙ piece_value version_cmp edges parts are k part (s.0.version x) e s.3)
 
-        version_covered : (P : NodeId → Type 0) → EachValue (enters x versions) P parts → (v : Valuation) → IsSought v → P (pick (Version x edges) v)
+        version_covered : (P : NodeId → Type 0) → EachValue (enters x versions) P parts → (v : Valuation) → IsSought v → P (pick n v)
         version_covered P h v w =
             let r = are.covers (v.version x) in
-            subst P r.3 (each_at (enters x versions) P parts h (piece_of version_cmp edges (v.version x)) r.0 r.1 (entered versions x v w.1 r.0.lower r.0.upper r.2))
+            subst P (r.3 ∙ sym (picks v)) (each_at (enters x versions) P parts h (piece_of version_cmp edges (v.version x)) r.0 r.1 (entered versions x v w.1 r.0.lower r.0.upper r.2))
 
-        pub version_walks : node_of nodes t ≡ Some (Version x edges) → Walks t (enters x versions) parts
-        version_walks stands = walks_from store t (Version x edges) stands (enters x versions) parts version_found version_covered
+        pub version_walks : node_of nodes t ≡ Some n → Walks t (enters x versions) parts
+        version_walks stands = walks_from store t n stands (enters x versions) parts version_found version_covered
 
-      -- ---- texts
-      module _ {a : _} {b : _} {c : _} (x : TextVariable) (edges : Cuts (String Global) NodeId a b c) (parts : List (Part (String Global) NodeId)) (are : ArePieces string_cmp edges parts) where
-        text_found : (k : ℕ) (part : Part (String Global) NodeId) → slice_get parts k ≡ Some part → true ≡ true → (s : Valuation) × IsSought s × (pick (Text x edges) s ≡ part.value)
+      -- ---- a node of texts, by the function of its edges
+      module _ {a : _} {b : _} {c : _} (x : TextVariable) (edges : Cuts (String Global) NodeId a b c) (parts : List (Part (String Global) NodeId)) (are : ArePieces string_cmp edges parts) (n : Node) (picks : (v : Valuation) → pick n v ≡ value_by string_bytes text_cmp edges (v.text x)) where
+        text_found : (k : ℕ) (part : Part (String Global) NodeId) → slice_get parts k ≡ Some part → true ≡ true → (s : Valuation) × IsSought s × (pick n s ≡ part.value)
         text_found k part e m =
             let p = are.nonempty k part e in
             let s = with_text (point_map string_bytes p.0) start in
-            (s, (record { valid = ready.valid; arbitrary = ready.arbitrary }, among_same versions start s refl among), value_by_name string_bytes string_cmp text_cmp string_cmp_total nat_list_cmp_total (λ v w. refl) edges p.0 ∙ piece_value string_cmp edges parts are k part p.0 e p.1)
+            (s, (record { valid = ready.valid; arbitrary = ready.arbitrary }, among_same versions start s refl among), picks s ∙ value_by_name string_bytes string_cmp text_cmp string_cmp_total nat_list_cmp_total (λ v w. refl) edges p.0 ∙ piece_value string_cmp edges parts are k part p.0 e p.1)
 
-        text_covered : (P : NodeId → Type 0) → EachValue always P parts → (v : Valuation) → IsSought v → P (pick (Text x edges) v)
+        text_covered : (P : NodeId → Type 0) → EachValue always P parts → (v : Valuation) → IsSought v → P (pick n v)
         text_covered P h v w =
-            at_names string_bytes string_cmp text_cmp string_cmp_total nat_list_cmp_total (λ y z. refl) edges edges edges (λ l i m j n k. P l)
-            (λ p. let r = are.covers p in subst P r.3 (each_at always P parts h (piece_of string_cmp edges p) r.0 r.1 refl)) (v.text x)
+            subst P (sym (picks v))
+            (at_names string_bytes string_cmp text_cmp string_cmp_total nat_list_cmp_total (λ y z. refl) edges edges edges (λ l i m j n k. P l)
+            (λ p. let r = are.covers p in subst P r.3 (each_at always P parts h (piece_of string_cmp edges p) r.0 r.1 refl)) (v.text x))
 
-        pub text_walks : node_of nodes t ≡ Some (Text x edges) → Walks t always parts
-        text_walks stands = walks_from store t (Text x edges) stands always parts text_found text_covered
+        pub text_walks : node_of nodes t ≡ Some n → Walks t always parts
+        text_walks stands = walks_from store t n stands always parts text_found text_covered
 
       -- ---- where it is so, and where it is not
       module _ (x : TruthVariable) (high low : NodeId) (stands : node_of nodes t ≡ Some (Truth x high low)) where

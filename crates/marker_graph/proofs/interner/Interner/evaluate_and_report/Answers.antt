@@ -4,7 +4,7 @@ use Rattle.marker_diagrams.specs.Id.{is_negated, signed_id}
 use Rattle.marker_diagrams.specs.Diagram.{node_of}
 use Rattle.marker_graph.proofs.Descents.{down_smaller, down_held, down_means, end_means}
 use Rattle.marker_graph.proofs.ReportLaws.{compared_nothing, compared_more}
-use Rattle.marker_graph.proofs.report.Interner.evaluate_and_report.Goals as goal
+use Rattle.marker_graph.proofs.interner.Interner.evaluate_and_report.Goals as goal
 
 pub loop-node-init : goal.loop-node-init
 loop-node-init g c = record { held = c.requires.this; same = refl; can_report = c.requires.can_report; told = compared_nothing (g.R.Reporter.kinds c.args.reporter.now) }

@@ -4,7 +4,7 @@ use Rattle.marker_diagrams.specs.Id.{place_of}
 use Rattle.marker_diagrams.specs.Diagram.{IsHeld, truth}
 use Rattle.marker_nodes.specs.Node.{markers}
 use Rattle.marker_graph.specs.Report.{AddsComparisons}
-use Rattle.marker_graph.proofs.report.Interner.evaluate_and_report.Given as goal
+use Rattle.marker_graph.proofs.interner.Interner.evaluate_and_report.Given as goal
 
 abbrev pub invariant-loop-node : goal.invariant-loop-node
 invariant-loop-node g l = record {
