@@ -1,11 +1,11 @@
 -- Warnings of comparisons by order, one after another.
-use Rattle.std.proofs.Common.{◌≡◌, ℕ, zero, suc, ◌<◌, List, [], ◌∷◌, ◌++◌, map, length, get_or, Option, Some, None, Result, Ok, Err, OnOk, OnErr, All, refl, sym, ap, ◌∙◌, subst, arith}
+use Rattle.std.proofs.Common.{◌≡◌, ℕ, zero, suc, ◌<◌, List, [], ◌∷◌, ◌++◌, map, length, get_or, Option, Some, All, sym, ap, ◌∙◌, subst, arith}
 use Rattle.std.specs.Prelude.{String}
 use Rattle.std.specs.Global.{Global}
-use Rattle.std.proofs.lemmas.List.Elements.{All-nil, All-cons, All-append}
+use Rattle.std.proofs.lemmas.List.Elements.{All-nil, All-append}
 use Rattle.marker_warnings.specs.declared.warning.MarkerWarningKind.{MarkerWarningKind}
 use Rattle.marker_warnings.specs.declared.warning.MarkerWarningKind.TheVariants.{LexicographicComparison}
-use Rattle.marker_warnings.specs.Kinds.{Adds, Keeps}
+use Rattle.marker_warnings.specs.Kinds.{Keeps}
 use Rattle.marker_parts.proofs.WholeLaws.{adds_nothing, adds_kept, adds_more}
 use Rattle.marker_diagrams.proofs.NodeLaws.{same_some}
 use Rattle.marker_graph.specs.Report.{AddsComparisons}
@@ -18,10 +18,6 @@ IsComparison kind = kind ≡ LexicographicComparison
 pub compared_nothing : (kinds : Option (List MarkerWarningKind)) → AddsComparisons kinds kinds
 compared_nothing kinds = ([], adds_nothing kinds, All-nil IsComparison)
 
--- one warning was told
-pub compared_once : (a b : Option (List MarkerWarningKind)) → Adds a b (LexicographicComparison ∷ []) → AddsComparisons a b
-compared_once a b h = (LexicographicComparison ∷ [], h, All-cons IsComparison LexicographicComparison [] refl (All-nil IsComparison))
-
 -- nothing more was told
 pub compared_kept : (a b c : Option (List MarkerWarningKind)) → AddsComparisons a b → Keeps b c → AddsComparisons a c
 compared_kept a b c h k = (h.0, adds_kept a b c h.0 h.1 k, h.2)
@@ -29,11 +25,6 @@ compared_kept a b c h k = (h.0, adds_kept a b c h.0 h.1 k, h.2)
 -- more was told
 pub compared_more : (a b c : Option (List MarkerWarningKind)) → AddsComparisons a b → AddsComparisons b c → AddsComparisons a c
 compared_more a b c h k = (h.0 ++ k.0, adds_more a b c h.0 k.0 h.1 k.1, All-append IsComparison h.0 k.0 h.2 k.2)
-
--- one warning was told, or it was refused
-pub compared_by : {T E : Type 0} (a b : Option (List MarkerWarningKind)) (answer : Result T E) → OnOk answer (Adds a b (LexicographicComparison ∷ [])) → OnErr answer (Keeps a b) → AddsComparisons a b
-compared_by a b (Ok x) h k = compared_once a b h
-compared_by a b (Err e) h k = compared_kept a a b (compared_nothing a) k
 
 -- the warnings of a list, of whose kinds something is known
 kinds_apart : (P : MarkerWarningKind → Type 0) (warnings : List (MarkerWarningKind × String Global)) → All P (map (λ warning. warning.0) warnings) →

@@ -1,4 +1,4 @@
-use Rattle.marker_graph.proofs.ReportLaws.{compared_nothing, compared_by}
+use Rattle.marker_graph.proofs.ReportLaws.{compared_nothing}
 use Rattle.marker_graph.proofs.report.report_bound.Goals as goal
 
 pub returns-in-Unbounded-clause-told : goal.returns-in-Unbounded-clause-told
