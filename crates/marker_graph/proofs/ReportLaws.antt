@@ -5,8 +5,7 @@ use Rattle.std.specs.Global.{Global}
 use Rattle.std.proofs.lemmas.List.Elements.{All-nil, All-append}
 use Rattle.marker_warnings.specs.declared.warning.MarkerWarningKind.{MarkerWarningKind}
 use Rattle.marker_warnings.specs.declared.warning.MarkerWarningKind.TheVariants.{LexicographicComparison}
-use Rattle.marker_warnings.specs.Kinds.{Keeps}
-use Rattle.marker_parts.proofs.WholeLaws.{adds_nothing, adds_kept, adds_more}
+use Rattle.marker_parts.proofs.WholeLaws.{adds_nothing, adds_more}
 use Rattle.marker_diagrams.proofs.NodeLaws.{same_some}
 use Rattle.marker_graph.specs.Report.{AddsComparisons}
 
@@ -17,10 +16,6 @@ IsComparison kind = kind ≡ LexicographicComparison
 -- nothing was told
 pub compared_nothing : (kinds : Option (List MarkerWarningKind)) → AddsComparisons kinds kinds
 compared_nothing kinds = ([], adds_nothing kinds, All-nil IsComparison)
-
--- nothing more was told
-pub compared_kept : (a b c : Option (List MarkerWarningKind)) → AddsComparisons a b → Keeps b c → AddsComparisons a c
-compared_kept a b c h k = (h.0, adds_kept a b c h.0 h.1 k, h.2)
 
 -- more was told
 pub compared_more : (a b c : Option (List MarkerWarningKind)) → AddsComparisons a b → AddsComparisons b c → AddsComparisons a c
