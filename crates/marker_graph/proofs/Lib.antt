@@ -7,7 +7,9 @@ pub mod Disjoints
 pub mod Firsts
 pub mod NeighborLaws
 pub mod PairLaws
+pub mod PossibleLaws
 pub mod RangeLaws
+pub mod ReportLaws
 pub mod SubtreeLaws
 pub mod TreeLaws
 pub mod TrimLaws

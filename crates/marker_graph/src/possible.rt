@@ -164,10 +164,16 @@ fn is_possible_at_truth(
     requires node { diagram.node_of nodes.now id ≡ Some (kinds.Truth variable.now high low) }
     ensures { TellsPossible extras.now (listed_versions versions.entry) (diagram.truth markers nodes.now id) result }
 {
-    if may_be_so(variable, extras) && is_possible(nodes, extras, versions, high.negate(id)) {
+    if !may_be_so(variable, extras) {
+        return is_possible(nodes, extras, versions, low.negate(id));
+    }
+    if is_possible(nodes, extras, versions, high.negate(id)) {
         return true;
     }
-    may_not_be_so(variable, extras) && is_possible(nodes, extras, versions, low.negate(id))
+    if !may_not_be_so(variable, extras) {
+        return false;
+    }
+    is_possible(nodes, extras, versions, low.negate(id))
 }
 
 // Whether the variable's version may lie in a piece: any may but the Python version, where versions are listed.

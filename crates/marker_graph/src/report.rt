@@ -73,18 +73,36 @@ impl Interner {
         ensures told { AddsComparisons (R.kinds reporter.old) (R.kinds reporter.new) }
         ensures again { R.can_report reporter.new }
     {
+        self.keeps_the_rules();
         let mut at = id;
         while let Some(node) = self.table().node(at) {
-            if let Node::Text(variable, edges) = node {
-                report_order(self.allocator(), environment.text(*variable), edges, reporter)?;
-            }
+            report_node(self.allocator(), node, environment, reporter)?;
             at = child_in(node, environment, extras).negate(at);
         }
         Ok(!at.is_complement())
     }
 }
 
-// Tells of the bounds of the pieces up to that of the text, but of those of a single value.
+// Tells of the comparisons of a node that asks for a text.
+fn report_node<R: Reporter>(
+    alloc: Global,
+    node: &Node,
+    environment: &MarkerEnvironment,
+    reporter: &mut R,
+) -> Result<(), AllocError>
+    requires { R.can_report reporter.old }
+    ensures told { AddsComparisons (R.kinds reporter.old) (R.kinds reporter.new) }
+    ensures again { R.can_report reporter.new }
+{
+    match node {
+        Node::Text(variable, edges) => {
+            report_order(alloc, environment.text(*variable), edges, reporter)
+        }
+        Node::Version(_, _) | Node::Truth(_, _, _) => Ok(()),
+    }
+}
+
+// Tells of the bounds of the pieces up to that of the text.
 fn report_order<R: Reporter>(
     alloc: Global,
     text: &str,
@@ -96,15 +114,30 @@ fn report_order<R: Reporter>(
     ensures again { R.can_report reporter.new }
 {
     for piece in edges.pieces() {
-        if !is_single(&piece) {
-            report_bound(alloc, text, piece.lower, reporter)?;
-            report_bound(alloc, text, piece.upper, reporter)?;
-        }
+        report_piece(alloc, text, &piece, reporter)?;
         if is_up_to(text, piece.upper) {
             return Ok(());
         }
     }
     Ok(())
+}
+
+// Tells of the bounds of a piece, but not of those of a single value.
+fn report_piece<R: Reporter>(
+    alloc: Global,
+    text: &str,
+    piece: &Piece<'_, String, NodeId>,
+    reporter: &mut R,
+) -> Result<(), AllocError>
+    requires { R.can_report reporter.old }
+    ensures told { AddsComparisons (R.kinds reporter.old) (R.kinds reporter.new) }
+    ensures again { R.can_report reporter.new }
+{
+    if is_single(piece) {
+        return Ok(());
+    }
+    report_bound(alloc, text, piece.lower, reporter)?;
+    report_bound(alloc, text, piece.upper, reporter)
 }
 
 // Tells that a text was compared with a bound.
