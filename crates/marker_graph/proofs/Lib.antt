@@ -1,11 +1,11 @@
 pub mod AndLaws
 pub mod Assumptions
-pub mod BesideLaws
 pub mod Branches
 pub mod CountLaws
 pub mod Descents
 pub mod Disjoints
 pub mod Firsts
+pub mod Grants
 pub mod NeighborLaws
 pub mod PairLaws
 pub mod RangeLaws
