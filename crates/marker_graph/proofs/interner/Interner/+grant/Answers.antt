@@ -94,16 +94,19 @@ pub granted_versions-place_versions-requires-clause-children : goal.granted_vers
 granted_versions-place_versions-requires-clause-children g t c =
     let x = c.args.variable in
     listed_children c.args.self.now.nodes c.requires.rules c.args.id c.requires.held c.requires.plain (of_version x) (λ v. value_of version_cmp c.args.edges (v.version x)) c.requires.node
-    (FnReturnsAt g.F.Fn c.args.is_extra.now) c.granted_all.new.self.nodes c.in_ok-children-2.ensures.kept c.in_ok-children.children.items c.deref.result.now c.in_ok-children-2.children.items c.deref.ensures.value
+    (FnReturnsAt g.F.Fn c.args.is_extra.now) c.granted_all.new.self.nodes c.granted_all.ensures.kept c.in_ok-children.children.items c.deref.result.now c.in_ok-children-2.children.items c.deref.ensures.value
     (sym c.in_ok-children-2.children.ok.0 ∙ c.in_ok-children-2.ensures.count) c.in_ok-children-2.ensures.granted (λ v. piece_of version_cmp c.args.edges (v.version x)) (λ v. c.in_ok-children.ensures.value (v.version x))
 
 pub granted_versions-returns-clause-granted : goal.granted_versions-returns-clause-granted
 granted_versions-returns-clause-granted g t c =
     let x = c.args.variable in
     listed_placed c.args.self.now.nodes c.requires.rules c.args.id c.requires.held c.requires.plain (of_version x) (λ v. value_of version_cmp c.args.edges (v.version x)) c.requires.node
-    (FnReturnsAt g.F.Fn c.args.is_extra.now) c.granted_all.new.self.nodes c.in_ok-children-2.ensures.kept c.in_ok-children.children.items c.deref.result.now c.in_ok-children-2.children.items c.deref.ensures.value
+    (FnReturnsAt g.F.Fn c.args.is_extra.now) c.granted_all.new.self.nodes c.granted_all.ensures.kept c.in_ok-children.children.items c.deref.result.now c.in_ok-children-2.children.items c.deref.ensures.value
     (sym c.in_ok-children-2.children.ok.0 ∙ c.in_ok-children-2.ensures.count) c.in_ok-children-2.ensures.granted (λ v. piece_of version_cmp c.args.edges (v.version x)) (λ v. c.in_ok-children.ensures.value (v.version x))
     c.place_versions.new.self.nodes c.place_versions.ensures.kept (λ granted fixed v. refl) c.place_versions.result c.place_versions.ensures.id
+
+pub granted_versions-returns-clause-known : goal.granted_versions-returns-clause-known
+granted_versions-returns-clause-known g t c = known_kept (FnReturnsAt g.F.Fn c.args.is_extra.now) c.granted_all.new.self.nodes c.place_versions.new.self.nodes _ c.place_versions.ensures.kept c.granted_all.ensures.known
 
 pub granted_texts-granted_all-requires : goal.granted_texts-granted_all-requires
 granted_texts-granted_all-requires g t c =
@@ -115,16 +118,19 @@ pub granted_texts-place_texts-requires-clause-children : goal.granted_texts-plac
 granted_texts-place_texts-requires-clause-children g t c =
     let x = c.args.variable in
     listed_children c.args.self.now.nodes c.requires.rules c.args.id c.requires.held c.requires.plain (of_text x) (λ v. value_by string_bytes text_cmp c.args.edges (v.text x)) c.requires.node
-    (FnReturnsAt g.F.Fn c.args.is_extra.now) c.granted_all.new.self.nodes c.in_ok-children-2.ensures.kept c.in_ok-children.children.items c.deref.result.now c.in_ok-children-2.children.items c.deref.ensures.value
+    (FnReturnsAt g.F.Fn c.args.is_extra.now) c.granted_all.new.self.nodes c.granted_all.ensures.kept c.in_ok-children.children.items c.deref.result.now c.in_ok-children-2.children.items c.deref.ensures.value
     (sym c.in_ok-children-2.children.ok.0 ∙ c.in_ok-children-2.ensures.count) c.in_ok-children-2.ensures.granted (λ v. piece_by string_bytes text_cmp c.args.edges (v.text x)) (λ v. text_listed c.args.edges c.in_ok-children.children.items c.in_ok-children.ensures.value (v.text x))
 
 pub granted_texts-returns-clause-granted : goal.granted_texts-returns-clause-granted
 granted_texts-returns-clause-granted g t c =
     let x = c.args.variable in
     listed_placed c.args.self.now.nodes c.requires.rules c.args.id c.requires.held c.requires.plain (of_text x) (λ v. value_by string_bytes text_cmp c.args.edges (v.text x)) c.requires.node
-    (FnReturnsAt g.F.Fn c.args.is_extra.now) c.granted_all.new.self.nodes c.in_ok-children-2.ensures.kept c.in_ok-children.children.items c.deref.result.now c.in_ok-children-2.children.items c.deref.ensures.value
+    (FnReturnsAt g.F.Fn c.args.is_extra.now) c.granted_all.new.self.nodes c.granted_all.ensures.kept c.in_ok-children.children.items c.deref.result.now c.in_ok-children-2.children.items c.deref.ensures.value
     (sym c.in_ok-children-2.children.ok.0 ∙ c.in_ok-children-2.ensures.count) c.in_ok-children-2.ensures.granted (λ v. piece_by string_bytes text_cmp c.args.edges (v.text x)) (λ v. text_listed c.args.edges c.in_ok-children.children.items c.in_ok-children.ensures.value (v.text x))
     c.place_texts.new.self.nodes c.place_texts.ensures.kept (λ granted fixed v. refl) c.place_texts.result c.place_texts.ensures.id
+
+pub granted_texts-returns-clause-known : goal.granted_texts-returns-clause-known
+granted_texts-returns-clause-known g t c = known_kept (FnReturnsAt g.F.Fn c.args.is_extra.now) c.granted_all.new.self.nodes c.place_texts.new.self.nodes _ c.place_texts.ensures.kept c.granted_all.ensures.known
 
 pub granted_truth-granted-requires : goal.granted_truth-granted-requires
 granted_truth-granted-requires g t c =
@@ -144,9 +150,9 @@ granted_truth-place_truth-requires g t c =
     let x = c.args.variable in
     let Answers = FnReturnsAt g.F.Fn c.args.is_extra.now in
     let b = high_below old c.requires.rules c.args.id c.requires.held c.requires.plain x c.args.high c.args.low c.requires.node in
-    granted_children old c.requires.rules c.args.id c.requires.held c.requires.plain (truth_variable x) (truth_child x c.args.high c.args.low) c.requires.node Answers new (keeps_both markers old mid new c.in_ok-high.ensures.kept c.in_ok-low.ensures.kept)
+    granted_children old c.requires.rules c.args.id c.requires.held c.requires.plain (truth_variable x) (truth_child x c.args.high c.args.low) c.requires.node Answers new (keeps_both markers old mid new c.granted.ensures.kept c.granted-2.ensures.kept)
     (truth_child x c.in_ok-high.high c.in_ok-low.low) (halves_granted Answers new x c.args.high c.args.low c.in_ok-high.high c.in_ok-low.low
-    (granted_kept Answers mid new c.args.high c.in_ok-high.high c.in_ok-low.ensures.kept (held_kept old mid c.args.high c.in_ok-high.ensures.kept b.1) c.in_ok-high.ensures.granted) c.in_ok-low.ensures.granted)
+    (granted_kept Answers mid new c.args.high c.in_ok-high.high c.granted-2.ensures.kept (held_kept old mid c.args.high c.granted.ensures.kept b.1) c.in_ok-high.ensures.granted) c.in_ok-low.ensures.granted)
 
 pub granted_truth-returns-clause-granted : goal.granted_truth-returns-clause-granted
 granted_truth-returns-clause-granted g t c =
@@ -156,10 +162,20 @@ granted_truth-returns-clause-granted g t c =
     let x = c.args.variable in
     let Answers = FnReturnsAt g.F.Fn c.args.is_extra.now in
     let b = high_below old c.requires.rules c.args.id c.requires.held c.requires.plain x c.args.high c.args.low c.requires.node in
-    granted_placed old c.requires.rules c.args.id c.requires.held c.requires.plain (truth_variable x) (truth_child x c.args.high c.args.low) c.requires.node Answers new (keeps_both markers old mid new c.in_ok-high.ensures.kept c.in_ok-low.ensures.kept)
+    granted_placed old c.requires.rules c.args.id c.requires.held c.requires.plain (truth_variable x) (truth_child x c.args.high c.args.low) c.requires.node Answers new (keeps_both markers old mid new c.granted.ensures.kept c.granted-2.ensures.kept)
     (truth_child x c.in_ok-high.high c.in_ok-low.low) (halves_granted Answers new x c.args.high c.args.low c.in_ok-high.high c.in_ok-low.low
-    (granted_kept Answers mid new c.args.high c.in_ok-high.high c.in_ok-low.ensures.kept (held_kept old mid c.args.high c.in_ok-high.ensures.kept b.1) c.in_ok-high.ensures.granted) c.in_ok-low.ensures.granted)
+    (granted_kept Answers mid new c.args.high c.in_ok-high.high c.granted-2.ensures.kept (held_kept old mid c.args.high c.granted.ensures.kept b.1) c.in_ok-high.ensures.granted) c.in_ok-low.ensures.granted)
     c.place_truth.new.self.nodes c.place_truth.ensures.kept (halves_untouched Answers x c.args.high c.args.low c.requires.untouched) c.place_truth.result c.place_truth.ensures.id
+
+pub granted_truth-returns-clause-known : goal.granted_truth-returns-clause-known
+granted_truth-returns-clause-known g t c = known_kept (FnReturnsAt g.F.Fn c.args.is_extra.now) c.granted-2.new.self.nodes c.place_truth.new.self.nodes _ c.place_truth.ensures.kept c.granted-2.ensures.known
+
+pub granted_truth-returns-clause-kept : goal.granted_truth-returns-clause-kept
+granted_truth-returns-clause-kept g t c =
+    let mid = c.granted.new.self.nodes in
+    let new = c.granted-2.new.self.nodes in
+    let last = c.place_truth.new.self.nodes in
+    keeps_both markers c.args.self.now.nodes mid last c.granted.ensures.kept (keeps_both markers mid new last c.granted-2.ensures.kept c.place_truth.ensures.kept)
 
 pub granted_all-granted-requires : goal.granted_all-granted-requires
 granted_all-granted-requires g t c =
