@@ -24,7 +24,7 @@ granted-returns-then-is_false-clause-granted g t c = granted_false (FnReturnsAt 
 pub granted-granted_node-requires : goal.granted-granted_node-requires
 granted-granted_node-requires g t c =
     let e : place_of c.negate-plain.result ≡ place_of c.args.id = ap place_of c.negate-plain.ensures in
-    (omega (arith, e, c.decreases), (without_sign c.args.id c.negate-plain.result c.negate-plain.ensures, (omega (arith, e, c.requires.held), (c.requires.callable, c.requires.known))))
+    λ κs inside. (omega (arith, e, c.decreases), (inside, (without_sign c.args.id c.negate-plain.result c.negate-plain.ensures, (omega (arith, e, c.requires.held), (c.requires.callable, c.requires.known)))))
 
 pub granted-returns-in-Some-clause-granted : goal.granted-returns-in-Some-clause-granted
 granted-returns-in-Some-clause-granted g t c =
@@ -47,21 +47,21 @@ granted-returns-clause-known g t c =
 pub granted_node-granted_versions-requires : goal.granted_node-granted_versions-requires
 granted_node-granted_versions-requires g t c =
     let a = c.in-Some-Version in
-    (omega (arith, c.decreases), (c.keeps_the_rules.ensures.nodes, (c.requires.held, (c.requires.plain, (node_children c.args.self.now.nodes c.table.result.now c.args.id a.field-0.now a.ensures c.table.ensures (of_version a.variable) (ap variable a.field-0-is) (λ v. value_of version_cmp c.in_ok-edges-in-Some-Version.edges (v.version a.variable))
-    (λ v. ap (λ m. pick m v) a.field-0-is ∙ same_id_is _ _ (c.in_ok-edges-in-Some-Version.ensures.cases.1 (v.version a.variable))), (c.requires.callable, c.requires.known))))))
+    λ κs inside. (omega (arith, c.decreases), (inside, (c.keeps_the_rules.ensures.nodes, (c.requires.held, (c.requires.plain, (node_children c.args.self.now.nodes c.table.result.now c.args.id a.field-0.now a.ensures c.table.ensures (of_version a.variable) (ap variable a.field-0-is) (λ v. value_of version_cmp c.in_ok-edges-in-Some-Version.edges (v.version a.variable))
+    (λ v. ap (λ m. pick m v) a.field-0-is ∙ same_id_is _ _ (c.in_ok-edges-in-Some-Version.ensures.cases.1 (v.version a.variable))), (c.requires.callable, c.requires.known)))))))
 
 pub granted_node-granted_texts-requires : goal.granted_node-granted_texts-requires
 granted_node-granted_texts-requires g t c =
     let a = c.in-Some-Text in
-    (omega (arith, c.decreases), (c.keeps_the_rules.ensures.nodes, (c.requires.held, (c.requires.plain, (node_children c.args.self.now.nodes c.table.result.now c.args.id a.field-0.now a.ensures c.table.ensures (of_text a.variable) (ap variable a.field-0-is) (λ v. value_by string_bytes text_cmp c.in_ok-edges-in-Some-Text.edges (v.text a.variable))
-    (λ v. ap (λ m. pick m v) a.field-0-is ∙ text_copied a.edges c.in_ok-edges-in-Some-Text.edges c.in_ok-edges-in-Some-Text.ensures.cases.1 (v.text a.variable)), (c.requires.callable, c.requires.known))))))
+    λ κs inside. (omega (arith, c.decreases), (inside, (c.keeps_the_rules.ensures.nodes, (c.requires.held, (c.requires.plain, (node_children c.args.self.now.nodes c.table.result.now c.args.id a.field-0.now a.ensures c.table.ensures (of_text a.variable) (ap variable a.field-0-is) (λ v. value_by string_bytes text_cmp c.in_ok-edges-in-Some-Text.edges (v.text a.variable))
+    (λ v. ap (λ m. pick m v) a.field-0-is ∙ text_copied a.edges c.in_ok-edges-in-Some-Text.edges c.in_ok-edges-in-Some-Text.ensures.cases.1 (v.text a.variable)), (c.requires.callable, c.requires.known)))))))
 
 pub granted_node-granted-requires : goal.granted_node-granted-requires
 granted_node-granted-requires g t c =
     let a = c.in-Some-Truth in
     let x = a.variable in
     let b = high_below c.args.self.now.nodes c.keeps_the_rules.ensures.nodes c.args.id c.requires.held c.requires.plain x a.high a.low (half_children c.args.self.now.nodes c.table.result.now c.args.id a.field-0.now a.ensures c.table.ensures x x a.high a.low a.field-0-is refl) in
-    (omega (arith, b.0, c.decreases), (b.1, (c.requires.callable, c.requires.known)))
+    λ κs inside. (omega (arith, b.0, c.decreases), (inside, (b.1, (c.requires.callable, c.requires.known))))
 
 pub granted_node-returns-then-is_granted-clause-granted : goal.granted_node-returns-then-is_granted-clause-granted
 granted_node-returns-then-is_granted-clause-granted g t c =
@@ -78,8 +78,8 @@ granted_node-granted_truth-requires g t c =
     let x = a.variable in
     let copy = c.in_ok-variable-in-Some-Truth.variable in
     let Answers = FnReturnsAt g.F.Fn c.args.is_extra.now in
-    (omega (arith, c.decreases), (c.keeps_the_rules.ensures.nodes, (c.requires.held, (c.requires.plain, (half_children c.args.self.now.nodes c.table.result.now c.args.id a.field-0.now a.ensures c.table.ensures x copy a.high a.low a.field-0-is c.in_ok-variable-in-Some-Truth.ensures,
-    (untouched_copy Answers x copy c.in_ok-variable-in-Some-Truth.ensures (untouched Answers x c.is_granted.result c.is_granted.ensures c.if-is_granted.false), (c.requires.callable, c.requires.known)))))))
+    λ κs inside. (omega (arith, c.decreases), (inside, (c.keeps_the_rules.ensures.nodes, (c.requires.held, (c.requires.plain, (half_children c.args.self.now.nodes c.table.result.now c.args.id a.field-0.now a.ensures c.table.ensures x copy a.high a.low a.field-0-is c.in_ok-variable-in-Some-Truth.ensures,
+    (untouched_copy Answers x copy c.in_ok-variable-in-Some-Truth.ensures (untouched Answers x c.is_granted.result c.is_granted.ensures c.if-is_granted.false), (c.requires.callable, c.requires.known))))))))
 
 pub granted_node-returns-in-None-clause-granted : goal.granted_node-returns-in-None-clause-granted
 granted_node-returns-in-None-clause-granted g t c = granted_itself (FnReturnsAt g.F.Fn c.args.is_extra.now) c.args.self.now.nodes c.args.id c.requires.held (c.in-None.ensures ∙ ap (λ l. node_of l c.args.id) c.table.ensures)
@@ -87,8 +87,8 @@ granted_node-returns-in-None-clause-granted g t c = granted_itself (FnReturnsAt 
 pub granted_versions-granted_all-requires : goal.granted_versions-granted_all-requires
 granted_versions-granted_all-requires g t c =
     let x = c.args.variable in
-    (omega (arith, c.decreases), (are_under c.args.self.now.nodes c.requires.rules c.args.id c.requires.held c.requires.plain (of_version x) (λ v. value_of version_cmp c.args.edges (v.version x)) c.requires.node c.in_ok-children.children.items c.deref.result.now c.deref.ensures.value
-    (version_found x c.args.edges c.in_ok-children.children.items c.in_ok-children.ensures.inhabited), (c.requires.callable, c.requires.known)))
+    λ κs inside. (omega (arith, c.decreases), (inside, (are_under c.args.self.now.nodes c.requires.rules c.args.id c.requires.held c.requires.plain (of_version x) (λ v. value_of version_cmp c.args.edges (v.version x)) c.requires.node c.in_ok-children.children.items c.deref.result.now c.deref.ensures.value
+    (version_found x c.args.edges c.in_ok-children.children.items c.in_ok-children.ensures.inhabited), (c.requires.callable, c.requires.known))))
 
 pub granted_versions-place_versions-requires-clause-children : goal.granted_versions-place_versions-requires-clause-children
 granted_versions-place_versions-requires-clause-children g t c =
@@ -111,8 +111,8 @@ granted_versions-returns-clause-known g t c = known_kept (FnReturnsAt g.F.Fn c.a
 pub granted_texts-granted_all-requires : goal.granted_texts-granted_all-requires
 granted_texts-granted_all-requires g t c =
     let x = c.args.variable in
-    (omega (arith, c.decreases), (are_under c.args.self.now.nodes c.requires.rules c.args.id c.requires.held c.requires.plain (of_text x) (λ v. value_by string_bytes text_cmp c.args.edges (v.text x)) c.requires.node c.in_ok-children.children.items c.deref.result.now c.deref.ensures.value
-    (text_found x c.args.edges c.in_ok-children.children.items c.in_ok-children.ensures.inhabited), (c.requires.callable, c.requires.known)))
+    λ κs inside. (omega (arith, c.decreases), (inside, (are_under c.args.self.now.nodes c.requires.rules c.args.id c.requires.held c.requires.plain (of_text x) (λ v. value_by string_bytes text_cmp c.args.edges (v.text x)) c.requires.node c.in_ok-children.children.items c.deref.result.now c.deref.ensures.value
+    (text_found x c.args.edges c.in_ok-children.children.items c.in_ok-children.ensures.inhabited), (c.requires.callable, c.requires.known))))
 
 pub granted_texts-place_texts-requires-clause-children : goal.granted_texts-place_texts-requires-clause-children
 granted_texts-place_texts-requires-clause-children g t c =
@@ -135,12 +135,12 @@ granted_texts-returns-clause-known g t c = known_kept (FnReturnsAt g.F.Fn c.args
 pub granted_truth-granted-requires : goal.granted_truth-granted-requires
 granted_truth-granted-requires g t c =
     let b = high_below c.args.self.now.nodes c.requires.rules c.args.id c.requires.held c.requires.plain c.args.variable c.args.high c.args.low c.requires.node in
-    (omega (arith, b.0, c.decreases), (b.1, (c.requires.callable, c.requires.known)))
+    λ κs inside. (omega (arith, b.0, c.decreases), (inside, (b.1, (c.requires.callable, c.requires.known))))
 
 pub granted_truth-granted-requires-2 : goal.granted_truth-granted-requires-2
 granted_truth-granted-requires-2 g t c =
     let b = low_below c.args.self.now.nodes c.requires.rules c.args.id c.requires.held c.requires.plain c.args.variable c.args.high c.args.low c.requires.node in
-    (omega (arith, b.0, c.decreases), (held_kept c.args.self.now.nodes c.granted.new.self.nodes c.args.low c.granted.ensures.kept b.1, (c.requires.callable, c.granted.ensures.known)))
+    λ κs inside. (omega (arith, b.0, c.decreases), (inside, (held_kept c.args.self.now.nodes c.granted.new.self.nodes c.args.low c.granted.ensures.kept b.1, (c.requires.callable, c.granted.ensures.known))))
 
 pub granted_truth-place_truth-requires : goal.granted_truth-place_truth-requires
 granted_truth-place_truth-requires g t c =
@@ -181,7 +181,7 @@ pub granted_all-granted-requires : goal.granted_all-granted-requires
 granted_all-granted-requires g t c =
     let l = c.loop-i in
     let below : (d : NodeId) → place_of (get_or c.args.ids.now l.i d) < place_of c.args.parent = λ d. (next_under c.args.self.now.nodes l.self.nodes c.args.parent c.args.ids.now c.requires.under l.invariant.kept l.i c.loop-i-test.true d).0 in
-    (omega (arith, below, c.decreases), ((next_under c.args.self.now.nodes l.self.nodes c.args.parent c.args.ids.now c.requires.under l.invariant.kept l.i c.loop-i-test.true _).1, (c.requires.callable, l.invariant.known)))
+    λ κs inside. (omega (arith, below, c.decreases), (inside, ((next_under c.args.self.now.nodes l.self.nodes c.args.parent c.args.ids.now c.requires.under l.invariant.kept l.i c.loop-i-test.true _).1, (c.requires.callable, l.invariant.known))))
 
 pub granted_all-loop-i-preserved : goal.granted_all-loop-i-preserved
 granted_all-loop-i-preserved g t c = record {
