@@ -78,8 +78,8 @@ granted_node-granted_truth-requires g t c =
     let x = a.variable in
     let copy = c.in_ok-variable-in-Some-Truth.variable in
     let Answers = FnReturnsAt g.F.Fn c.args.is_extra.now in
-    λ κs inside. (omega (arith, c.decreases), (inside, (c.keeps_the_rules.ensures.nodes, (c.requires.held, (c.requires.plain, (half_children c.args.self.now.nodes c.table.result.now c.args.id a.field-0.now a.ensures c.table.ensures x copy a.high a.low a.field-0-is c.in_ok-variable-in-Some-Truth.ensures,
-    (untouched_copy Answers x copy c.in_ok-variable-in-Some-Truth.ensures (untouched Answers x c.is_granted.result c.is_granted.ensures c.if-is_granted.false), (c.requires.callable, c.requires.known))))))))
+    λ κs inside. (omega (arith, c.decreases), (inside, (c.keeps_the_rules.ensures.nodes, (c.requires.held, (c.requires.plain, (half_children c.args.self.now.nodes c.table.result.now c.args.id a.field-0.now a.ensures c.table.ensures x copy a.high a.low a.field-0-is c.in_ok-variable-in-Some-Truth.ensures.cases,
+    (untouched_copy Answers x copy c.in_ok-variable-in-Some-Truth.ensures.cases (untouched Answers x c.is_granted.result c.is_granted.ensures c.if-is_granted.false), (c.requires.callable, c.requires.known))))))))
 
 pub granted_node-returns-in-None-clause-granted : goal.granted_node-returns-in-None-clause-granted
 granted_node-returns-in-None-clause-granted g t c = granted_itself (FnReturnsAt g.F.Fn c.args.is_extra.now) c.args.self.now.nodes c.args.id c.requires.held (c.in-None.ensures ∙ ap (λ l. node_of l c.args.id) c.table.ensures)
