@@ -5,6 +5,7 @@ pub mod CountLaws
 pub mod Descents
 pub mod Disjoints
 pub mod Firsts
+pub mod Grants
 pub mod NeighborLaws
 pub mod PairLaws
 pub mod PossibleLaws
