@@ -4,7 +4,7 @@ use Rattle.std.specs.Map.{lookup}
 use lib.Dec.{eqb}
 use denote.Enum.Bare.{sameb, same_true}
 use Rattle.std.specs.Prelude.{slice_get}
-use Rattle.std.specs.Ordering.{is_eq}
+use Rattle.std.specs.Ordering.{is_eq, eq_by_cmp}
 use Rattle.std.specs.declared.cmp.Ordering.TheVariants.{Less, Equal}
 use Rattle.std.specs.declared.ops.Bound.{Bound}
 use Rattle.std.proofs.lemmas.Bool.{true≢false, eqb-true}
@@ -40,6 +40,10 @@ use Rattle.marker_graph.proofs.RangeLaws.{assumes_same, assumes_signed, assumes_
 
 abbrev python : Variable
 python = of_version PythonFullVersion
+
+-- the children of a node by the values of a version variable
+abbrev Edges : Type 0
+Edges = Cuts Parts NodeId (record { cmp = version_cmp }) (record { eq = eq_by_cmp version_cmp }) (record { partial_cmp = λ a b. Some (version_cmp a b) })
 
 -- a valuation at a point
 abbrev version_at : Point Parts → Valuation
@@ -82,7 +86,7 @@ version_other PythonFullVersion PythonFullVersion h = absurd (true≢false h)
 
 module _ (nodes : List Node) (t : NodeId) (x : VersionVariable) where
   -- it asks about the variable
-  pub version_node : {g1 : _} {h1 : _} {i1 : _} (asked : VersionVariable) (edges : Cuts Parts NodeId g1 h1 i1) (n : Node) → Some n ≡ node_of nodes t → n ≡ Version asked edges → sameb version_type asked x ≡ true → node_of nodes t ≡ Some (Version x edges)
+  pub version_node : (asked : VersionVariable) (edges : Edges) (n : Node) → Some n ≡ node_of nodes t → n ≡ Version asked edges → sameb version_type asked x ≡ true → node_of nodes t ≡ Some (Version x edges)
   version_node asked edges n e f h = sym e ∙ ap Some (f ∙ ap (λ y. Version y edges) (same_true version_type tt asked x h))
 
   -- or about another one
@@ -106,7 +110,7 @@ module _ (nodes : List Node) (store : IsStore markers nodes) (lower upper : Boun
   assumed_itself h = record { held = held; means = assumes_unseen lower upper p i (truth markers nodes t) (python_unseen t h); after = λ x g. g }
 
   -- ---- a node on the Python version
-  module _ {g1 : _} {h1 : _} {i1 : _} {g2 : _} {h2 : _} {i2 : _} (edges : Cuts Parts NodeId g1 h1 i1) (new : Cuts Parts NodeId g2 h2 i2) (stands : node_of nodes t ≡ Some (Version PythonFullVersion edges))
+  module _ (edges new : Edges) (stands : node_of nodes t ≡ Some (Version PythonFullVersion edges))
       (clamped : IsClamped version_cmp lower upper same_id (value_of version_cmp edges) (value_of version_cmp new)) where
     old_held : (q : Point Parts) → IsHeld nodes (value_of version_cmp edges q)
     old_held q = let h : place_of (value_of version_cmp edges q) < place_of t = (store.node (place_of t) (Version PythonFullVersion edges) stands).below (version_at q) in omega arith
@@ -138,7 +142,7 @@ module _ (nodes : List Node) (store : IsStore markers nodes) (lower upper : Boun
     }
 
   -- ---- a node on the implementation's version
-  module _ {g1 : _} {h1 : _} {i1 : _} (edges : Cuts Parts NodeId g1 h1 i1) (stands : node_of nodes t ≡ Some (Version ImplementationVersion edges)) where
+  module _ (edges : Edges) (stands : node_of nodes t ≡ Some (Version ImplementationVersion edges)) where
     child_held : (q : Point Parts) → IsHeld nodes (value_of version_cmp edges q)
     child_held q = let h : place_of (value_of version_cmp edges q) < place_of t = (store.node (place_of t) (Version ImplementationVersion edges) stands).below (version_at q) in omega arith
 
@@ -195,7 +199,7 @@ made_at mid lower upper edges copy children made same listed len are q =
     (are j (value_of version_cmp copy q) (child_at made j) (listed q) (slice_get-get_or made j TRUE (omega arith)))
 
 -- the children of a node on the implementation's version, as they are listed
-pub children_later : {g1 : _} {h1 : _} {i1 : _} {g2 : _} {h2 : _} {i2 : _} (nodes : List Node) (store : IsStore markers nodes) (t : NodeId) (held : IsHeld nodes t) (edges : Cuts Parts NodeId g1 h1 i1) (copy : Cuts Parts NodeId g2 h2 i2) →
+pub children_later : {a : _} {b : _} {c : _} (nodes : List Node) (store : IsStore markers nodes) (t : NodeId) (held : IsHeld nodes t) (edges : Edges) (copy : Cuts Parts NodeId a b c) →
     node_of nodes t ≡ Some (Version ImplementationVersion edges) → ((q : Point Parts) → same_id (value_of version_cmp edges q) (value_of version_cmp copy q) ≡ true) → (children given : List NodeId) → given ≡ children →
     ((j : ℕ) (w : NodeId) → slice_get children j ≡ Some w → (q : Point Parts) × (value_of version_cmp copy q ≡ w)) → AreLater nodes (of_version ImplementationVersion) given
 children_later nodes store t held edges copy stands same children given e found j u f =

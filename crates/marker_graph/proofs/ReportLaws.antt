@@ -1,17 +1,28 @@
 -- Warnings of comparisons by order, one after another.
-use Rattle.std.proofs.Common.{◌≡◌, ℕ, zero, suc, ◌<◌, List, [], ◌∷◌, ◌++◌, map, length, get_or, Option, Some, All, sym, ap, ◌∙◌, subst, arith}
+use Rattle.std.proofs.Common.{◌≡◌, ℕ, zero, suc, ◌<◌, List, [], ◌∷◌, ◌++◌, map, length, get_or, Option, Some, None, All, sym, ap, ◌∙◌, subst, append_assoc, append-nil, arith}
 use Rattle.std.specs.Prelude.{String}
 use Rattle.std.specs.Global.{Global}
 use Rattle.std.proofs.lemmas.List.Elements.{All-nil, All-append}
 use Rattle.marker_warnings.specs.declared.warning.MarkerWarningKind.{MarkerWarningKind}
 use Rattle.marker_warnings.specs.declared.warning.MarkerWarningKind.TheVariants.{LexicographicComparison}
-use Rattle.marker_parts.proofs.WholeLaws.{adds_nothing, adds_more}
+use Rattle.marker_warnings.specs.Kinds.{Adds}
 use Rattle.marker_diagrams.proofs.NodeLaws.{same_some}
 use Rattle.marker_graph.specs.Report.{AddsComparisons}
 
 -- a warning of such a comparison
 abbrev IsComparison : MarkerWarningKind → Type 0
 IsComparison kind = kind ≡ LexicographicComparison
+
+-- the same kinds, and more of them
+adds_nothing : (kinds : Option (List MarkerWarningKind)) → Adds kinds kinds []
+adds_nothing None = tt
+adds_nothing (Some told) = ap Some (sym (append-nil told))
+
+adds_more : (a b c : Option (List MarkerWarningKind)) (ks ls : List MarkerWarningKind) → Adds a b ks → Adds b c ls → Adds a c (ks ++ ls)
+adds_more None b c ks ls h k = tt
+adds_more (Some told) b c ks ls h k =
+    let there : Adds (Some (told ++ ks)) c ls = subst (λ (x : Option (List MarkerWarningKind)). Adds x c ls) h k in
+    there ∙ ap Some (append_assoc told ks ls)
 
 -- nothing was told
 pub compared_nothing : (kinds : Option (List MarkerWarningKind)) → AddsComparisons kinds kinds

@@ -4,6 +4,7 @@ ghost use Rattle.std.specs.Prelude.{◌≡◌, false, length, true, IfNone, IfOk
 ghost use Rattle.std.specs.Ordering.{is_eq};
 ghost use Rattle.std.specs.declared.ops.Bound.TheVariants.{Unbounded};
 ghost use Rattle.std.specs.Range.Bound.{bound_map};
+ghost use Rattle.version_ranges.specs.Point.{Point};
 ghost use Rattle.pep440_version.specs.Parts.{Parts};
 ghost use Rattle.pep440_version.specs.Order.{trimmed_parts};
 ghost use Rattle.marker_words.specs.declared.key.VersionVariable.TheVariants as versions;
