@@ -13,7 +13,7 @@ returns-in-Run c =
 
 pub returns-in-Evaluate : goal.returns-in-Evaluate
 returns-in-Evaluate c =
-    on_ok_weaker c.evaluate.result (λ w. (w.0, for_request (ap request_of c.in-Evaluate.is ∙ ap (λ x. evaluate c.in-Evaluate.cell (texts_of x)) (sym c.deref.ensures.value)) w.1, w.2)) c.evaluate.ensures
+    on_ok_weaker c.evaluate.result (λ w. (w.0, for_request (ap request_of c.in-Evaluate.is ∙ ap (λ x. evaluate c.in-Evaluate.cell (texts_of x)) (sym c.deref-in-Evaluate.ensures.value)) w.1, w.2)) c.evaluate.ensures
 
 pub returns-in-Set : goal.returns-in-Set
 returns-in-Set c =
@@ -21,7 +21,7 @@ returns-in-Set c =
 
 pub returns-in-Extras : goal.returns-in-Extras
 returns-in-Extras c =
-    on_ok_weaker c.grant_extras.result (λ w. (w.0, for_request (ap request_of c.in-Extras.is ∙ ap (λ x. extras c.in-Extras.cell (texts_of x)) (sym c.deref-in-Extras.ensures.value)) w.1, w.2)) c.grant_extras.ensures
+    on_ok_weaker c.grant_extras.result (λ w. (w.0, for_request (ap request_of c.in-Extras.is ∙ ap (λ x. extras c.in-Extras.cell (texts_of x)) (sym c.deref.ensures.value)) w.1, w.2)) c.grant_extras.ensures
 
 pub returns-in-Possible : goal.returns-in-Possible
 returns-in-Possible c =
