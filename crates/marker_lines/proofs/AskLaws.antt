@@ -1,8 +1,9 @@
 -- What a line asks is one thing: the line's first word tells the form.
-use Rattle.std.proofs.Common.{◌≡◌, ◌≢◌, ℕ, Bool, true, false, nat_eq, List, [], ◌∷◌, drop, refl, sym, ap, ◌∙◌, subst, get_or, Result, Ok, Err}
+use Rattle.std.proofs.Common.{◌≡◌, ◌≢◌, ℕ, Bool, true, false, nat_eq, List, [], ◌∷◌, drop, refl, sym, ap, ◌∙◌, subst, get_or, Result, Ok, Err, Option, Some, None, MatchOption, Bor}
 use Rattle.std.specs.declared.ops.Bound.{Bound}
 use Rattle.std.specs.declared.ops.Bound.TheVariants.{Included, Excluded, Unbounded}
 use Rattle.std.specs.Result.{IfOk}
+use Rattle.std.specs.Option.{is_some}
 use Rattle.std.specs.Prelude.{◌&&◌, not, if◌then◌else◌}
 use Rattle.std.specs.Str.Parse.{IsNumeral}
 use Rattle.std.proofs.lemmas.Bool.{eq-eqb, false≢true}
@@ -209,3 +210,31 @@ module _ {text : List ℕ} {left right : ℕ} (first second : List ℕ) (h : Has
 
   pub second_digits : IsNumeral 10 second
   second_digits = subst (IsNumeral 10) (sym here.1) p.is_right.digits
+
+-- ---- a cell and two bounds
+pub no_bounds : {text : List ℕ} {cell : ℕ} {lower upper : Bound (List ℕ)} → HasNoSpace text → CellAndBounds text cell lower upper → ⊥
+no_bounds {lower = lower} {upper = upper} h p = spaced_has p.number (spaced (written_bound lower) (written_bound upper)) (subst HasNoSpace p.parts h)
+
+module _ {text : List ℕ} {cell : ℕ} {lower upper : Bound (List ℕ)} (number bounds : List ℕ) (h : HasNoSpace number) (e : text ≡ spaced number bounds) (p : CellAndBounds text cell lower upper) where
+  behind : (number ≡ p.number) × (bounds ≡ spaced (written_bound lower) (written_bound upper))
+  behind = spaced_same number p.number bounds (spaced (written_bound lower) (written_bound upper)) h (numeral_no_space p.number p.is_cell.digits) (sym e ∙ p.parts)
+
+  pub one_bound : HasNoSpace bounds → ⊥
+  one_bound k = spaced_has (written_bound lower) (written_bound upper) (subst HasNoSpace behind.1 k)
+
+  pub cell_digits : IsNumeral 10 number
+  cell_digits = subst (IsNumeral 10) (sym behind.0) p.is_cell.digits
+
+  module _ (first second : List ℕ) (k : HasNoSpace first) (f : bounds ≡ spaced first second) where
+    both_bounds : (first ≡ written_bound lower) × (second ≡ written_bound upper)
+    both_bounds = spaced_same first (written_bound lower) second (written_bound upper) k p.lower_word (sym f ∙ behind.1)
+
+    pub lower_written : first ≡ written_bound lower
+    lower_written = both_bounds.0
+
+    pub upper_written : second ≡ written_bound upper
+    upper_written = both_bounds.1
+
+    pub third_word : (cut : Option (Bor (List ℕ) × Bor (List ℕ))) → is_some cut ≡ true → MatchOption cut (HasNoSpace second) (λ parts. HasNoSpace parts.0.now × (second ≡ spaced parts.0.now parts.1.now)) → ⊥
+    third_word None is m = absurd (false≢true is)
+    third_word (Some parts) is m = spaced_has parts.0.now parts.1.now (subst HasNoSpace (sym both_bounds.1 ∙ m.1) p.upper_word)
