@@ -55,3 +55,13 @@ returns-in-Some-cell_and_bounds-2-clause-takes c = rw c.in-Complexify.is (requir
 
 pub returns-in-None-cell_and_bounds-2-clause-malformed : goal.returns-in-None-cell_and_bounds-2-clause-malformed
 returns-in-None-cell_and_bounds-2-clause-malformed c = λ e request t. not_required c.in-None-cell_and_bounds-2.ensures (subst (λ w. Takes w c.args.text.now request) c.in-Complexify.is t)
+
+pub returns-in_ok-cell-in-Extras-clause-takes : goal.returns-in_ok-cell-in-Extras-clause-takes
+returns-in_ok-cell-in-Extras-clause-takes c =
+    let r = c.in_ok-cell-in-Extras.ensures.read in
+    rw c.in-Extras.is (takes_extras c.in_ok-cell-in-Extras.cell r.1 r.2 r.3)
+
+pub returns-in_ok-cell-in-Possible-clause-takes : goal.returns-in_ok-cell-in-Possible-clause-takes
+returns-in_ok-cell-in-Possible-clause-takes c =
+    let r = c.in_ok-cell-in-Possible.ensures.read in
+    rw c.in-Possible.is (takes_search c.in_ok-cell-in-Possible.cell r.1 r.2 r.3)
