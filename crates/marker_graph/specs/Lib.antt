@@ -4,3 +4,9 @@ pub mod Count
 pub mod Tree
 pub mod Expression
 pub mod Disjoint
+pub mod Python
+pub mod Extras
+pub mod Possible
+pub mod Report
+pub mod Simplified
+pub mod Ranged

@@ -3,11 +3,12 @@
 ghost use Rattle.std.specs.Prelude.{◌≡◌, ◌↔◌, ◌<◌, ◌+◌, false, length, IfOk, IsOk, IsTrue, vec_len};
 ghost use Rattle.marker_environment.specs.Valuation.{Valuation};
 ghost use Rattle.marker_environment.specs.Environment.{valuation_of, values_of};
+ghost use Rattle.version_ranges.specs.Cuts.{piece_count};
 ghost use Rattle.marker_diagrams.specs.Diagram.{IsStore};
 ghost use Rattle.marker_diagrams.specs.Diagram as diagram;
 ghost use Rattle.marker_diagrams.specs.Id.{place_of};
 ghost use Rattle.marker_nodes.specs.Variable.{of_version, of_text, truth_variable, answer};
-ghost use Rattle.marker_nodes.specs.Node.{markers, pick, variable};
+ghost use Rattle.marker_nodes.specs.Node.{markers, pick, text_child, truth_child, variable, version_child};
 ghost use Rattle.marker_graph.specs.Contents.{nothing, IsAnd, IsHeld, IsKept, IsWellKept, Separated};
 ghost use Rattle.marker_graph.specs.Branch.{AreAnds, AreBelow, IsFirst};
 ghost use Rattle.marker_graph.specs.Count.{IsCounted, IsShort, Spends};
@@ -20,10 +21,12 @@ use crate::tree::MarkerTree;
 use marker_environment::MarkerEnvironment;
 use marker_nodes::{Node, NodeId, NodeTable, TruthVariable};
 use marker_words::{TextVariable, VersionVariable};
+use pep440_version::Version;
 use pep508_names::ExtraName;
 use std::alloc::{AllocError, Global};
 use std::collections::HashMap;
 use std::marker::Model;
+use version_ranges::Cuts;
 
 /// The nodes of many markers, and the conjunctions that were computed.
 ///
@@ -293,6 +296,66 @@ impl Interner {
         let placed = self.nodes.place(node);
         self.nodes.keeps_the_rules();
         placed
+    }
+
+    // As `place`, of the node that has these children on the pieces of the versions.
+    pub(crate) fn place_versions(
+        &mut self,
+        variable: VersionVariable,
+        pieces: Cuts<Version, NodeId>,
+        children: Vec<NodeId>,
+    ) -> Result<NodeId, AllocError>
+        requires count { vec_len children ≡ piece_count pieces }
+        requires children { diagram.AreChildren markers self.old.nodes (of_version variable) (version_child variable pieces children.items) }
+        ensures kept { IsKept self.old self.new }
+        ensures rules { IsStore markers self.new.nodes }
+        ensures id { IfOk result (diagram.IsChoice markers self.new.nodes (of_version variable) (version_child variable pieces children.items)) }
+    {
+        let placed = self.nodes.place_versions(variable, pieces, children);
+        self.nodes.keeps_the_rules();
+        placed
+    }
+
+    // As `place`, of the node that has these children on the pieces of the texts.
+    pub(crate) fn place_texts(
+        &mut self,
+        variable: TextVariable,
+        pieces: Cuts<String, NodeId>,
+        children: Vec<NodeId>,
+    ) -> Result<NodeId, AllocError>
+        requires count { vec_len children ≡ piece_count pieces }
+        requires children { diagram.AreChildren markers self.old.nodes (of_text variable) (text_child variable pieces children.items) }
+        ensures kept { IsKept self.old self.new }
+        ensures rules { IsStore markers self.new.nodes }
+        ensures id { IfOk result (diagram.IsChoice markers self.new.nodes (of_text variable) (text_child variable pieces children.items)) }
+    {
+        let placed = self.nodes.place_texts(variable, pieces, children);
+        self.nodes.keeps_the_rules();
+        placed
+    }
+
+    // As `place`, of the node that has the child `high` where it is so and `low` where it is not.
+    pub(crate) fn place_truth(
+        &mut self,
+        variable: TruthVariable,
+        high: NodeId,
+        low: NodeId,
+    ) -> Result<NodeId, AllocError>
+        requires { diagram.AreChildren markers self.old.nodes (truth_variable variable) (truth_child variable high low) }
+        ensures kept { IsKept self.old self.new }
+        ensures rules { IsStore markers self.new.nodes }
+        ensures id { IfOk result (diagram.IsChoice markers self.new.nodes (truth_variable variable) (truth_child variable high low)) }
+    {
+        let placed = self.nodes.place_truth(variable, high, low);
+        self.nodes.keeps_the_rules();
+        placed
+    }
+
+    // The nodes.
+    pub(crate) fn table(&self) -> &NodeTable
+        ensures { result.now ≡ self.now.nodes }
+    {
+        &self.nodes
     }
 }
 

@@ -4,6 +4,8 @@
 ghost use Rattle.std.specs.Prelude.{◌≡◌, ◌≢◌, ◌+◌, ◌*◌, ◌≤◌, ◌&&◌, ℕ, Bool, false, true, List, [], ◌∷◌, Some, length};
 ghost use Rattle.std.specs.Ordering.{is_lt};
 ghost use Rattle.marker_words.specs.declared.key.MarkerValueString.{MarkerValueString};
+ghost use Rattle.std.specs.declared.ops.Bound.{Bound};
+ghost use Rattle.pep440_version.specs.Parts.{Parts};
 ghost use Rattle.marker_environment.specs.Valuation.{Valuation};
 ghost use Rattle.marker_diagrams.specs.Diagram.{IsStore};
 ghost use Rattle.marker_nodes.specs.declared.node.Node.{Node};
@@ -12,6 +14,8 @@ ghost use Rattle.marker_nodes.specs.Node.{markers, pick, variable};
 ghost use Rattle.marker_graph.specs.declared.tree.TheConstants.MarkerTree.{TRUE, FALSE};
 ghost use Rattle.marker_graph.specs.Contents.{Contents, IsHeld, IsKept, truth};
 ghost use Rattle.marker_graph.specs.Tree.{negation, node_of, piece, text_is, extra_is, DependsOn, HasExactly, HasSubtrees, IsConjunction, IsDisjunction, IsMarkerOf, IsResidue, IsSubtree, LooksAt};
+ghost use Rattle.marker_graph.specs.Python.{AgreeInside, is_python_in};
+ghost use Rattle.marker_graph.specs.Ranged.{IsAssumption, IsRequirement};
 
 use crate::tree::MarkerTree;
 
@@ -136,4 +140,28 @@ pub fn conjunction_with_an_extra_has_four_subtrees()
     ensures subtrees { (c : Contents) → IsStore markers c.nodes → (key : MarkerValueString) (value name : List ℕ) (t e : MarkerTree)
         → IsMarkerOf c (λ v. text_is key value v && extra_is name v) t → IsMarkerOf c (extra_is name) e
         → HasExactly c t (t ∷ e ∷ TRUE ∷ FALSE ∷ []) }
+{}
+
+/// Two markers are equal where a range of Python versions is taken for granted exactly when they agree wherever the Python
+/// version lies in the range: this is so for every range, also for one that has no point.
+pub fn assumed_markers_are_equal_where_they_agree()
+    ensures equal { (c : Contents) → IsStore markers c.nodes → (lower upper : Bound Parts) (a b s t : MarkerTree)
+        → IsAssumption c lower upper a s → IsAssumption c lower upper b t
+        → AgreeInside lower upper (truth c a) (truth c b) → s ≡ t }
+    ensures agree { (c : Contents) → IsStore markers c.nodes → (lower upper : Bound Parts) (a b s t : MarkerTree)
+        → IsAssumption c lower upper a s → IsAssumption c lower upper b t
+        → s ≡ t → AgreeInside lower upper (truth c a) (truth c b) }
+{}
+
+/// What a marker is where a range of Python versions is taken for granted stays so as the interner grows.
+pub fn assumptions_stay()
+    ensures { (old new : Contents) → IsKept old new → (lower upper : Bound Parts) (a t : MarkerTree) → IsHeld old a
+        → IsAssumption old lower upper a t → IsAssumption new lower upper a t }
+{}
+
+/// The conjunction of a marker with a range of Python versions is the tree of `and`: all trees of it are one.
+pub fn required_markers_are_equal()
+    ensures { (c : Contents) → IsStore markers c.nodes → (lower upper : Bound Parts) (a range s t : MarkerTree)
+        → ((v : Valuation) → truth c range v ≡ is_python_in lower upper v) → IsRequirement c lower upper a s
+        → IsConjunction c a range t → s ≡ t }
 {}

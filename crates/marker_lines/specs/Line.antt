@@ -2,9 +2,11 @@
 -- without its line feed, as bytes.
 use Rattle.std.specs.Prelude.{◌≡◌, ◌≢◌, ℕ, ◌-◌, ◌^◌, min, List, [], ◌∷◌, ◌++◌, All, codes}
 use Rattle.std.specs.Str.Parse.{IsNumeral, digits_value}
+use Rattle.std.specs.declared.ops.Bound.{Bound}
+use Rattle.std.specs.declared.ops.Bound.TheVariants.{Included, Excluded, Unbounded}
 use Rattle.marker_session.specs.Machine as Machine
 use Rattle.marker_lines.specs.declared.word.Word.{Word}
-use Rattle.marker_lines.specs.declared.word.Word.TheVariants.{Env, Parse, Not, And, Or, Equal, Disjoint, Eval}
+use Rattle.marker_lines.specs.declared.word.Word.TheVariants.{Env, Parse, Not, And, Or, Simplify, Complexify, Extras, Equal, Disjoint, Eval, Possible}
 
 -- a space, and what comes before and after it
 abbrev pub spaced : List ℕ → List ℕ → List ℕ
@@ -42,12 +44,31 @@ pub record TwoCells (text : List ℕ) (left right : ℕ) : Type 0 where
   pub is_left : OneCell first left
   pub is_right : OneCell second right
 
+-- how a bound is written, with the text of its version
+abbrev pub written_bound : Bound (List ℕ) → List ℕ
+written_bound (Included version) = codes "incl:" ++ version
+written_bound (Excluded version) = codes "excl:" ++ version
+written_bound Unbounded = codes "none"
+
+-- the text is the number of this cell and these two bounds, parted by one space each
+pub record CellAndBounds (text : List ℕ) (cell : ℕ) (lower upper : Bound (List ℕ)) : Type 0 where
+  pub number : List ℕ
+  pub parts : text ≡ spaced number (spaced (written_bound lower) (written_bound upper))
+  pub is_cell : OneCell number cell
+  pub lower_word : HasNoSpace (written_bound lower)
+  pub upper_word : HasNoSpace (written_bound upper)
+
 -- what a line may ask
 pub data Request : Type 0 where
   set : (key value : List ℕ) → Request
   -- what the machine is asked as it stands
   run : Machine.Request → Request
+  -- bounds with the texts of their versions
+  simplify : (cell : ℕ) (lower upper : Bound (List ℕ)) → Request
+  complexify : (cell : ℕ) (lower upper : Bound (List ℕ)) → Request
+  extras : (cell : ℕ) (names : List (List ℕ)) → Request
   evaluate : (cell : ℕ) (names : List (List ℕ)) → Request
+  possible : (cell : ℕ) (names : List (List ℕ)) → Request
 
 abbrev pub word_text : Word → List ℕ
 word_text Env = codes "env"
@@ -55,9 +76,13 @@ word_text Parse = codes "parse"
 word_text Not = codes "not"
 word_text And = codes "and"
 word_text Or = codes "or"
+word_text Simplify = codes "simplify"
+word_text Complexify = codes "complexify"
+word_text Extras = codes "extras"
 word_text Equal = codes "equal"
 word_text Disjoint = codes "disjoint"
 word_text Eval = codes "eval"
+word_text Possible = codes "possible"
 
 -- Behind this word the text asks this.
 pub data Takes : Word → List ℕ → Request → Type 0 where
@@ -71,8 +96,13 @@ pub data Takes : Word → List ℕ → Request → Type 0 where
   either : {text : List ℕ} {left right : ℕ} → TwoCells text left right → Takes Or text (run (Machine.disjunction left right))
   compared : {text : List ℕ} {left right : ℕ} → TwoCells text left right → Takes Equal text (run (Machine.equal left right))
   parted : {text : List ℕ} {left right : ℕ} → TwoCells text left right → Takes Disjoint text (run (Machine.disjoint left right))
-  -- eval A NAME ..
+  -- simplify A LOWER UPPER, complexify A LOWER UPPER
+  assumed : {text : List ℕ} {cell : ℕ} {lower upper : Bound (List ℕ)} → CellAndBounds text cell lower upper → Takes Simplify text (simplify cell lower upper)
+  required : {text : List ℕ} {cell : ℕ} {lower upper : Bound (List ℕ)} → CellAndBounds text cell lower upper → Takes Complexify text (complexify cell lower upper)
+  -- extras A NAME .., eval A NAME .., possible A NAME ..
+  granted : {text cell : List ℕ} {names : List (List ℕ)} → Words text (cell ∷ names) → IsNumeral 10 cell → Takes Extras text (extras (cell_number cell) names)
   cell_and_names : {text cell : List ℕ} {names : List (List ℕ)} → Words text (cell ∷ names) → IsNumeral 10 cell → Takes Eval text (evaluate (cell_number cell) names)
+  searched : {text cell : List ℕ} {names : List (List ℕ)} → Words text (cell ∷ names) → IsNumeral 10 cell → Takes Possible text (possible (cell_number cell) names)
 
 -- The line asks this. A line of no such form is malformed.
 pub record Asks (line : List ℕ) (request : Request) : Type 0 where

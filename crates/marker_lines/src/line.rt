@@ -4,12 +4,14 @@ ghost use Rattle.std.specs.Prelude.{◌≡◌, ◌≢◌, ◌<◌, ◌↔◌, �
 ghost use Rattle.std.specs.Int.{IsInRange};
 ghost use Rattle.std.specs.Str.{IsUtf8};
 ghost use Rattle.std.specs.Str.Parse.{IsNumeral};
-ghost use Rattle.marker_lines.specs.Line.{HasNoSpace, Words, Request, Asks, Takes, TwoCells, cell_number, spaced};
-ghost use Rattle.marker_lines.specs.LineView.{texts_of, request_of};
+ghost use Rattle.std.specs.declared.ops.Bound.{Bound};
+ghost use Rattle.marker_lines.specs.Line.{HasNoSpace, Words, Request, Asks, Takes, TwoCells, CellAndBounds, cell_number, spaced, written_bound};
+ghost use Rattle.marker_lines.specs.LineView.{bound_text_of, texts_of, request_of};
 
 use crate::word::Word;
 use marker_session::Command;
 use std::alloc::Global;
+use std::ops::Bound;
 
 /// Why a line asks nothing.
 #[derive(Clone, Copy, Debug, PartialEq, Eq, Hash)]
@@ -28,12 +30,40 @@ pub enum LineFault {
 #[derive(Debug, Drop)]
 pub enum LineCommand<'a> {
     /// `env KEY VALUE`, the value being the rest of the line as it is.
-    Set { key: &'a str, value: &'a str },
+    Set {
+        key: &'a str,
+        value: &'a str,
+    },
     /// `parse TEXT`, the text being the rest of the line as it is, `not A`, `and A B`, `or A B`,
     /// `equal A B` or `disjoint A B`.
     Run(Command<'a>),
+    /// `simplify A LOWER UPPER`, where a bound is `none`, `incl:V` or `excl:V` with the text of a version.
+    Simplify {
+        cell: usize,
+        lower: Bound<&'a str>,
+        upper: Bound<&'a str>,
+    },
+    /// `complexify A LOWER UPPER`, with such bounds.
+    Complexify {
+        cell: usize,
+        lower: Bound<&'a str>,
+        upper: Bound<&'a str>,
+    },
+    /// `extras A NAME ..`, with any number of names.
+    Extras {
+        cell: usize,
+        names: Vec<&'a str>,
+    },
     /// `eval A NAME ..`, with any number of names.
-    Evaluate { cell: usize, names: Vec<&'a str> },
+    Evaluate {
+        cell: usize,
+        names: Vec<&'a str>,
+    },
+    /// `possible A NAME ..`, with any number of names.
+    Possible {
+        cell: usize,
+        names: Vec<&'a str>,
+    },
 }
 
 impl<'a> LineCommand<'a> {
@@ -87,6 +117,18 @@ fn read_behind<'a>(alloc: Global, word: Word, text: &'a str) -> Result<LineComma
             Some((left, right)) => Ok(LineCommand::Run(Command::Or(left, right))),
             None => Err(LineFault::Malformed),
         },
+        Word::Simplify => match cell_and_bounds(text) {
+            Some((cell, lower, upper)) => Ok(LineCommand::Simplify { cell, lower, upper }),
+            None => Err(LineFault::Malformed),
+        },
+        Word::Complexify => match cell_and_bounds(text) {
+            Some((cell, lower, upper)) => Ok(LineCommand::Complexify { cell, lower, upper }),
+            None => Err(LineFault::Malformed),
+        },
+        Word::Extras => {
+            let (cell, names) = cell_and_names(alloc, text)?;
+            Ok(LineCommand::Extras { cell, names })
+        }
         Word::Equal => match two_cells(text) {
             Some((left, right)) => Ok(LineCommand::Run(Command::Equal(left, right))),
             None => Err(LineFault::Malformed),
@@ -98,6 +140,10 @@ fn read_behind<'a>(alloc: Global, word: Word, text: &'a str) -> Result<LineComma
         Word::Eval => {
             let (cell, names) = cell_and_names(alloc, text)?;
             Ok(LineCommand::Evaluate { cell, names })
+        }
+        Word::Possible => {
+            let (cell, names) = cell_and_names(alloc, text)?;
+            Ok(LineCommand::Possible { cell, names })
         }
     }
 }
@@ -116,6 +162,48 @@ fn two_cells(text: &str) -> Option<(usize, usize)>
         return None;
     };
     Some((left, right))
+}
+
+// The number of a cell, and two bounds.
+fn cell_and_bounds(text: &str) -> Option<(usize, Bound<&str>, Bound<&str>)>
+    ensures { MatchOption result ((cell : ℕ) (lower upper : Bound (List ℕ)) → CellAndBounds text.now cell lower upper → ⊥)
+        (λ read. CellAndBounds text.now read.0 (bound_text_of read.1) (bound_text_of read.2)) }
+{
+    let Some((number, bounds)) = split_word(text) else {
+        return None;
+    };
+    let Some((first, second)) = split_word(bounds) else {
+        return None;
+    };
+    if split_word(second).is_some() {
+        return None;
+    }
+    let Some(cell) = read_cell(number) else {
+        return None;
+    };
+    let Some(lower) = read_bound(first) else {
+        return None;
+    };
+    let Some(upper) = read_bound(second) else {
+        return None;
+    };
+    Some((cell, lower, upper))
+}
+
+// The bound that a word is, with the text of its version.
+fn read_bound(word: &str) -> Option<Bound<&str>>
+    ensures { MatchOption result ((bound : Bound (List ℕ)) → word.now ≡ written_bound bound → ⊥) (λ bound. word.now ≡ written_bound (bound_text_of bound)) }
+{
+    if word == "none" {
+        return Some(Bound::Unbounded);
+    }
+    if let Some(version) = word.strip_prefix("incl:") {
+        return Some(Bound::Included(version));
+    }
+    if let Some(version) = word.strip_prefix("excl:") {
+        return Some(Bound::Excluded(version));
+    }
+    None
 }
 
 // The number of a cell, and any number of names.

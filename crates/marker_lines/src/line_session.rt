@@ -9,9 +9,10 @@ ghost use Rattle.marker_words.specs.declared.key.MarkerValueVersion.{MarkerValue
 ghost use Rattle.marker_words.specs.Key.{variable_name, version_key_name};
 ghost use Rattle.marker_environment.specs.Written.{Says, written};
 ghost use Rattle.marker_environment.specs.Environment.{values_of};
-ghost use Rattle.marker_lines.specs.Line.{Request, set, evaluate};
-ghost use Rattle.marker_lines.specs.LineView.{texts_of, request_of};
-ghost use Rattle.marker_lines.specs.LineStep.{State, start, zero_version, Names, RequestStep, LineStep};
+ghost use Rattle.std.specs.declared.ops.Bound.{Bound};
+ghost use Rattle.marker_lines.specs.Line.{Request, set, simplify, complexify, extras, evaluate, possible};
+ghost use Rattle.marker_lines.specs.LineView.{bound_text_of, texts_of, request_of};
+ghost use Rattle.marker_lines.specs.LineStep.{State, start, zero_version, Names, SaysBound, RequestStep, LineStep};
 ghost use Rattle.marker_lines.specs.Lines.{WholeLines, Lines, LinesSoFar};
 ghost use Rattle.marker_lines.specs.Serving.{Answers, AnswersBeginning};
 ghost use Rattle.marker_lines.specs.SessionView.{state_of};
@@ -25,9 +26,11 @@ use crate::source::Source;
 use marker_parts::{MarkerEnvironment, MarkerEnvironmentBuilder, Refusal, StringVersion};
 use marker_session::{Command, Session};
 use marker_words::{MarkerValueVersion, TextVariable};
+use pep440_version::Version;
 use pep508_names::ExtraName;
 use std::alloc::{AllocError, Global};
 use std::mem;
+use std::ops::Bound;
 
 // A session, and the environment in which its cells are evaluated.
 #[derive(Drop)]
@@ -59,7 +62,15 @@ impl LineSession {
                 let reply = self.session.execute(command);
                 put_reply(self.alloc, replies, &reply)
             }
+            LineCommand::Simplify { cell, lower, upper } => {
+                self.simplify(cell, lower, upper, replies)
+            }
+            LineCommand::Complexify { cell, lower, upper } => {
+                self.complexify(cell, lower, upper, replies)
+            }
+            LineCommand::Extras { cell, names } => self.grant_extras(cell, &names, replies),
             LineCommand::Evaluate { cell, names } => self.evaluate(cell, &names, replies),
+            LineCommand::Possible { cell, names } => self.is_possible(cell, &names, replies),
         }
     }
 
@@ -108,6 +119,84 @@ impl LineSession {
         let reply = self
             .session
             .execute(Command::Evaluate(cell, &self.environment, &extras));
+        put_reply(self.alloc, replies, &reply)
+    }
+}
+
+impl LineSession {
+    // Makes a cell of another one, where the Python version is taken to lie in a range. Bounds are judged before the cell.
+    fn simplify(
+        &mut self,
+        cell: usize,
+        lower: Bound<&str>,
+        upper: Bound<&str>,
+        replies: &mut Vec<u8>,
+    ) -> Result<(), AllocError>
+        ensures { OnOk result ((reply : List ℕ) × RequestStep (state_of self.old) (simplify cell (bound_text_of lower.entry) (bound_text_of upper.entry)) reply (state_of self.new) × (replies.new.items ≡ replies.old.items ++ reply)) }
+    {
+        let Some(lower) = read_bound(self.alloc, lower)? else {
+            return put(replies, "error version");
+        };
+        let Some(upper) = read_bound(self.alloc, upper)? else {
+            return put(replies, "error version");
+        };
+        let command = Command::SimplifyPython(cell, lower.as_ref(), upper.as_ref());
+        let reply = self.session.execute(command);
+        put_reply(self.alloc, replies, &reply)
+    }
+
+    // Makes a cell of the conjunction of another one with a range of Python versions.
+    fn complexify(
+        &mut self,
+        cell: usize,
+        lower: Bound<&str>,
+        upper: Bound<&str>,
+        replies: &mut Vec<u8>,
+    ) -> Result<(), AllocError>
+        ensures { OnOk result ((reply : List ℕ) × RequestStep (state_of self.old) (complexify cell (bound_text_of lower.entry) (bound_text_of upper.entry)) reply (state_of self.new) × (replies.new.items ≡ replies.old.items ++ reply)) }
+    {
+        let Some(lower) = read_bound(self.alloc, lower)? else {
+            return put(replies, "error version");
+        };
+        let Some(upper) = read_bound(self.alloc, upper)? else {
+            return put(replies, "error version");
+        };
+        let command = Command::ComplexifyPython(cell, lower.as_ref(), upper.as_ref());
+        let reply = self.session.execute(command);
+        put_reply(self.alloc, replies, &reply)
+    }
+
+    // Makes a cell of another one with extras set true. Names are judged before the cell.
+    fn grant_extras(
+        &mut self,
+        cell: usize,
+        words: &[&str],
+        replies: &mut Vec<u8>,
+    ) -> Result<(), AllocError>
+        ensures { OnOk result ((reply : List ℕ) × RequestStep (state_of self.old) (extras cell (texts_of words.now)) reply (state_of self.new) × (replies.new.items ≡ replies.old.items ++ reply)) }
+    {
+        let Some(granted) = read_names(self.alloc, words)? else {
+            return put(replies, "error name");
+        };
+        let reply = self
+            .session
+            .execute(Command::SimplifyExtras(cell, &granted));
+        put_reply(self.alloc, replies, &reply)
+    }
+
+    // Tells whether a cell is true in some valuation with exactly these extras. Names are judged before the cell.
+    fn is_possible(
+        &mut self,
+        cell: usize,
+        words: &[&str],
+        replies: &mut Vec<u8>,
+    ) -> Result<(), AllocError>
+        ensures { OnOk result ((reply : List ℕ) × RequestStep (state_of self.old) (possible cell (texts_of words.now)) reply (state_of self.new) × (replies.new.items ≡ replies.old.items ++ reply)) }
+    {
+        let Some(listed) = read_names(self.alloc, words)? else {
+            return put(replies, "error name");
+        };
+        let reply = self.session.execute(Command::EvaluateExtras(cell, &listed));
         put_reply(self.alloc, replies, &reply)
     }
 }
@@ -188,6 +277,25 @@ fn read_version(alloc: Global, value: &str) -> Result<Option<StringVersion>, All
         Ok(version) => Ok(Some(version)),
         Err(Refusal::Fault(_)) => Ok(None),
         Err(Refusal::OutOfMemory | Refusal::SegmentAtEnd) => Err(AllocError),
+    }
+}
+
+// The bound with the version that its text says, or nothing where it says none.
+fn read_bound(alloc: Global, bound: Bound<&str>) -> Result<Option<Bound<Version>>, AllocError>
+    ensures { IfOk result (λ read. MatchOption read ((version : Bound Parts) → SaysBound (bound_text_of bound.entry) version → ⊥) (SaysBound (bound_text_of bound.entry))) }
+{
+    match bound {
+        Bound::Included(text) => match Version::parse(alloc, text) {
+            Ok(version) => Ok(Some(Bound::Included(version))),
+            Err(Refusal::Fault(_)) => Ok(None),
+            Err(Refusal::OutOfMemory | Refusal::SegmentAtEnd) => Err(AllocError),
+        },
+        Bound::Excluded(text) => match Version::parse(alloc, text) {
+            Ok(version) => Ok(Some(Bound::Excluded(version))),
+            Err(Refusal::Fault(_)) => Ok(None),
+            Err(Refusal::OutOfMemory | Refusal::SegmentAtEnd) => Err(AllocError),
+        },
+        Bound::Unbounded => Ok(Some(Bound::Unbounded)),
     }
 }
 

@@ -16,12 +16,20 @@ pub enum Word {
     And,
     /// `or`
     Or,
+    /// `simplify`
+    Simplify,
+    /// `complexify`
+    Complexify,
+    /// `extras`
+    Extras,
     /// `equal`
     Equal,
     /// `disjoint`
     Disjoint,
     /// `eval`
     Eval,
+    /// `possible`
+    Possible,
 }
 
 impl Word {
@@ -35,9 +43,13 @@ impl Word {
             "not" => Some(Word::Not),
             "and" => Some(Word::And),
             "or" => Some(Word::Or),
+            "simplify" => Some(Word::Simplify),
+            "complexify" => Some(Word::Complexify),
+            "extras" => Some(Word::Extras),
             "equal" => Some(Word::Equal),
             "disjoint" => Some(Word::Disjoint),
             "eval" => Some(Word::Eval),
+            "possible" => Some(Word::Possible),
             _ => None,
         }
     }

@@ -8,9 +8,11 @@ use crate::formula_tree::tree_of;
 use marker_graph::{Interner, MarkerTree};
 use marker_parts::{
     ComparisonError, ExtraName, MarkerEnvironment, MarkerExpression, MarkerWarningKind, Refusal,
+    Version,
 };
 use pep508_markers::read;
 use std::alloc::{AllocError, Global};
+use std::ops::Bound;
 
 /// A command of a session. Cells are named by their numbers, from 0 on.
 #[derive(Clone, Copy, Debug)]
@@ -25,12 +27,20 @@ pub enum Command<'a> {
     And(usize, usize),
     /// Puts the disjunction of two cells into a new one.
     Or(usize, usize),
+    /// Puts a cell into a new one where the Python version is taken to lie between two bounds.
+    SimplifyPython(usize, Bound<&'a Version>, Bound<&'a Version>),
+    /// Puts the conjunction of a cell and a range of Python versions into a new one.
+    ComplexifyPython(usize, Bound<&'a Version>, Bound<&'a Version>),
+    /// Puts a cell into a new one with extras set true.
+    SimplifyExtras(usize, &'a [ExtraName]),
     /// Tells whether two cells mean the same.
     Equal(usize, usize),
     /// Tells whether nothing satisfies two cells at once.
     Disjoint(usize, usize),
     /// Tells whether a cell is true in an environment with these extras.
     Evaluate(usize, &'a MarkerEnvironment, &'a [ExtraName]),
+    /// Tells whether a cell is true in some valuation with exactly these extras.
+    EvaluateExtras(usize, &'a [ExtraName]),
 }
 
 /// Why a command was refused. It has changed no cell.
@@ -112,9 +122,13 @@ impl Session {
             Command::Not(a) => self.negation(a),
             Command::And(a, b) => self.conjunction(a, b),
             Command::Or(a, b) => self.disjunction(a, b),
+            Command::SimplifyPython(a, lower, upper) => self.simplify_python(a, lower, upper),
+            Command::ComplexifyPython(a, lower, upper) => self.complexify_python(a, lower, upper),
+            Command::SimplifyExtras(a, extras) => self.simplify_extras(a, extras),
             Command::Equal(a, b) => self.equal(a, b),
             Command::Disjoint(a, b) => self.disjoint(a, b),
             Command::Evaluate(a, environment, extras) => self.evaluate(a, environment, extras),
+            Command::EvaluateExtras(a, extras) => self.evaluate_extras(a, extras),
         }
     }
 }
@@ -125,6 +139,7 @@ impl Session {
     ghost use Rattle.marker_environment.specs.Environment.{values_of};
     ghost use Rattle.marker_parts.specs.Expression.{test_of};
     ghost use Rattle.marker_graph.specs.Contents.{IsHeld};
+    ghost use Rattle.marker_graph.specs.Python.{bound_of};
     ghost use Rattle.pep508_markers.specs.Refused.{Refuses};
     ghost use Rattle.marker_session.specs.Machine;
     ghost use Rattle.marker_session.specs.Machine.{Cells, Makes, Request, Step};
@@ -215,6 +230,47 @@ impl Session {
         }
     }
 
+    fn simplify_python(&mut self, a: usize, lower: Bound<&Version>, upper: Bound<&Version>) -> Reply
+        ensures { Step (cells_of self.old) (Machine.simplify_python a (bound_of lower.entry) (bound_of upper.entry)) (answer_of result) (cells_of self.new) }
+    {
+        let Some(tree) = self.cell(a) else {
+            return Reply::Refused(Reason::NoSuchCell);
+        };
+        match tree.simplify_python_versions(&mut self.interner, lower, upper) {
+            Ok(tree) => self.add(tree, Vec::new(self.alloc)),
+            Err(_) => Reply::Refused(Reason::OutOfMemory),
+        }
+    }
+
+    fn complexify_python(
+        &mut self,
+        a: usize,
+        lower: Bound<&Version>,
+        upper: Bound<&Version>,
+    ) -> Reply
+        ensures { Step (cells_of self.old) (Machine.complexify_python a (bound_of lower.entry) (bound_of upper.entry)) (answer_of result) (cells_of self.new) }
+    {
+        let Some(tree) = self.cell(a) else {
+            return Reply::Refused(Reason::NoSuchCell);
+        };
+        match tree.complexify_python_versions(&mut self.interner, lower, upper) {
+            Ok(tree) => self.add(tree, Vec::new(self.alloc)),
+            Err(_) => Reply::Refused(Reason::OutOfMemory),
+        }
+    }
+
+    fn simplify_extras(&mut self, a: usize, extras: &[ExtraName]) -> Reply
+        ensures { Step (cells_of self.old) (Machine.simplify_extras a extras.now) (answer_of result) (cells_of self.new) }
+    {
+        let Some(tree) = self.cell(a) else {
+            return Reply::Refused(Reason::NoSuchCell);
+        };
+        match tree.simplify_extras(&mut self.interner, extras) {
+            Ok(tree) => self.add(tree, Vec::new(self.alloc)),
+            Err(_) => Reply::Refused(Reason::OutOfMemory),
+        }
+    }
+
     fn equal(&self, a: usize, b: usize) -> Reply
         ensures { Step (cells_of self.now) (Machine.equal a b) (answer_of result) (cells_of self.now) }
     {
@@ -238,6 +294,15 @@ impl Session {
     {
         match self.cell(a) {
             Some(tree) => Reply::Truth(tree.evaluate(&self.interner, environment, extras)),
+            None => Reply::Refused(Reason::NoSuchCell),
+        }
+    }
+
+    fn evaluate_extras(&self, a: usize, extras: &[ExtraName]) -> Reply
+        ensures { Step (cells_of self.now) (Machine.evaluate_extras a extras.now) (answer_of result) (cells_of self.now) }
+    {
+        match self.cell(a) {
+            Some(tree) => Reply::Truth(tree.evaluate_extras(&self.interner, extras)),
             None => Reply::Refused(Reason::NoSuchCell),
         }
     }

@@ -1,4 +1,5 @@
 pub mod BoundLaws
+pub mod ClampLaws
 pub mod Collected
 pub mod Combines
 pub mod EachPiece

@@ -1,4 +1,5 @@
 pub mod Bounds
+pub mod Clamp
 pub mod Cut
 pub mod Cuts
 pub mod Gather

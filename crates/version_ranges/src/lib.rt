@@ -6,6 +6,7 @@
 //! where they have the same points, over every order, dense or not. Values that the order ties stand at one point.
 #![tactic(auto)]
 
+mod clamp;
 mod combine;
 mod cut;
 mod cuts;
@@ -20,6 +21,7 @@ mod ranges;
 #[cfg(test)]
 mod tests;
 
+pub use clamp::has_point;
 pub use cuts::Cuts;
 pub use equality::{equal_where_same, equal_where_same_points};
 pub use intervals::Intervals;

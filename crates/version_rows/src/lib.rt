@@ -3,7 +3,13 @@
 #![tactic(auto)]
 
 #[cfg(test)]
+mod bounds;
+#[cfg(test)]
+mod combinations;
+#[cfg(test)]
 mod intervals;
+#[cfg(test)]
+mod specifier_order;
 #[cfg(test)]
 mod specifiers;
 #[cfg(test)]

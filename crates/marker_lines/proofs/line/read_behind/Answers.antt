@@ -1,6 +1,6 @@
 use Rattle.std.proofs.Common.{subst}
-use Rattle.marker_lines.specs.Line.{Takes, key_and_value, marker, negated, both, either, compared, parted}
-use Rattle.marker_lines.proofs.AskLaws.{no_key, not_both, not_either, not_compared, not_parted, takes_names}
+use Rattle.marker_lines.specs.Line.{Takes, key_and_value, marker, negated, both, either, compared, parted, assumed, required}
+use Rattle.marker_lines.proofs.AskLaws.{no_key, not_both, not_either, not_compared, not_parted, not_assumed, not_required, takes_extras, takes_names, takes_search}
 use Rattle.marker_lines.proofs.line.read_behind.Goals as goal
 
 pub returns-in-Some-clause-takes : goal.returns-in-Some-clause-takes
@@ -43,3 +43,25 @@ pub returns-in_ok-cell-in-Eval-clause-takes : goal.returns-in_ok-cell-in-Eval-cl
 returns-in_ok-cell-in-Eval-clause-takes c =
     let r = c.in_ok-cell-in-Eval.ensures.read in
     rw c.in-Eval.is (takes_names c.in_ok-cell-in-Eval.cell r.1 r.2 r.3)
+
+pub returns-in-Some-cell_and_bounds-clause-takes : goal.returns-in-Some-cell_and_bounds-clause-takes
+returns-in-Some-cell_and_bounds-clause-takes c = rw c.in-Simplify.is (assumed c.in-Some-cell_and_bounds.ensures)
+
+pub returns-in-None-cell_and_bounds-clause-malformed : goal.returns-in-None-cell_and_bounds-clause-malformed
+returns-in-None-cell_and_bounds-clause-malformed c = λ e request t. not_assumed c.in-None-cell_and_bounds.ensures (subst (λ w. Takes w c.args.text.now request) c.in-Simplify.is t)
+
+pub returns-in-Some-cell_and_bounds-2-clause-takes : goal.returns-in-Some-cell_and_bounds-2-clause-takes
+returns-in-Some-cell_and_bounds-2-clause-takes c = rw c.in-Complexify.is (required c.in-Some-cell_and_bounds-2.ensures)
+
+pub returns-in-None-cell_and_bounds-2-clause-malformed : goal.returns-in-None-cell_and_bounds-2-clause-malformed
+returns-in-None-cell_and_bounds-2-clause-malformed c = λ e request t. not_required c.in-None-cell_and_bounds-2.ensures (subst (λ w. Takes w c.args.text.now request) c.in-Complexify.is t)
+
+pub returns-in_ok-cell-in-Extras-clause-takes : goal.returns-in_ok-cell-in-Extras-clause-takes
+returns-in_ok-cell-in-Extras-clause-takes c =
+    let r = c.in_ok-cell-in-Extras.ensures.read in
+    rw c.in-Extras.is (takes_extras c.in_ok-cell-in-Extras.cell r.1 r.2 r.3)
+
+pub returns-in_ok-cell-in-Possible-clause-takes : goal.returns-in_ok-cell-in-Possible-clause-takes
+returns-in_ok-cell-in-Possible-clause-takes c =
+    let r = c.in_ok-cell-in-Possible.ensures.read in
+    rw c.in-Possible.is (takes_search c.in_ok-cell-in-Possible.cell r.1 r.2 r.3)

@@ -1,0 +1,46 @@
+-- Warnings of comparisons by order, one after another.
+use Rattle.std.proofs.Common.{◌≡◌, ℕ, zero, suc, ◌<◌, List, [], ◌∷◌, ◌++◌, map, length, get_or, Option, Some, None, All, sym, ap, ◌∙◌, subst, append_assoc, append-nil, arith}
+use Rattle.std.specs.Prelude.{String}
+use Rattle.std.specs.Global.{Global}
+use Rattle.std.proofs.lemmas.List.Elements.{All-nil, All-append}
+use Rattle.marker_warnings.specs.declared.warning.MarkerWarningKind.{MarkerWarningKind}
+use Rattle.marker_warnings.specs.declared.warning.MarkerWarningKind.TheVariants.{LexicographicComparison}
+use Rattle.marker_warnings.specs.Kinds.{Adds}
+use Rattle.marker_diagrams.proofs.NodeLaws.{same_some}
+use Rattle.marker_graph.specs.Report.{AddsComparisons}
+
+-- a warning of such a comparison
+abbrev IsComparison : MarkerWarningKind → Type 0
+IsComparison kind = kind ≡ LexicographicComparison
+
+-- the same kinds, and more of them
+adds_nothing : (kinds : Option (List MarkerWarningKind)) → Adds kinds kinds []
+adds_nothing None = tt
+adds_nothing (Some told) = ap Some (sym (append-nil told))
+
+adds_more : (a b c : Option (List MarkerWarningKind)) (ks ls : List MarkerWarningKind) → Adds a b ks → Adds b c ls → Adds a c (ks ++ ls)
+adds_more None b c ks ls h k = tt
+adds_more (Some told) b c ks ls h k =
+    let there : Adds (Some (told ++ ks)) c ls = subst (λ (x : Option (List MarkerWarningKind)). Adds x c ls) h k in
+    there ∙ ap Some (append_assoc told ks ls)
+
+-- nothing was told
+pub compared_nothing : (kinds : Option (List MarkerWarningKind)) → AddsComparisons kinds kinds
+compared_nothing kinds = ([], adds_nothing kinds, All-nil IsComparison)
+
+-- more was told
+pub compared_more : (a b c : Option (List MarkerWarningKind)) → AddsComparisons a b → AddsComparisons b c → AddsComparisons a c
+compared_more a b c h k = (h.0 ++ k.0, adds_more a b c h.0 k.0 h.1 k.1, All-append IsComparison h.0 k.0 h.2 k.2)
+
+-- the warnings of a list, of whose kinds something is known
+kinds_apart : (P : MarkerWarningKind → Type 0) (warnings : List (MarkerWarningKind × String Global)) → All P (map (λ warning. warning.0) warnings) →
+    (k : ℕ) (d : MarkerWarningKind × String Global) → k < length warnings → P (get_or warnings k d).0
+kinds_apart P [] h k d l = absurd (omega arith)
+kinds_apart P (warning ∷ warnings) h zero d l = h 0 d.0 (omega arith)
+kinds_apart P (warning ∷ warnings) h (suc k) d l = kinds_apart P warnings (λ i e m. h (suc i) e (omega arith)) k d (omega arith)
+
+-- what a list without warnings was told
+pub collected : (old new : List (MarkerWarningKind × String Global)) → old ≡ [] → AddsComparisons (Some (map (λ warning. warning.0) old)) (Some (map (λ warning. warning.0) new)) → All (λ warning. IsComparison warning.0) new
+collected old new e h =
+    let kinds_are : map (λ warning. warning.0) new ≡ h.0 = same_some _ _ h.1 ∙ ap (λ (l : List (MarkerWarningKind × String Global)). map (λ warning. warning.0) l ++ h.0) e in
+    kinds_apart IsComparison new (subst (All IsComparison) (sym kinds_are) h.2)

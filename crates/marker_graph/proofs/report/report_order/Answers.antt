@@ -1,0 +1,14 @@
+use Rattle.marker_graph.proofs.ReportLaws.{compared_nothing, compared_more}
+use Rattle.marker_graph.proofs.report.report_order.Goals as goal
+
+pub loop-piece-init : goal.loop-piece-init
+loop-piece-init g c = record { can_report = c.requires; told = compared_nothing (g.R.Reporter.kinds c.args.reporter.now) }
+
+pub loop-piece-preserved : goal.loop-piece-preserved
+loop-piece-preserved g c = record { can_report = c.report_piece.ensures.again; told = compared_more (g.R.Reporter.kinds c.args.reporter.now) (g.R.Reporter.kinds c.loop-piece.reporter) (g.R.Reporter.kinds c.report_piece.new.reporter) c.loop-piece.invariant.told c.report_piece.ensures.told }
+
+pub returns-in_err-report_piece-clause-told : goal.returns-in_err-report_piece-clause-told
+returns-in_err-report_piece-clause-told g c = compared_more (g.R.Reporter.kinds c.args.reporter.now) (g.R.Reporter.kinds c.loop-piece.reporter) (g.R.Reporter.kinds c.report_piece.new.reporter) c.loop-piece.invariant.told c.report_piece.ensures.told
+
+pub returns-then-is_up_to-clause-told : goal.returns-then-is_up_to-clause-told
+returns-then-is_up_to-clause-told g c = compared_more (g.R.Reporter.kinds c.args.reporter.now) (g.R.Reporter.kinds c.loop-piece.reporter) (g.R.Reporter.kinds c.report_piece.new.reporter) c.loop-piece.invariant.told c.report_piece.ensures.told
