@@ -1,7 +1,6 @@
 //! Whether some valuation with given extras satisfies a marker.
 
-ghost use Rattle.std.specs.Prelude.{◌≡◌, Bool, List, None, Option, Some, true, false};
-ghost use Rattle.pep440_version.specs.Parts.{Parts};
+ghost use Rattle.std.specs.Prelude.{◌≡◌, None, Some, true, false};
 ghost use Rattle.marker_environment.specs.Environment.{valuation_of, values_of};
 ghost use Rattle.marker_diagrams.specs.Diagram as diagram;
 ghost use Rattle.marker_nodes.specs.Node.{markers};

@@ -1,6 +1,6 @@
 //! Evaluation that tells of comparisons of texts by their order.
 
-ghost use Rattle.std.specs.Prelude.{◌≡◌, ◌≢◌, All, IfOk, List, true};
+ghost use Rattle.std.specs.Prelude.{◌≡◌, All, IfOk};
 ghost use Rattle.marker_warnings.specs.declared.warning.MarkerWarningKind.{MarkerWarningKind};
 ghost use Rattle.marker_warnings.specs.declared.warning.MarkerWarningKind.TheVariants.{LexicographicComparison};
 ghost use Rattle.marker_environment.specs.Environment.{valuation_of, values_of};
@@ -41,7 +41,7 @@ impl MarkerTree {
         interner.evaluate_and_report(self.id, environment, extras, reporter)
     }
 
-    /// Answers as `evaluate` does, with a list of the warnings of `evaluate_reporter`.
+    /// Answers as `evaluate` does, with a list of the warnings of `evaluate_reporter`. Only memory can run out.
     pub fn evaluate_collect_warnings(
         &self,
         interner: &Interner,

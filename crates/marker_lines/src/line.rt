@@ -24,8 +24,8 @@ pub enum LineFault {
     OutOfMemory,
 }
 
-/// What a line asks. Words are parted by exactly one space. Keys, names and texts are as they
-/// stand in the line, and not judged. A and B are numbers of cells in ASCII digits; one beyond
+/// What a line asks. Words are parted by exactly one space. Keys, names, texts and those
+/// of versions are as they stand in the line, and not judged. A and B are numbers of cells in ASCII digits; one beyond
 /// `usize::MAX` is read as that.
 #[derive(Debug, Drop)]
 pub enum LineCommand<'a> {
@@ -71,7 +71,7 @@ impl<'a> LineCommand<'a> {
     ///
     /// A line that is not UTF-8 is `NotUtf8`. Any other that has none of the forms above is
     /// `Malformed`: another command word, a wrong number of words, two spaces in a row or a space
-    /// at the end outside of a value or a text, a cell that is no number.
+    /// at the end outside of a value or a text, a cell that is no number, a word that is no bound.
     pub fn read(alloc: Global, line: &'a [u8]) -> Result<LineCommand<'a>, LineFault>
         ensures asks { IfOk result (λ command. Asks line.now (request_of command)) }
         ensures only { IfOk result (λ command. (request : Request) → Asks line.now request → request ≡ request_of command) }

@@ -39,7 +39,7 @@ pub enum Command<'a> {
     Disjoint(usize, usize),
     /// Tells whether a cell is true in an environment with these extras.
     Evaluate(usize, &'a MarkerEnvironment, &'a [ExtraName]),
-    /// Tells whether a cell is true in some valuation with exactly these extras.
+    /// Tells whether a cell is true in some valuation with exactly these extras, and no arbitrary one.
     EvaluateExtras(usize, &'a [ExtraName]),
 }
 

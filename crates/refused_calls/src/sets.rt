@@ -3,7 +3,7 @@
 use growths::Call;
 use std::alloc::{AllocError, Global};
 use std::ops::Bound;
-use version_ranges::{Cuts, Ranges};
+use version_ranges::{Cuts, Ranges, has_point};
 
 /// A call that answers a set, or a function of points.
 #[derive(Clone, Copy)]
@@ -23,11 +23,12 @@ pub enum SetCall {
     Overlay,
     WithValues,
     Gather,
+    Clamped,
     CloneFunction,
 }
 
 impl SetCall {
-    pub const ALL: [SetCall; 16] = [
+    pub const ALL: [SetCall; 17] = [
         SetCall::FromRangeBounds,
         SetCall::HigherThan,
         SetCall::StrictlyHigherThan,
@@ -43,6 +44,7 @@ impl SetCall {
         SetCall::Overlay,
         SetCall::WithValues,
         SetCall::Gather,
+        SetCall::Clamped,
         SetCall::CloneFunction,
     ];
 }
@@ -96,6 +98,7 @@ impl Call for SetCall {
             SetCall::Overlay => overlay(alloc, lent),
             SetCall::WithValues => with_values(alloc, lent),
             SetCall::Gather => gather(alloc, lent),
+            SetCall::Clamped => clamped(alloc, lent),
             SetCall::CloneFunction => clone_function(lent),
         }
     }
@@ -235,6 +238,17 @@ fn gather(alloc: Global, lent: &Sets) -> Result<bool, AllocError> {
             && is_set(elsewhere, [true, false, false, false, false, true], 2)
             && is_set(between, [false, true, true, true, true, false], 1),
     )
+}
+
+// From 3 on, where the function is 5 up to 12.
+fn clamped(alloc: Global, lent: &Sets) -> Result<bool, AllocError> {
+    let first = 3u8;
+    let (lower, upper) = (Bound::Included(&first), Bound::Unbounded);
+    if !has_point(lower, upper) {
+        return Ok(false);
+    }
+    let function = lent.steps.clamped(alloc, lower, upper)?;
+    Ok(is_function(&function, [5, 5, 5, 5, 5, 6], 2))
 }
 
 fn clone_function(lent: &Sets) -> Result<bool, AllocError> {

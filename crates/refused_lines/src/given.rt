@@ -19,10 +19,14 @@ not 0
 and 0 1
 or 0 1
 equal 0 0
-disjoint 0 0";
+disjoint 0 0
+simplify 1 incl:3.8.1.2.3 none
+complexify 0 none excl:3.9.1.2.3
+extras 0 dev
+possible 0 dev";
 
 /// The replies.
-pub const REPLIES: [&str; 19] = [
+pub const REPLIES: [&str; 23] = [
     "ok",
     "cell 0",
     "true",
@@ -42,10 +46,14 @@ pub const REPLIES: [&str; 19] = [
     "cell 5",
     "true",
     "false",
+    "cell 6",
+    "cell 7",
+    "cell 8",
+    "true",
 ];
 
-// The reply to a line where the command of one was refused for want of memory. Only a text or a joining of cells may be
-// refused so; then there is no cell of it, the later cells have numbers less by one, and the earlier ones are evaluated as
+// The reply to a line where the command of one was refused for want of memory. Only what makes a cell of a text or of
+// others may be refused so; then there is no cell of it, the later cells have numbers less by one, and the earlier ones are evaluated as
 // before.
 fn reply(index: usize, refused: Option<usize>) -> Option<&'static str> {
     match (refused, index) {
@@ -56,10 +64,14 @@ fn reply(index: usize, refused: Option<usize>) -> Option<&'static str> {
         (Some(1 | 4 | 11), 14) => Some("cell 2"),
         (Some(1 | 4 | 11 | 14), 15) => Some("cell 3"),
         (Some(1 | 4 | 11 | 14 | 15), 16) => Some("cell 4"),
-        (Some(1 | 4 | 8 | 9 | 11 | 14 | 15 | 16), _) if refused == Some(index) => Some(
-            "error memory",
-        ),
-        (None | Some(1 | 4 | 8 | 9 | 11 | 14 | 15 | 16), _) => REPLIES.get(index).copied(),
+        (Some(1 | 4 | 11 | 14 | 15 | 16), 19) => Some("cell 5"),
+        (Some(1 | 4 | 11 | 14 | 15 | 16 | 19), 20) => Some("cell 6"),
+        (Some(1 | 4 | 11 | 14 | 15 | 16 | 19 | 20), 21) => Some("cell 7"),
+        (Some(1 | 4 | 8 | 9 | 11 | 14 | 15 | 16 | 19 | 20 | 21), _) if refused == Some(index) =>
+            Some("error memory"),
+        (None | Some(1 | 4 | 8 | 9 | 11 | 14 | 15 | 16 | 19 | 20 | 21), _) => REPLIES
+            .get(index)
+            .copied(),
         _ => None,
     }
 }

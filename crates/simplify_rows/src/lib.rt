@@ -3,6 +3,8 @@
 #![tactic(auto)]
 
 #[cfg(test)]
+mod evaluations;
+#[cfg(test)]
 mod extras;
 #[cfg(test)]
 mod plain;
@@ -14,5 +16,7 @@ mod ranges;
 mod reports;
 #[cfg(test)]
 mod sessions;
+#[cfg(test)]
+mod sizes;
 #[cfg(test)]
 mod trees;

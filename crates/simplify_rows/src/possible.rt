@@ -6,7 +6,7 @@ use std::alloc::Global;
 use std::test::Fail;
 
 // A marker, the extras, and whether some valuation with exactly these satisfies it.
-const POSSIBLE: [(&str, &str, bool); 18] = [
+const POSSIBLE: [(&str, &str, bool); 20] = [
     ("'a' == 'b'", "", true),
     (
         "python_full_version < '0' and python_full_version > '0'",
@@ -37,6 +37,9 @@ const POSSIBLE: [(&str, &str, bool); 18] = [
         "",
         false,
     ),
+    // Above a text and below the next one there is a place, and one below all texts.
+    ("os_name > 'a' and os_name < 'a\0'", "", true),
+    ("os_name < ''", "", true),
 ];
 
 // A marker, the extras, the Python versions, and whether some valuation with these satisfies it.

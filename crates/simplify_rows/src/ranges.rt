@@ -1,7 +1,7 @@
 //! Markers under ranges of Python versions.
 
-use crate::trees::{bound, held, lent, tree};
-use marker_graph::Interner;
+use crate::trees::{bound, environment, held, lent, tree};
+use marker_graph::{Interner, MarkerTree};
 use std::alloc::Global;
 use std::test::Fail;
 
@@ -332,6 +332,34 @@ fn ranges_are_required(rt: HostRuntime) -> Result<(), Fail> {
             row.2,
             row.3
         );
+    }
+    Ok(())
+}
+
+// No text has a bound before 3.8 and not before all of its pre-releases.
+#[test]
+fn a_pre_release_may_be_a_bound(rt: HostRuntime) -> Result<(), Fail> {
+    let alloc = rt.alloc();
+    let mut interner = Interner::new(alloc);
+    let lower = bound(alloc, ">=3.8a1")?;
+    let upper = bound(alloc, "<3.9")?;
+    let any = held(&interner, MarkerTree::TRUE)?;
+    let made = any.complexify_python_versions(&mut interner, lent(&lower), lent(&upper))?;
+    let minor = tree(alloc, &mut interner, "python_full_version == '3.8.*'")?;
+    assert!(rt; made != minor);
+    let made = held(&interner, made)?;
+    for (version, lies_in) in [
+        ("3.7", false),
+        ("3.8.dev0", false),
+        ("3.8a1", true),
+        ("3.8rc2", true),
+        ("3.8", true),
+        ("3.8.99", true),
+        ("3.9", false),
+    ] {
+        let environment = environment(alloc, "posix", version)?;
+        let answer = made.evaluate(&interner, &environment, &[]);
+        assert_eq!(rt; answer, lies_in, "{version}");
     }
     Ok(())
 }

@@ -42,22 +42,36 @@ fn are_equal(session: &mut Session, a: usize, b: usize) -> bool {
     session.execute(Command::Equal(a, b)) == Reply::Truth(true)
 }
 
+// Whether each command made a cell.
+fn are_cells(replies: &[Reply]) -> bool {
+    replies
+        .iter()
+        .all(|reply| matches!(reply, Reply::Cell(_, _)))
+}
+
 // Whether a range gives the cells of the expected texts.
-fn is_as_expected(alloc: Global, row: (&str, &str, &str, &str, &str)) -> Result<bool, Fail> {
+fn is_as_expected<'a>(
+    alloc: Global,
+    row: (&'a str, &'a str, &'a str, &'a str, &'a str),
+) -> Result<bool, Fail> {
     let mut session = Session::new(alloc);
     let lower = bound(alloc, row.1)?;
     let upper = bound(alloc, row.2)?;
-    let replies = session.run(&[
+    let parsed = session.run(&[
         Command::Parse(row.0),
         Command::Parse(row.3),
         Command::Parse(row.4),
+    ])?;
+    let made = session.run(&[
         Command::SimplifyPython(0, lent(&lower), lent(&upper)),
         Command::ComplexifyPython(0, lent(&lower), lent(&upper)),
     ])?;
-    let are_made = replies
-        .iter()
-        .all(|reply| matches!(reply, Reply::Cell(_, _)));
-    Ok(are_made && are_equal(&mut session, 1, 3) && are_equal(&mut session, 2, 4))
+    Ok(
+        are_cells(&parsed)
+            && are_cells(&made)
+            && are_equal(&mut session, 1, 3)
+            && are_equal(&mut session, 2, 4),
+    )
 }
 
 #[test]

@@ -1,5 +1,8 @@
 //! The trees of texts, bounds, names and environments.
 
+ghost use Rattle.std.specs.Prelude.{IfOk};
+ghost use Rattle.marker_graph.specs.Contents.{IsHeld};
+
 use marker_graph::{Interner, InvalidExpression, MarkerTree};
 use marker_parts::{ExtraName, MarkerEnvironment, MarkerEnvironmentBuilder, Refusal};
 use marker_session::tree_of;
@@ -19,7 +22,9 @@ fn failure(refusal: Refusal<InvalidExpression>) -> Fail {
 }
 
 // The tree of a text.
-pub fn tree(alloc: Global, interner: &mut Interner, text: &str) -> Result<MarkerTree, Fail> {
+pub fn tree(alloc: Global, interner: &mut Interner, text: &str) -> Result<MarkerTree, Fail>
+    ensures { IfOk result (IsHeld interner.new) }
+{
     let Ok(reading) = read(alloc, text) else {
         return Err("not read".into());
     };
@@ -28,7 +33,9 @@ pub fn tree(alloc: Global, interner: &mut Interner, text: &str) -> Result<Marker
 }
 
 // The tree, which the interner holds.
-pub fn held(interner: &Interner, tree: MarkerTree) -> Result<MarkerTree, Fail> {
+pub fn held(interner: &Interner, tree: MarkerTree) -> Result<MarkerTree, Fail>
+    ensures { IfOk result (IsHeld interner.now) }
+{
     if interner.holds(&tree) {
         Ok(tree)
     } else {
