@@ -1,6 +1,6 @@
 //! Version specifiers: the texts that are read, near misses, and the texts of faults.
 
-use pep440_rs::{Operator, Refusal, VersionSpecifier};
+use pep440_rs::{Operator, Refusal, VersionSpecifier, VersionSpecifierError};
 use std::alloc::Global;
 use std::hash::{DefaultHasher, Hash, Hasher};
 use std::test::Fail;
