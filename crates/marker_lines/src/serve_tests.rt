@@ -3,7 +3,7 @@ ghost use Rattle.std.specs.Prelude.{None};
 use super::*;
 use marker_parts::MarkerWarningKind;
 use marker_session::{Command, Reason, Reply, Session};
-use std::alloc::Global;
+use std::alloc::{AllocError, Global};
 use std::test::*;
 
 // Gives one byte at a time, and fails when it has done `left` reads.
@@ -337,17 +337,22 @@ const SIMPLIFICATIONS: [(&str, &str, &str, &str); 26] = [
     ),
 ];
 
+// What ends the replies: the cell is the same as the other one, or there is none.
+fn end_of(alloc: Global, reply: &str) -> Result<String, AllocError> {
+    if reply == "same" {
+        String::from_str(alloc, "cell 2\ntrue\n")
+    } else {
+        format!(in alloc; "{reply}\nerror cell\n")
+    }
+}
+
 #[test]
 fn answers_simplifications(rt: HostRuntime) -> Result<(), Fail> {
     for (marker, line, other, reply) in SIMPLIFICATIONS {
         let input = format!(in rt.alloc(); "parse {marker}\nparse {other}\n{line}\nequal 1 2")?;
         let written = replies(rt.alloc(), input.as_bytes())?;
         // A warning is told behind a cell, so only the ends of the replies are compared.
-        let end = if reply == "same" {
-            format!(in rt.alloc(); "cell 2\ntrue\n")?
-        } else {
-            format!(in rt.alloc(); "{reply}\nerror cell\n")?
-        };
+        let end = end_of(rt.alloc(), reply)?;
         assert!(rt;
             written.as_slice().ends_with(end.as_bytes()),
             "{marker} {line}"
