@@ -1,0 +1,165 @@
+"""The functions of a crate, and which may call which, told from names in the text alone.
+
+A call is taken to lead to every function of the crate that has the name, so that what is said here
+is an upper bound: where one function reaches another, it is said, and sometimes where it does not.
+"""
+
+from __future__ import annotations
+
+import re
+from dataclasses import dataclass
+from pathlib import Path
+
+# Comments, texts and characters, in which no brace and no name counts.
+SKIPPED = re.compile(r'//[^\n]*|"(?:\\.|[^"\\])*"|\'(?:\\[^\n\']+|[^\'\\\n])\'')
+ITEM = re.compile(r"\b(?:fn\s+(?P<fn>\w+)|impl\b(?P<impl>[^{;]*)\{|trait\s+(?P<trait>\w+)[^{;]*\{)")
+CLAUSE = re.compile(r"\b(?:requires|ensures|ghost)\b")
+CYCLE = re.compile(r"#\[cycle\((\w+)\)\]")
+WORD = re.compile(r"\b[a-z_]\w*\b")
+
+# What code calls without a name: an operator, a loop, a question mark, a macro that prints.
+UNNAMED = {
+    "eq": r"[=!]=",
+    "partial_cmp": r"\s[<>]=?\s",
+    "next": r"\bfor\b",
+    "into_iter": r"\bfor\b",
+    "from": r"\?",
+    "fmt": r"\bwrite!|\bformat!|\bto_string\b",
+}
+
+
+@dataclass(frozen=True)
+class Function:
+    """A function with a body: its path below the crate as the prover names it, where its text
+    lies in a file, and the cycle of calls that it is of."""
+
+    path: str
+    file: str
+    start: int
+    end: int
+    cycle: str
+
+    @property
+    def name(self) -> str:
+        return self.path.rpartition("::")[2]
+
+
+def is_named(path: str, name: str) -> bool:
+    """Whether the name is the path of a function, or the end of it. Type arguments, as in
+    `Cuts+String+V::at_str`, are passed over."""
+    path, name = (re.sub(r"\+[^:]*", "", text) for text in (path, name))
+    return path == name or path.endswith(f"::{name}")
+
+
+def blank(text: str) -> str:
+    """The text with its comments, texts and characters replaced by as many spaces."""
+    return SKIPPED.sub(lambda found: re.sub(r"[^\n]", " ", found[0]), text)
+
+
+def closing(text: str, start: int) -> int:
+    """The place behind the brace that closes the one at `start`."""
+    depth = 0
+    for place in range(start, len(text)):
+        if text[place] == "{":
+            depth += 1
+        elif text[place] == "}":
+            depth -= 1
+            if depth == 0:
+                return place + 1
+    return len(text)
+
+
+def body(text: str, start: int) -> int | None:
+    """Where the body begins of the function whose name ends at `start`, if it has one."""
+    place = start
+    while True:
+        brace, end = text.find("{", place), text.find(";", place)
+        if brace < 0 or 0 <= end < brace:
+            return None
+        if not CLAUSE.search(text, place, brace):
+            return brace
+        place = closing(text, brace)
+
+
+def owner(header: str) -> str:
+    """The prover's name of an impl, of which the text between `impl` and its brace is given: the
+    type, and behind it the trait if there is one."""
+    while (bare := re.sub(r"<[^<>]*>", "", header.replace("->", ""))) != header:
+        header = bare
+    trait, of, kind = header.partition(" where ")[0].rpartition(" for ")
+    last = [part.strip().rpartition("::")[2] for part in (kind, trait)]
+    return "".join(last) if of else last[0]
+
+
+def functions_of_file(crate: Path, file: Path) -> list[Function]:
+    """The functions of a file, those that stand inside another one left out."""
+    text = blank(file.read_text(encoding="utf-8"))
+    inside = file.relative_to(crate / "src").with_suffix("")
+    module = [] if str(inside) in ("lib", "main") else list(inside.parts)
+    found: list[Function] = []
+    place, type_name, type_end = 0, "", 0
+    while (item := ITEM.search(text, place)) is not None:
+        place = item.end()
+        if item["fn"] is None:
+            type_name = item["trait"] or owner(item["impl"])
+            type_end = closing(text, item.end() - 1)
+            continue
+        if (brace := body(text, place)) is None:
+            continue
+        place = closing(text, brace)
+        path = [*module, *[type_name] * (item.start() < type_end), item["fn"]]
+        above = max(text.rfind("\n\n", 0, item.start()), text.rfind("}", 0, item.start()), 0)
+        cycle = CYCLE.search(text, above, item.start())
+        name = str(file.relative_to(crate))
+        named = cycle[1] if cycle else ""
+        found.append(Function("::".join(path), name, item.start(), place, named))
+    return found
+
+
+def named_in(text: str, names: set[str]) -> set[str]:
+    """The names of functions that a text may call."""
+    found = {word for word in WORD.findall(text) if word in names}
+    signs = {name: sign for name, sign in UNNAMED.items() if name in names}
+    return found | {name for name, sign in signs.items() if re.search(sign, text)}
+
+
+class Calls:
+    """The functions of a crate, and which may reach which."""
+
+    def __init__(self, crate: Path) -> None:
+        files = sorted((crate / "src").rglob("*.rt"))
+        self.functions = [found for file in files for found in functions_of_file(crate, file)]
+        named: dict[str, list[Function]] = {}
+        for function in self.functions:
+            named.setdefault(function.name, []).append(function)
+        self.called: dict[Function, set[Function]] = {}
+        files = {function.file for function in self.functions}
+        texts = {file: blank((crate / file).read_text()) for file in files}
+        for function in self.functions:
+            text = texts[function.file][function.start : function.end]
+            names = named_in(text, set(named))
+            self.called[function] = {to for name in names for to in named[name]} - {function}
+        self.reached = {function: self.reach(function) for function in self.functions}
+
+    def reach(self, function: Function) -> set[Function]:
+        """The functions that calls lead to from this one."""
+        reached: set[Function] = set()
+        left = [function]
+        while left:
+            for called in self.called[left.pop()] - reached:
+                reached.add(called)
+                left.append(called)
+        return reached
+
+    def are_apart(self, one: Function, other: Function) -> bool:
+        """Whether the two are different functions of which neither reaches the other."""
+        return one != other and other not in self.reached[one] and one not in self.reached[other]
+
+    def cycles(self) -> dict[str, set[str]]:
+        """The functions of each cycle of calls, by the ends of their paths."""
+        found: dict[str, set[str]] = {}
+        for function in self.functions:
+            if function.cycle:
+                end = "::".join(function.path.split("::")[-2:])
+                found.setdefault(function.cycle, set()).add(end)
+        return found

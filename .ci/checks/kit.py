@@ -1,0 +1,103 @@
+"""The repository's crates, the toolchain, and tasks side by side."""
+
+from __future__ import annotations
+
+import hashlib
+import os
+import subprocess
+from collections.abc import Callable, Iterable
+from concurrent.futures import ThreadPoolExecutor
+from functools import cache
+from pathlib import Path
+from typing import TypeVar
+
+Item = TypeVar("Item")
+Answer = TypeVar("Answer")
+
+PARTS = ("src", "specs", "proofs")
+
+
+@cache
+def kit() -> Path:
+    """The toolchain's folder."""
+    said = subprocess.run(["rt", "doc"], capture_output=True, text=True, check=True)
+    return Path(said.stdout.strip()).parent
+
+
+@cache
+def version() -> str:
+    """The line that names the toolchain."""
+    said = subprocess.run(["rt", "version"], capture_output=True, text=True, check=True)
+    return said.stdout.strip()
+
+
+def lanes() -> int:
+    """How many checks run side by side: RT_JOBS, or one a processor."""
+    wanted = os.environ.get("RT_JOBS", "")
+    return int(wanted) if wanted.isdigit() and int(wanted) else len(os.sched_getaffinity(0))
+
+
+def side_by_side(items: Iterable[Item], task: Callable[[Item], Answer]) -> list[Answer]:
+    """What the task answers for each item, in their order; they begin in their order too."""
+    with ThreadPoolExecutor(lanes()) as pool:
+        return list(pool.map(task, items))
+
+
+class Repository:
+    """The crates that crates.txt lists, and which stand on which."""
+
+    def __init__(self, root: Path) -> None:
+        self.root = root
+        self.uses: dict[str, list[str]] = {}
+        for line in (root / "crates.txt").read_text().splitlines():
+            line = line.partition("#")[0].strip()
+            if line:
+                name, _, used = line.partition(":")
+                self.uses[name.split()[0]] = used.split()
+
+    def folder(self, crate: str) -> Path:
+        return self.root / "crates" / crate
+
+    def below(self, crate: str) -> list[str]:
+        """The repository's libraries below a crate, each after those that it stands on."""
+        found: list[str] = []
+        for used in self.uses[crate]:
+            if used in self.uses:
+                found += [name for name in [*self.below(used), used] if name not in found]
+        return found
+
+    def files(self, crate: str) -> list[Path]:
+        """The files that a check of the crate reads, in order."""
+        folder = self.folder(crate)
+        found = [file for part in PARTS for file in sorted((folder / part).rglob("*"))]
+        return [file for file in found if file.is_file()]
+
+    def sum_of(self, files: Iterable[Path]) -> str:
+        """A sum over the names and the bytes of files of the repository."""
+        found = hashlib.sha256()
+        for file in files:
+            found.update(f"{file.relative_to(self.root)}\0".encode())
+            found.update(hashlib.sha256(file.read_bytes()).digest())
+        return found.hexdigest()
+
+    def library(self, crate: str) -> Path:
+        """Where the built library of a crate lies."""
+        return self.folder(crate) / "out" / "rlib" / f"{crate}.rlib"
+
+    def stands(self, crate: str) -> bool:
+        """Whether the built library is newer than all that it is made from."""
+        made = self.library(crate) / "format"
+        if not made.is_file():
+            return False
+        files = [file for name in [*self.below(crate), crate] for file in self.files(name)]
+        return all(file.stat().st_mtime <= made.stat().st_mtime for file in files)
+
+    def build_below(self, crate: str) -> bool:
+        """Brings the libraries below a crate up to date, which takes no time after `rt ci`. Answers
+        whether they stand."""
+        for used in self.below(crate):
+            if not self.stands(used):
+                built = subprocess.run(["rt", "lib"], cwd=self.folder(used), capture_output=True)
+                if built.returncode:
+                    return False
+        return True

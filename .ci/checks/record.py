@@ -1,0 +1,57 @@
+"""What did not change since all wrong bodies of a crate were refused is not tried again.
+
+A file keeps, for each crate whose edits were tried, a sum of all that their outcome depends on: the
+crate and its edits, all crates below it, the toolchain's line, and these scripts.
+"""
+
+from __future__ import annotations
+
+import hashlib
+from pathlib import Path
+
+from checks import edits
+from checks.caught import PROGRAM, STORED_RUN
+from checks.edits import Edit
+from checks.kit import Repository, version
+
+FILE = Path(".ci") / "record"
+HEAD = """\
+# The crates whose wrong bodies were all refused, each with a sum of what that depends on.
+# Written by `.ci/wrong_bodies --record`, after a pass, and by nothing else.
+"""
+
+
+class Record:
+    """The sums that stand in the file, and those of the repository as it is."""
+
+    def __init__(self, repository: Repository) -> None:
+        self.repository = repository
+        self.file = repository.root / FILE
+        self.kept: dict[str, str] = {}
+        if self.file.is_file():
+            lines = self.file.read_text().splitlines()
+            self.kept = dict(line.split() for line in lines if line and not line.startswith("#"))
+        checks = sorted((repository.root / ".ci" / "checks").glob("*.py"))
+        scripts = [script for script in checks if script.stem != "self_test"]
+        scripts.append(repository.root / ".ci" / "wrong_bodies")
+        self.common = f"{version()}\n{repository.sum_of(scripts)}"
+
+    def sum_of(self, crate: str, tried: list[Edit]) -> str:
+        """The sum of what the outcome of edits depends on that are tried by a crate."""
+        root = self.repository
+        names = [*root.below(crate), crate, *(edit.crate for edit in tried)]
+        files = [file for name in dict.fromkeys(names) for file in root.files(name)]
+        files += [edit.path for edit in tried]
+        if any(edit.fields.get("test") == STORED_RUN for edit in tried):
+            files += [root.folder(PROGRAM) / name for name in ("stdin", "stdout")]
+        uses = "\n".join(f"{name}: {' '.join(root.uses[name])}" for name in dict.fromkeys(names))
+        return hashlib.sha256(f"{self.common}\n{uses}\n{root.sum_of(files)}".encode()).hexdigest()
+
+    def stands(self, task: str, total: str) -> bool:
+        return self.kept.get(task) == total
+
+    def write(self, passed: dict[str, str], tasks: set[str]) -> None:
+        """Writes the sums of what passed, and keeps those of other tasks that there still are."""
+        kept = {task: total for task, total in {**self.kept, **passed}.items() if task in tasks}
+        lines = [f"{task} {total}\n" for task, total in sorted(kept.items())]
+        self.file.write_text(HEAD + "".join(lines))
