@@ -1,7 +1,6 @@
 -- What a session of lines does: names, values, and what is served, told by the states that sessions stand for.
 use Rattle.std.proofs.Common.{◌≡◌, ◌≢◌, ℕ, codes, lit<, ◌<◌, ◌+◌, List, [], ◌∷◌, ◌++◌, Option, take, length, get_or, suc, zero, sym, ◌∙◌, subst, refl, inl, Ok, Err, arith}
 use denote.Ref.{Bor}
-use Rattle.std.specs.Io.KnownBytes.{Appends, Consumes}
 use Rattle.std.proofs.lemmas.List.{take_more}
 use Rattle.std.proofs.lemmas.List.Elements.{All-nil}
 use Rattle.pep440_version.specs.Grammar.{IsVersionText, IsNumber, no_mark, no_epoch, last, no_pre, no_post, no_dev, no_local, version}
@@ -20,14 +19,13 @@ use Rattle.marker_session.specs.Machine.{Cells, Answer, Step}
 use Rattle.marker_lines.specs.declared.line_session.LineSession.{LineSession}
 use Rattle.marker_lines.specs.Line.{Request, simplify, complexify, extras, evaluate, possible}
 use Rattle.marker_lines.specs.Reply.{reply_text}
-use Rattle.marker_lines.specs.Lines.{LinesSoFar}
 use Rattle.marker_lines.specs.LineStep.{State, start, zero_version, Names, no_more, name, SaysBound, RequestStep, is_complexified, is_evaluated, is_granted, is_possible, is_simplified, LineStep}
 use Rattle.marker_lines.specs.LineView.{texts_of}
-use Rattle.marker_lines.specs.Serving.{Answers, AnswersBeginning}
+use Rattle.line_server.specs.Serving.{Answers, AnswersBeginning, AnswersEachLine, AnswersWholeLines, AnswersFirstLines, Exchanges}
 use Rattle.marker_lines.specs.SessionView.{state_of}
-use Rattle.marker_lines.proofs.LineLaws.{whole_none}
-use Rattle.marker_lines.proofs.PortLaws.{Appends-nil, Consumes-nil}
-use Rattle.marker_lines.proofs.ServingLaws.{StepSeen, answers_none, answers_seen, beginning_seen}
+use Rattle.line_server.proofs.LineLaws.{whole_none}
+use Rattle.line_server.proofs.PortLaws.{Appends-nil, Consumes-nil}
+use Rattle.line_server.proofs.ServingLaws.{StepSeen, answers_none, answers_seen, beginning_seen}
 use Rattle.marker_lines.proofs.WordLaws.{texts-push}
 
 -- one more name
@@ -107,10 +105,31 @@ ok_is_no_err p = cc
 pub answered : {session end : LineSession} {lines : List (List ℕ)} {output : List ℕ} → state_of session ≡ start → Answers (StepSeen LineStep state_of) session lines output end → Answers LineStep start lines output (state_of end)
 answered {end = end} {lines = lines} {output = output} e p = subst (λ (s : State). Answers LineStep s lines output (state_of end)) e (answers_seen LineStep state_of p)
 
--- a beginning of it
-pub answered_beginning : {session : LineSession} {lines : List (List ℕ)} {output : List ℕ} → state_of session ≡ start → AnswersBeginning (StepSeen LineStep state_of) session lines output → AnswersBeginning LineStep start lines output
-answered_beginning {lines = lines} {output = output} e p = subst (λ (s : State). AnswersBeginning LineStep s lines output) e (beginning_seen LineStep state_of p)
+-- the same of input and output
+module _ {session : LineSession} {input output : List ℕ} (at_start : state_of session ≡ start) where
+  pub each_answered : {end : LineSession} → AnswersEachLine (StepSeen LineStep state_of) session end input output → AnswersEachLine LineStep start (state_of end) input output
+  each_answered w = record { lines = w.lines; read = w.read; answers = answered at_start w.answers }
+
+  pub whole_answered : {end : LineSession} → AnswersWholeLines (StepSeen LineStep state_of) session end input output → AnswersWholeLines LineStep start (state_of end) input output
+  whole_answered w = record { lines = w.lines; rest = w.rest; read = w.read; answers = answered at_start w.answers }
+
+  pub first_answered : {left : Option (List ℕ)} → AnswersFirstLines (StepSeen LineStep state_of) left session input output → AnswersFirstLines LineStep left start input output
+  first_answered w = record {
+    lines = w.lines;
+    read = w.read;
+    answers = subst (λ (s : State). AnswersBeginning LineStep s w.lines output) at_start (beginning_seen LineStep state_of w.answers);
+  }
 
 -- nothing read and nothing written
-pub nothing_served : (r t : Option (List ℕ)) → (input : List ℕ) × (output : List ℕ) × (lines : List (List ℕ)) × Consumes r r input × Appends t t output × LinesSoFar r input lines × AnswersBeginning LineStep start lines output
-nothing_served r t = ([], [], [], Consumes-nil r, Appends-nil t, inl ([], whole_none (All-nil (λ b. b ≢ 10))), record { answered = []; others = []; more = []; new = start; joined = refl; answers = answers_none LineStep start })
+pub nothing_served : (r t : Option (List ℕ)) → Exchanges r r t t (AnswersFirstLines LineStep r start)
+nothing_served r t = (
+  [],
+  [],
+  Consumes-nil r,
+  Appends-nil t,
+  record {
+    lines = [];
+    read = inl ([], whole_none (All-nil (λ b. b ≢ 10)));
+    answers = record { answered = []; others = []; more = []; new = start; joined = refl; answers = answers_none LineStep start };
+  },
+)

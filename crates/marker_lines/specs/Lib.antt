@@ -1,7 +1,3 @@
-pub mod Fault
-pub mod Ports
-pub mod Lines
-pub mod Serving
 pub mod Line
 pub mod LineView
 pub mod Reply

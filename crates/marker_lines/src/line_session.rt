@@ -1,7 +1,8 @@
 //! A session that is spoken to in lines.
 
 ghost use Rattle.std.specs.Prelude.{◌≡◌, ◌≢◌, ◌++◌, [], ℕ, List, Option, IsTrue, Err, IfOk, OnOk, OnErr, MatchOption};
-ghost use Rattle.std.specs.Io.KnownBytes.{Appends, Consumes, IsAtEnd};
+ghost use Rattle.std.specs.Io.KnownBytes.{IsAtEnd};
+ghost use Rattle.line_server.specs.Serving.{AnswersEachLine, AnswersWholeLines, AnswersFirstLines, Exchanges};
 ghost use Rattle.pep440_version.specs.Grammar.{IsVersionText};
 ghost use Rattle.pep440_version.specs.Parts.{Parts};
 ghost use Rattle.marker_words.specs.declared.key.TextVariable.{TextVariable};
@@ -13,16 +14,11 @@ ghost use Rattle.std.specs.declared.ops.Bound.{Bound};
 ghost use Rattle.marker_lines.specs.Line.{Request, set, simplify, complexify, extras, evaluate, possible};
 ghost use Rattle.marker_lines.specs.LineView.{bound_text_of, texts_of, request_of};
 ghost use Rattle.marker_lines.specs.LineStep.{State, start, zero_version, Names, SaysBound, RequestStep, LineStep};
-ghost use Rattle.marker_lines.specs.Lines.{WholeLines, Lines, LinesSoFar};
-ghost use Rattle.marker_lines.specs.Serving.{Answers, AnswersBeginning};
 ghost use Rattle.marker_lines.specs.SessionView.{state_of};
 
-use crate::fault::ServeFault;
 use crate::line::{LineCommand, LineFault};
 use crate::reply::{put, put_reply};
-use crate::serving::{Answer, serve_lines};
-use crate::sink::Sink;
-use crate::source::Source;
+use line_server::{Answer, ServeFault, Sink, Source, serve_lines};
 use marker_parts::{MarkerEnvironment, MarkerEnvironmentBuilder, Refusal, StringVersion};
 use marker_session::{Command, Session};
 use marker_words::{MarkerValueVersion, TextVariable};
@@ -327,15 +323,29 @@ pub fn serve<R: Source, W: Sink>(
     reader: &mut R,
     writer: &mut W,
 ) -> Result<(), ServeFault>
-    ensures ok { OnOk result (IsAtEnd (R.remaining reader.new) × ((input output : List ℕ) × (lines : List (List ℕ)) × (end : State) × Consumes (R.remaining reader.old) (R.remaining reader.new) input × Appends (W.contents writer.old) (W.contents writer.new) output × Lines input lines × Answers LineStep start lines output end)) }
-    ensures input { result ≡ Err ServeFault.Input → ((input output : List ℕ) × (lines : List (List ℕ)) × (rest : List ℕ) × (end : State) × Consumes (R.remaining reader.old) (R.remaining reader.new) input × Appends (W.contents writer.old) (W.contents writer.new) output × WholeLines input lines rest × Answers LineStep start lines output end) }
-    ensures err { OnErr result ((input output : List ℕ) × (lines : List (List ℕ)) × Consumes (R.remaining reader.old) (R.remaining reader.new) input × Appends (W.contents writer.old) (W.contents writer.new) output × LinesSoFar (R.remaining reader.new) input lines × AnswersBeginning LineStep start lines output) }
+    ensures at_end { OnOk result (IsAtEnd (R.remaining reader.new)) }
+    ensures ok { OnOk result
+        ((end : State)
+        × Exchanges (R.remaining reader.old) (R.remaining reader.new)
+        (W.contents writer.old) (W.contents writer.new)
+        (AnswersEachLine LineStep start end)) }
+    ensures input { result ≡ Err ServeFault.Input →
+        ((end : State)
+        × Exchanges (R.remaining reader.old) (R.remaining reader.new)
+        (W.contents writer.old) (W.contents writer.new)
+        (AnswersWholeLines LineStep start end)) }
+    ensures err { OnErr result
+        (Exchanges (R.remaining reader.old) (R.remaining reader.new)
+        (W.contents writer.old) (W.contents writer.new)
+        (AnswersFirstLines LineStep (R.remaining reader.new) start)) }
 
     // Which fault it is.
     ensures input_failed { result ≡ Err ServeFault.Input → IsTrue (R.has_failed reader.new) }
-    ensures input_sound { result ≢ Err ServeFault.Input → R.has_failed reader.new ≡ R.has_failed reader.old }
+    ensures input_sound { result ≢ Err ServeFault.Input →
+        R.has_failed reader.new ≡ R.has_failed reader.old }
     ensures output_failed { result ≡ Err ServeFault.Output → IsTrue (W.has_failed writer.new) }
-    ensures output_sound { result ≢ Err ServeFault.Output → W.has_failed writer.new ≡ W.has_failed writer.old }
+    ensures output_sound { result ≢ Err ServeFault.Output →
+        W.has_failed writer.new ≡ W.has_failed writer.old }
     ensures no_usage { result ≢ Err ServeFault.Usage }
 {
     let Ok(mut session) = LineSession::new(alloc) else {

@@ -1,7 +1,8 @@
 //! The program `markers`: a reply line on standard output for each line of standard input.
 #![tactic(auto)]
 
-use marker_lines::{Input, Output, ServeFault, serve};
+use line_server::{Input, Output, ServeFault};
+use marker_lines::serve;
 use std::process::ExitCode;
 use std::{env, io};
 

@@ -1,0 +1,4 @@
+pub mod PortLaws
+pub mod LineLaws
+pub mod ServingLaws
+pub mod ServeLaws

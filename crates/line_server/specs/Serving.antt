@@ -1,0 +1,76 @@
+-- Lines that are answered one after another (this project). A step leads from a state by a line and
+-- a reply, both without the line feed that ends them, to a state.
+use Rattle.std.specs.Prelude.{◌≡◌, ℕ, List, [], ◌∷◌, ◌++◌, Option}
+use Rattle.std.specs.List.{flat_map}
+use Rattle.std.specs.Io.KnownBytes.{Appends, Consumes}
+use Rattle.line_server.specs.Lines.{with_feed, WholeLines, Lines, LinesSoFar}
+
+-- from the state `old` the lines may be answered by these replies, one by one, and the state is
+-- `new` then
+pub data Run {State : Type 0} (Step : State → List ℕ → List ℕ → State → Type 0)
+    : State → List (List ℕ) → List (List ℕ) → State → Type 0 where
+  done : {state : State} → Run Step state [] [] state
+  next : {old middle new : State} {line reply : List ℕ} {lines replies : List (List ℕ)}
+      → Step old line reply middle → Run Step middle lines replies new
+      → Run Step old (line ∷ lines) (reply ∷ replies) new
+
+-- the output is, line by line, a reply with a line feed
+pub record Answers {State : Type 0} (Step : State → List ℕ → List ℕ → State → Type 0)
+    (old : State) (lines : List (List ℕ)) (output : List ℕ) (new : State) : Type 0 where
+  pub replies : List (List ℕ)
+  pub run : Run Step old lines replies new
+  pub written : output ≡ flat_map with_feed replies
+
+-- the output is a beginning of what answers the first of the lines
+pub record AnswersBeginning {State : Type 0} (Step : State → List ℕ → List ℕ → State → Type 0)
+    (old : State) (lines : List (List ℕ)) (output : List ℕ) : Type 0 where
+  pub answered : List (List ℕ)
+  pub others : List (List ℕ)
+  pub more : List ℕ
+  pub new : State
+  pub joined : lines ≡ answered ++ others
+  pub answers : Answers Step old answered (output ++ more) new
+
+-- Behind `held`, the beginning of a line, these bytes are answered by the output; `rest` is the
+-- beginning of a line then.
+pub record Serves {State : Type 0} (Step : State → List ℕ → List ℕ → State → Type 0)
+    (old : State) (held bytes output : List ℕ) (new : State) (rest : List ℕ) : Type 0 where
+  pub lines : List (List ℕ)
+  pub read : WholeLines (held ++ bytes) lines rest
+  pub answers : Answers Step old lines output new
+
+module _ {State : Type 0} (Step : State → List ℕ → List ℕ → State → Type 0) where
+  -- The step leads from `old` by this line to `new`, and its reply comes behind `before`.
+  abbrev pub AddsReply : State → List ℕ → State → List ℕ → List ℕ → Type 0
+  AddsReply old line new before after =
+      (reply : List ℕ) × Step old line reply new × (after ≡ before ++ reply)
+
+  -- The same, with the line feed that ends the reply.
+  abbrev pub AddsLine : State → List ℕ → State → List ℕ → List ℕ → Type 0
+  AddsLine old line new before after =
+      (reply : List ℕ) × Step old line reply new × (after ≡ before ++ with_feed reply)
+
+  -- the output answers each line of the input, which ends here
+  pub record AnswersEachLine (old new : State) (input output : List ℕ) : Type 0 where
+    pub lines : List (List ℕ)
+    pub read : Lines input lines
+    pub answers : Answers Step old lines output new
+
+  -- the output answers each line of the input that a line feed ends
+  pub record AnswersWholeLines (old new : State) (input output : List ℕ) : Type 0 where
+    pub lines : List (List ℕ)
+    pub rest : List ℕ
+    pub read : WholeLines input lines rest
+    pub answers : Answers Step old lines output new
+
+  -- the output is a beginning of what answers the lines of the input, behind which `left` is left
+  pub record AnswersFirstLines (left : Option (List ℕ)) (old : State)
+      (input output : List ℕ) : Type 0 where
+    pub lines : List (List ℕ)
+    pub read : LinesSoFar left input lines
+    pub answers : AnswersBeginning Step old lines output
+
+-- Of these known bytes some input was read, and some output written to those, and both are so.
+abbrev pub Exchanges : (was is had has : Option (List ℕ)) → (List ℕ → List ℕ → Type 0) → Type 0
+Exchanges was is had has P =
+    (input output : List ℕ) × Consumes was is input × Appends had has output × P input output

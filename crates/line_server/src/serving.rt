@@ -1,0 +1,163 @@
+//! Lines that are answered one after another, as they come.
+
+ghost use Rattle.std.specs.Prelude.{◌≡◌, ◌≢◌, ◌++◌, [], ℕ, List, IsTrue, Err, OnOk, OnErr};
+ghost use Rattle.std.specs.Io.KnownBytes.{Appends, IsAtEnd};
+ghost use Rattle.line_server.specs.Lines.{HasNoFeed};
+ghost use Rattle.line_server.specs.Serving.{Serves, AddsReply, AddsLine, AnswersEachLine, AnswersWholeLines, AnswersFirstLines, Exchanges};
+ghost use Rattle.line_server.specs.Ports.{AppendsBeginning};
+
+use crate::fault::ServeFault;
+use crate::sink::{Sink, write_all};
+use crate::source::Source;
+use memchr::memchr;
+use std::alloc::{AllocError, Global};
+
+/// Answers lines, one after another.
+pub trait Answer {
+    /// A step: from the first state the line may be answered by the reply, both without the line
+    /// feed that ends them, and the last state comes of it.
+    ghost step: { Self → List ℕ → List ℕ → Self → Type 0 };
+
+    /// Answers one line, given without its line feed: adds the reply to `replies`, without the
+    /// line feed that ends it. An error is refused room for the line's words or its reply.
+    fn answer(&mut self, line: &[u8], replies: &mut Vec<u8>) -> Result<(), AllocError>
+        ensures { OnOk result
+            (AddsReply step self.old line.now self.new replies.old.items replies.new.items) };
+}
+
+// Answers a line, and ends the reply.
+fn answer_line<A: Answer>(
+    answerer: &mut A,
+    line: &[u8],
+    replies: &mut Vec<u8>,
+) -> Result<(), AllocError>
+    ensures { OnOk result
+        (AddsLine A.step answerer.old line.now answerer.new replies.old.items replies.new.items) }
+{
+    answerer.answer(line, replies)?;
+    replies.push(b'\n')?;
+    Ok(())
+}
+
+// Answers the line that `end` ends; what `held` holds comes before it.
+fn end_line<A: Answer>(
+    answerer: &mut A,
+    held: &mut Vec<u8>,
+    end: &[u8],
+    replies: &mut Vec<u8>,
+) -> Result<(), AllocError>
+    ensures held { OnOk result (held.new.items ≡ []) }
+    ensures reply { OnOk result
+        (AddsLine A.step answerer.old (held.old.items ++ end.now) answerer.new
+        replies.old.items replies.new.items) }
+{
+    let begun = held.as_slice();
+    if begun.is_empty() {
+        return answer_line(answerer, end, replies);
+    }
+    held.extend_from_slice(end)?;
+    answer_line(answerer, held.as_slice(), replies)?;
+    held.clear();
+    Ok(())
+}
+
+// Answers each line that ends in these bytes, and holds the beginning of the next.
+fn take_bytes<A: Answer>(
+    answerer: &mut A,
+    held: &mut Vec<u8>,
+    bytes: &[u8],
+    replies: &mut Vec<u8>,
+) -> Result<(), AllocError>
+    requires { HasNoFeed held.old.items }
+    ensures { OnOk result
+        ((output : List ℕ)
+        × Serves A.step answerer.old held.old.items bytes.now output answerer.new held.new.items
+        × (replies.new.items ≡ replies.old.items ++ output)) }
+{
+    let mut rest = bytes;
+    while let Some(end) = memchr(b'\n', rest) {
+        end_line(answerer, held, &rest[..end], replies)?;
+        rest = &rest[end + 1..];
+    }
+    held.extend_from_slice(rest)?;
+    Ok(())
+}
+
+// Hands all the replies to the sink.
+fn hand_over<W: Sink>(replies: &mut Vec<u8>, sink: &mut W) -> Result<(), ServeFault>
+    ensures emptied { OnOk result (replies.new.items ≡ []) }
+    ensures all { OnOk result
+        (Appends (W.contents sink.old) (W.contents sink.new) replies.old.items) }
+    ensures sound { OnOk result (W.has_failed sink.new ≡ W.has_failed sink.old) }
+
+    ensures fault { OnErr result (result ≡ Err ServeFault.Output) }
+    ensures beginning { OnErr result
+        (AppendsBeginning (W.contents sink.old) (W.contents sink.new) replies.old.items) }
+    ensures failed { OnErr result (IsTrue (W.has_failed sink.new)) }
+{
+    let Ok(()) = write_all(sink, replies.as_slice()) else {
+        return Err(ServeFault::Output);
+    };
+    replies.clear();
+    Ok(())
+}
+
+/// Answers each line of the source, and hands the replies to the sink, each with a line feed: the
+/// replies to all whole lines read so far before the source is asked again.
+///
+/// `Err` is `Input` where a read failed, `Output` where a write failed, and else `Memory`, where
+/// room for a line, its words or its reply was refused. After a failed read the replies to all
+/// whole lines that were read are written, after the other two a beginning of them.
+pub fn serve_lines<A: Answer, R: Source, W: Sink>(
+    alloc: Global,
+    answerer: &mut A,
+    source: &mut R,
+    sink: &mut W,
+) -> Result<(), ServeFault>
+    ensures at_end { OnOk result (IsAtEnd (R.remaining source.new)) }
+    ensures ok { OnOk result
+        (Exchanges (R.remaining source.old) (R.remaining source.new)
+        (W.contents sink.old) (W.contents sink.new)
+        (AnswersEachLine A.step answerer.old answerer.new)) }
+    ensures input { result ≡ Err ServeFault.Input →
+        Exchanges (R.remaining source.old) (R.remaining source.new)
+        (W.contents sink.old) (W.contents sink.new)
+        (AnswersWholeLines A.step answerer.old answerer.new) }
+    ensures err { OnErr result
+        (Exchanges (R.remaining source.old) (R.remaining source.new)
+        (W.contents sink.old) (W.contents sink.new)
+        (AnswersFirstLines A.step (R.remaining source.new) answerer.old)) }
+
+    // Which fault it is.
+    ensures input_failed { result ≡ Err ServeFault.Input → IsTrue (R.has_failed source.new) }
+    ensures input_sound { result ≢ Err ServeFault.Input →
+        R.has_failed source.new ≡ R.has_failed source.old }
+    ensures output_failed { result ≡ Err ServeFault.Output → IsTrue (W.has_failed sink.new) }
+    ensures output_sound { result ≢ Err ServeFault.Output →
+        W.has_failed sink.new ≡ W.has_failed sink.old }
+    ensures no_usage { result ≢ Err ServeFault.Usage }
+{
+    let mut held = Vec::new(alloc);
+    let mut replies = Vec::new(alloc);
+    let mut buffer = [0u8; 8192];
+    loop {
+        let Ok(count) = source.read(&mut buffer) else {
+            return Err(ServeFault::Input);
+        };
+        if count == 0 {
+            break;
+        }
+        let Ok(()) = take_bytes(answerer, &mut held, &buffer[..count], &mut replies) else {
+            return Err(ServeFault::Memory);
+        };
+        hand_over(&mut replies, sink)?;
+    }
+    let last = held.as_slice();
+    if last.is_empty() {
+        return Ok(());
+    }
+    let Ok(()) = answer_line(answerer, last, &mut replies) else {
+        return Err(ServeFault::Memory);
+    };
+    hand_over(&mut replies, sink)
+}

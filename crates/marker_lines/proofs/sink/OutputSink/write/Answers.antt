@@ -1,9 +1,0 @@
-use Rattle.std.proofs.Common.{subst, sym}
-use Rattle.marker_lines.specs.Ports.{AppendsBeginning}
-use Rattle.marker_lines.proofs.PortLaws.{beginning_taken}
-use Rattle.marker_lines.proofs.sink.OutputSink.write.Goals as goal
-
-pub returns-in-Err-clause-beginning : goal.returns-in-Err-clause-beginning
-returns-in-Err-clause-beginning g c =
-    subst (λ x. AppendsBeginning (g.W.Write.contents c.args.self.now.writer) (g.W.Write.contents x) c.args.bytes.now) (sym c.fail-in-Err.ensures.writer)
-    (beginning_taken (g.W.Write.contents c.args.self.now.writer) (g.W.Write.contents c.write.new.self) _ c.args.bytes.now c.in-Ok.count c.in-Ok.ensures.bytes c.flush.ensures.bytes)
