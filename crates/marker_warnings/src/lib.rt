@@ -2,8 +2,6 @@
 #![tactic(auto)]
 
 mod reporter;
-#[cfg(test)]
-mod tests;
 mod warning;
 
 pub use crate::reporter::{ReportTo, Reporter, TracingReporter};

@@ -6,8 +6,6 @@ mod error;
 pub mod laws;
 mod pep508_url;
 mod surroundings;
-#[cfg(test)]
-mod tests;
 mod underline;
 
 pub use crate::error::{Pep508Error, Pep508ErrorSource};

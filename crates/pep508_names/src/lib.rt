@@ -6,8 +6,6 @@ mod invalid_name;
 pub mod laws;
 mod normal;
 mod package_name;
-#[cfg(test)]
-mod tests;
 
 pub use extra_name::ExtraName;
 pub use invalid_name::InvalidNameError;

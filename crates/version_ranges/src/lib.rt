@@ -18,8 +18,6 @@ mod overlay;
 mod pairs;
 mod pieces;
 mod ranges;
-#[cfg(test)]
-mod tests;
 
 pub use clamp::has_point;
 pub use cuts::Cuts;
