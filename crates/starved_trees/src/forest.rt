@@ -65,7 +65,8 @@ impl Forest {
 
     /// Whether each tree has its truths.
     pub fn is_kept(&self, given: &Given) -> bool {
-        for (tree, row) in self.trees.iter().zip(self.rows.iter()) {
+        let rows = self.rows;
+        for (tree, row) in self.trees.iter().zip(rows.iter()) {
             let with = self.is_true(*tree, given, &given.extras);
             let without = self.is_true(*tree, given, &[]);
             if with != row.1 || without != row.2 {
