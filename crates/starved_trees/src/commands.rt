@@ -10,13 +10,7 @@ use std::alloc::Global;
 use url::Url;
 
 // Asks once more of a family, and tells what was met so far.
-fn next(
-    session: &mut Session,
-    given: &Given,
-    met: Met,
-    call: Met,
-    asked: Asked<'_>,
-) -> Met {
+fn next(session: &mut Session, given: &Given, met: Met, call: Met, asked: Asked<'_>) -> Met {
     match ask(session, given, &READ_TRUTHS, asked) {
         Answered::AtOnce => met,
         Answered::Again => met.and(call),
@@ -36,7 +30,13 @@ fn read_all(session: &mut Session, given: &Given) -> Met {
 fn refuse_all(session: &mut Session, given: &Given) -> Met {
     let mut met = Met::Nothing;
     for (index, row) in REFUSED.iter().enumerate() {
-        met = next(session, given, met, Met::Call("faults", index), Asked::Fault(*row));
+        met = next(
+            session,
+            given,
+            met,
+            Met::Call("faults", index),
+            Asked::Fault(*row),
+        );
     }
     met
 }
@@ -50,7 +50,13 @@ fn join_all(session: &mut Session, given: &Given, comparison: &MarkerExpression)
         let asked = Asked::Cell(made, *command, &[]);
         met = next(session, given, met, Met::Call("joinings", row), asked);
         let asked = Asked::Cell(read, Command::Parse(text), &[]);
-        met = next(session, given, met, Met::Call("texts of joinings", row), asked);
+        met = next(
+            session,
+            given,
+            met,
+            Met::Call("texts of joinings", row),
+            asked,
+        );
         let equal = session.execute(Command::Equal(made, read));
         let disjoint = session.execute(Command::Disjoint(made, read));
         if equal != Reply::Truth(true) || disjoint != Reply::Truth(false) {
@@ -72,7 +78,13 @@ pub fn run_commands(alloc: Global) -> Met {
     let met = read_all(&mut session, &given)
         .and(refuse_all(&mut session, &given))
         .and(join_all(&mut session, &given, &comparison));
-    let met = next(&mut session, &given, met, Met::Call("replies", 0), Asked::Both(1, 3));
+    let met = next(
+        &mut session,
+        &given,
+        met,
+        Met::Call("replies", 0),
+        Asked::Both(1, 3),
+    );
     if has_cells(&mut session, &given, &READ_TRUTHS, READ.len()) {
         met
     } else {

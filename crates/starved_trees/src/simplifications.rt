@@ -61,7 +61,10 @@ const CALLS: [(Simplified, Simplified); 9] = [
         Simplified::Extras(1),
         Simplified::Text("python_version == '3.9'"),
     ),
-    (Simplified::Extras(2), Simplified::Text("os_name > 'cygwin'")),
+    (
+        Simplified::Extras(2),
+        Simplified::Text("os_name > 'cygwin'"),
+    ),
     (
         Simplified::ExtrasWith(1, "dev-"),
         Simplified::Text("python_version == '3.9'"),
@@ -71,7 +74,10 @@ const CALLS: [(Simplified, Simplified); 9] = [
         Simplified::Text("os_name > 'cygwin' and extra == 'dev-tools'"),
     ),
     (Simplified::Simplify(1, Range::Between), Simplified::Tree(3)),
-    (Simplified::Complexify(3, Range::Between), Simplified::Tree(1)),
+    (
+        Simplified::Complexify(3, Range::Between),
+        Simplified::Tree(1),
+    ),
 ];
 
 impl Forest {

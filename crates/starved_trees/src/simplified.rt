@@ -57,7 +57,12 @@ pub fn run_commands(alloc: Global) -> Met {
     let mut met = Met::Nothing;
     for (index, (command, same)) in commands(&given).iter().enumerate() {
         let cell = index.saturating_add(TEXTS.len());
-        match ask(&mut session, &given, &TRUTHS, Asked::Cell(cell, *command, &[])) {
+        match ask(
+            &mut session,
+            &given,
+            &TRUTHS,
+            Asked::Cell(cell, *command, &[]),
+        ) {
             Answered::AtOnce => {}
             Answered::Again => met = Met::Call("simplified", index),
             Answered::Otherwise => return Met::WrongAnswer,

@@ -94,10 +94,7 @@ const CALLS: [(Made, Made); 14] = [
         Made::Nested("os_name == 'nt'"),
         Made::Text("os_name == 'nt'"),
     ),
-    (
-        Made::Asks("other"),
-        Made::Text("extra == 'other'"),
-    ),
+    (Made::Asks("other"), Made::Text("extra == 'other'")),
     (
         Made::AtEnd("python_version > '3.18446744073709551615'"),
         Made::Text("'a' == 'b'"),
