@@ -15,6 +15,8 @@ from checks.edits import Edit
 from checks.kit import Repository, version
 
 FILE = Path(".ci") / "record"
+# What does not try edits.
+OTHERS = ["self_test", "starved"]
 HEAD = """\
 # The crates whose wrong bodies were all refused, each with a sum of what that depends on.
 # Written by `.ci/wrong_bodies --record`, after a pass, and by nothing else.
@@ -32,7 +34,7 @@ class Record:
             lines = self.file.read_text().splitlines()
             self.kept = dict(line.split() for line in lines if line and not line.startswith("#"))
         checks = sorted((repository.root / ".ci" / "checks").glob("*.py"))
-        scripts = [script for script in checks if script.stem != "self_test"]
+        scripts = [script for script in checks if script.stem not in OTHERS]
         scripts.append(repository.root / ".ci" / "wrong_bodies")
         self.common = f"{version()}\n{repository.sum_of(scripts)}"
 

@@ -1,6 +1,6 @@
 //! Types of URLs.
 
-ghost use Rattle.std.specs.Prelude.{◌≡◌, ◌≢◌, ℕ, List, Bool, false, None, Ok, IfOk, IfErr};
+ghost use Rattle.std.specs.Prelude.{◌≡◌, ◌≢◌, ℕ, List, Bool, true, false, ⊤, None, Ok, IfOk, IfErr};
 ghost use Rattle.refusal.specs.declared.Refusal.TheVariants.{OutOfMemory, SegmentAtEnd, Fault};
 ghost use Rattle.pep508_errors.specs.declared.surroundings.Surroundings.{Surroundings};
 ghost use Rattle.pep508_errors.specs.Url.{is_overflow, IfFault};
@@ -17,7 +17,8 @@ use url::{ParseError, Url};
 /// A type of URLs that a requirement may have.
 ///
 /// The type says which values a text has, and reading answers one of them. A text that has a value
-/// is refused only for want of memory, or by a fault of size.
+/// is refused only for want of memory, or by a fault of size, where the type says that the text may
+/// be too large.
 pub trait Pep508Url: Display + Debug + Drop {
     /// What is wrong with a text that is refused.
     type Err: Error;
@@ -27,6 +28,9 @@ pub trait Pep508Url: Display + Debug + Drop {
 
     /// The fault says that the text is too large, and nothing else of it.
     ghost tells_size: { Self.Err → Bool };
+
+    /// A fault of size may be told of the text in the surroundings.
+    ghost may_overflow: { List ℕ → Surroundings → Type 0 };
 
     /// Reads a URL. Refused where there is no memory for it, by [`Refusal::OutOfMemory`], and where
     /// the text is at fault, by [`Refusal::Fault`].
@@ -38,6 +42,8 @@ pub trait Pep508Url: Display + Debug + Drop {
         ensures value { IfOk result (λ url. names text.now surroundings.now url) }
         ensures fault { IfErr result (λ refusal. IfFault refusal (λ fault.
             tells_size fault ≡ false → (url : Self) → ¬ names text.now surroundings.now url)) }
+        ensures size { IfErr result (λ refusal. IfFault refusal (λ fault.
+            tells_size fault ≡ true → may_overflow text.now surroundings.now)) }
         ensures no_end { IfErr result (λ refusal. refusal ≢ SegmentAtEnd) };
 }
 
@@ -53,13 +59,15 @@ pub fn refusal_of(fault: ParseError) -> Refusal<ParseError>
 }
 
 /// A text has the value that the URL Standard gives it, whatever the surroundings. The fault of size is
-/// [`ParseError::Overflow`], for URLs of 4 GB.
+/// [`ParseError::Overflow`], for URLs of 4 GB; `url` does not say of which texts it tells that.
 impl Pep508Url for Url {
     type Err = ParseError;
 
     ghost names = { λ text _ url. parse_url None text ≡ Ok url };
 
     ghost tells_size = { is_overflow };
+
+    ghost may_overflow = { λ _ _. ⊤ };
 
     fn parse_url(
         alloc: Global,
