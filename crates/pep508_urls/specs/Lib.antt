@@ -1,0 +1,9 @@
+pub mod Extras
+pub mod Fault
+pub mod Path
+pub mod PathUrl
+pub mod Scheme
+pub mod Meaning
+pub mod Variables
+pub mod Verbatim
+pub mod Unnamed

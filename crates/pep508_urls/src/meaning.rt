@@ -1,0 +1,36 @@
+//! What a text stands for once its variables are expanded.
+
+ghost use Rattle.std.specs.Prelude.{IfOk};
+ghost use Rattle.pep508_urls.specs.Meaning.{meaning_of, StandsFor};
+
+use crate::path::normalize_url_path;
+use crate::scheme::{Scheme, split_scheme, strip_host};
+use std::alloc::{AllocError, Global};
+use std::borrow::CowStr;
+
+/// A URL as it is written, or a path.
+#[derive(Drop)]
+pub enum Target<'a> {
+    /// A URL with a scheme that is not `file`.
+    Url(&'a str),
+    /// The path of a `file` URL, or a text that is no URL.
+    Path(CowStr<'a>),
+}
+
+impl<'a> Target<'a> {
+    /// Tells URLs from paths. The text has no variables any more.
+    pub fn of(alloc: Global, text: &'a str) -> Result<Target<'a>, AllocError>
+        ensures { IfOk result (λ target. StandsFor text.now (meaning_of target)) }
+    {
+        let Some((scheme, rest)) = split_scheme(text) else {
+            return Ok(Target::Path(CowStr::Borrowed(text)));
+        };
+        match Scheme::parse(scheme) {
+            Some(scheme) if scheme.is_file() => {
+                Ok(Target::Path(normalize_url_path(alloc, strip_host(rest))?))
+            }
+            Some(_) => Ok(Target::Url(text)),
+            None => Ok(Target::Path(CowStr::Borrowed(text))),
+        }
+    }
+}

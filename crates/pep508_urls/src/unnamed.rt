@@ -1,0 +1,67 @@
+//! Types of URLs that a requirement without a name may have.
+
+ghost use Rattle.std.specs.Prelude.{◌≡◌, ◌≢◌, ℕ, List, Option, Some, None, IfErr, IfOk, true, false, option_copied, string_bytes};
+ghost use Rattle.refusal.specs.declared.Refusal.TheVariants.{SegmentAtEnd};
+ghost use Rattle.pep508_errors.specs.Url.{IfFault};
+ghost use Rattle.pep508_urls.specs.Meaning.{is_path, is_url};
+ghost use Rattle.pep508_urls.specs.Unnamed.{EachMayOverflow, MakesNamed, NamesNone};
+
+use pep508_errors::Pep508Url;
+use refusal::Refusal;
+use std::alloc::Global;
+
+/// A type of URLs that a requirement without a name may have: it tells paths from URLs, and keeps
+/// the text.
+pub trait UnnamedRequirementUrl: Pep508Url + PartialEq {
+    /// What a value becomes that is given as a text.
+    ghost gives: { Self → List ℕ → Self → Type 0 };
+
+    /// The text that a value was given as, if it was.
+    ghost given_text: { Self → Option (List ℕ) };
+
+    /// The value of a path from a folder.
+    fn parse_path(alloc: Global, path: &str, working_dir: &str) -> Result<Self, Refusal<Self::Err>>
+        ensures value { IfOk result (λ url.
+            MakesNamed Self.names gives (Some working_dir.now) (is_path path.now) url) }
+        ensures fault { IfErr result (λ refusal. IfFault refusal (λ fault.
+            Self.tells_size fault ≡ false
+            → NamesNone Self.names (Some working_dir.now) (is_path path.now))) }
+        ensures size { IfErr result (λ refusal. IfFault refusal (λ fault.
+            Self.tells_size fault ≡ true
+            → EachMayOverflow Self.may_overflow (Some working_dir.now) (is_path path.now))) }
+        ensures no_end { IfErr result (λ refusal. refusal ≢ SegmentAtEnd) };
+
+    /// The value of a path that stands alone.
+    fn parse_absolute_path(alloc: Global, path: &str) -> Result<Self, Refusal<Self::Err>>
+        ensures value { IfOk result (λ url.
+            MakesNamed Self.names gives None (is_path path.now) url) }
+        ensures fault { IfErr result (λ refusal. IfFault refusal (λ fault.
+            Self.tells_size fault ≡ false → NamesNone Self.names None (is_path path.now))) }
+        ensures size { IfErr result (λ refusal. IfFault refusal (λ fault.
+            Self.tells_size fault ≡ true
+            → EachMayOverflow Self.may_overflow None (is_path path.now))) }
+        ensures no_end { IfErr result (λ refusal. refusal ≢ SegmentAtEnd) };
+
+    /// The value of a URL as it is written.
+    fn parse_unnamed_url(alloc: Global, text: &str) -> Result<Self, Refusal<Self::Err>>
+        ensures value { IfOk result (λ url. (folder : Option (List ℕ))
+            → MakesNamed Self.names gives folder (is_url text.now) url) }
+        ensures fault { IfErr result (λ refusal. IfFault refusal (λ fault.
+            Self.tells_size fault ≡ false → (folder : Option (List ℕ))
+            → NamesNone Self.names folder (is_url text.now))) }
+        ensures size { IfErr result (λ refusal. IfFault refusal (λ fault.
+            Self.tells_size fault ≡ true → (folder : Option (List ℕ))
+            → EachMayOverflow Self.may_overflow folder (is_url text.now))) }
+        ensures no_end { IfErr result (λ refusal. refusal ≢ SegmentAtEnd) };
+
+    /// The same value, given as a text.
+    fn with_given(self, given: String) -> Self
+        ensures gives { gives self (string_bytes given) result }
+        ensures given { given_text result ≡ Some (string_bytes given) }
+        ensures text { Self.output result ≡ Self.output self }
+        ensures equality { (other : Self) → Self.eq result other ≡ Self.eq self other };
+
+    /// The text that a value was given as, if it was.
+    fn given(&self) -> Option<&str>
+        ensures { option_copied result ≡ given_text self.now };
+}
