@@ -127,7 +127,7 @@ impl Interner {
         ensures counted { IfOk result (IsCounted self.old self.new) }
         ensures short { IsShort a b → IsOk result × (self.new ≡ self.old) }
     {
-        if let Some(id) = short_cut(&self.nodes, a, b) {
+        if let Some(id) = short_cut(a, b) {
             return Ok(id);
         }
         if let Some(id) = self.memo.get(&(a, b)) {
