@@ -213,7 +213,8 @@ impl Interner {
         requires { diagram.AreChildren markers self.old.nodes (variable node) (value_at node) }
         ensures kept { IsKept self.old self.new }
         ensures rules { IsStore markers self.new.nodes }
-        ensures id { IfOk result (diagram.IsChoice markers self.new.nodes (variable node) (value_at node)) }
+        ensures id { IfOk result
+            (diagram.IsChoice markers self.new.nodes (variable node) (value_at node)) }
     {
         self.nodes.place_node(node)
     }
@@ -225,10 +226,12 @@ impl Interner {
         children: Vec<NodeId>,
     ) -> Result<NodeId, AllocError>
         requires count { vec_len children ≡ count branches }
-        requires children { diagram.AreChildren markers self.old.nodes (variable branches) (listed_child branches children.items) }
+        requires children { diagram.AreChildren markers self.old.nodes (variable branches)
+            (listed_child branches children.items) }
         ensures kept { IsKept self.old self.new }
         ensures rules { IsStore markers self.new.nodes }
-        ensures id { IfOk result (diagram.IsChoice markers self.new.nodes (variable branches) (listed_child branches children.items)) }
+        ensures id { IfOk result (diagram.IsChoice markers self.new.nodes (variable branches)
+            (listed_child branches children.items)) }
     {
         self.nodes.place(branches, children)
     }
