@@ -6,8 +6,6 @@ pub mod Descents
 pub mod Disjoints
 pub mod Firsts
 pub mod Grants
-pub mod NeighborLaws
-pub mod PairLaws
 pub mod PossibleLaws
 pub mod RangeLaws
 pub mod ReportLaws

@@ -3,30 +3,25 @@
 ghost use Rattle.std.specs.Prelude.{◌≡◌, ◌↔◌, ◌<◌, ◌+◌, false, length, IfOk, IsOk, IsTrue, vec_len};
 ghost use Rattle.marker_environment.specs.Valuation.{Valuation};
 ghost use Rattle.marker_environment.specs.Environment.{valuation_of, values_of};
-ghost use Rattle.version_ranges.specs.Cuts.{piece_count};
-ghost use Rattle.marker_diagrams.specs.Diagram.{IsStore};
 ghost use Rattle.marker_diagrams.specs.Diagram as diagram;
+ghost use Rattle.marker_diagrams.specs.Diagram.{IsStore};
 ghost use Rattle.marker_diagrams.specs.Id.{place_of};
-ghost use Rattle.marker_nodes.specs.Variable.{of_version, of_text, truth_variable, answer};
-ghost use Rattle.marker_nodes.specs.Node.{markers, pick, text_child, truth_child, variable, version_child};
+ghost use Rattle.marker_nodes.specs.Variable.{answer};
+ghost use Rattle.marker_nodes.specs.Node.{markers};
 ghost use Rattle.marker_graph.specs.Contents.{nothing, IsAnd, IsHeld, IsKept, IsWellKept, Separated};
-ghost use Rattle.marker_graph.specs.Branch.{AreAnds, AreBelow, IsFirst};
+ghost use Rattle.marker_graph.specs.Branch.{AreAnds, AreBelow};
 ghost use Rattle.marker_graph.specs.Count.{IsCounted, IsShort, Spends};
 
 use crate::child::child_in;
 use crate::disjoint::are_disjoint;
-use crate::first::{first_node, short_cut};
-use crate::pairs::{halves, piece_values, text_pairs, version_pairs};
+use crate::first::short_cut;
 use crate::tree::MarkerTree;
 use marker_environment::MarkerEnvironment;
-use marker_nodes::{Node, NodeId, NodeTable, TruthVariable};
-use marker_words::{TextVariable, VersionVariable};
-use pep440_version::Version;
+use marker_nodes::{Branches, Node, NodeId, NodeTable, TruthVariable};
 use pep508_names::ExtraName;
 use std::alloc::{AllocError, Global};
 use std::collections::HashMap;
 use std::marker::Model;
-use version_ranges::Cuts;
 
 /// The nodes of many markers, and the conjunctions that were computed.
 ///
@@ -56,10 +51,8 @@ impl Interner {
     pub fn new(alloc: Global) -> Self
         ensures { result ≡ nothing }
     {
-        let nodes = NodeTable::new(alloc);
-        nodes.keeps_the_rules();
         Interner {
-            nodes,
+            nodes: NodeTable::new(alloc),
             memo: HashMap::new(alloc),
             expansions: 0,
             alloc,
@@ -134,7 +127,6 @@ impl Interner {
         ensures counted { IfOk result (IsCounted self.old self.new) }
         ensures short { IsShort a b → IsOk result × (self.new ≡ self.old) }
     {
-        let _nodes = &self.nodes;
         if let Some(id) = short_cut(a, b) {
             return Ok(id);
         }
@@ -158,92 +150,10 @@ impl Interner {
         ensures and { IfOk result (IsAnd self.new.nodes a b) }
         ensures spends { Spends self.old self.new (place_of a + place_of b) a b }
     {
-        match first_node(&self.nodes, a, b) {
-            Node::Version(variable, _) => {
-                let variable = *variable;
-                self.and_version(variable, a, b)
-            }
-            Node::Text(variable, _) => {
-                let variable = *variable;
-                self.and_text(variable, a, b)
-            }
-            Node::Truth(variable, _, _) => {
-                let variable = variable.clone()?;
-                self.and_truth(variable, a, b)
-            }
-        }
-    }
-
-    // The conjunction of two ids whose first variable is one of versions.
-    #[cycle(and)]
-    fn and_version(
-        &mut self,
-        variable: VersionVariable,
-        a: NodeId,
-        b: NodeId,
-    ) -> Result<NodeId, AllocError>
-        requires a { diagram.IsHeld self.old.nodes a }
-        requires b { diagram.IsHeld self.old.nodes b }
-        requires first { IsFirst self.old.nodes (of_version variable) a b }
-        ensures kept { IsKept self.old self.new }
-        ensures and { IfOk result (IsAnd self.new.nodes a b) }
-        ensures spends { Spends self.old self.new (place_of a + place_of b) a b }
-    {
-        let pieces = version_pairs(self.alloc, &self.nodes, variable, a, b)?;
-        let pairs = piece_values(self.alloc, &pieces)?;
+        let branches = self.nodes.side_by_side(self.alloc, a, b)?;
+        let pairs = branches.values(self.alloc)?;
         let children = self.and_all(a, b, &pairs)?;
-        let placed = self.nodes.place_versions(variable, pieces, children);
-        self.nodes.keeps_the_rules();
-        placed
-    }
-
-    // The conjunction of two ids whose first variable is one of texts.
-    #[cycle(and)]
-    fn and_text(
-        &mut self,
-        variable: TextVariable,
-        a: NodeId,
-        b: NodeId,
-    ) -> Result<NodeId, AllocError>
-        requires a { diagram.IsHeld self.old.nodes a }
-        requires b { diagram.IsHeld self.old.nodes b }
-        requires first { IsFirst self.old.nodes (of_text variable) a b }
-        ensures kept { IsKept self.old self.new }
-        ensures and { IfOk result (IsAnd self.new.nodes a b) }
-        ensures spends { Spends self.old self.new (place_of a + place_of b) a b }
-    {
-        let pieces = text_pairs(self.alloc, &self.nodes, variable, a, b)?;
-        let pairs = piece_values(self.alloc, &pieces)?;
-        let children = self.and_all(a, b, &pairs)?;
-        let placed = self.nodes.place_texts(variable, pieces, children);
-        self.nodes.keeps_the_rules();
-        placed
-    }
-
-    // The conjunction of two ids whose first variable is whether something is so.
-    #[cycle(and)]
-    fn and_truth(
-        &mut self,
-        variable: TruthVariable,
-        a: NodeId,
-        b: NodeId,
-    ) -> Result<NodeId, AllocError>
-        requires a { diagram.IsHeld self.old.nodes a }
-        requires b { diagram.IsHeld self.old.nodes b }
-        requires first { IsFirst self.old.nodes (truth_variable variable) a b }
-        ensures kept { IsKept self.old self.new }
-        ensures and { IfOk result (IsAnd self.new.nodes a b) }
-        ensures spends { Spends self.old self.new (place_of a + place_of b) a b }
-    {
-        let (high_a, low_a) = halves(&self.nodes, &variable, a);
-        let (high_b, low_b) = halves(&self.nodes, &variable, b);
-        let pairs = [(high_a, high_b), (low_a, low_b)];
-        let children = self.and_all(a, b, &pairs)?;
-        let high = children[0];
-        let low = children[1];
-        let placed = self.nodes.place_truth(variable, high, low);
-        self.nodes.keeps_the_rules();
-        placed
+        self.nodes.place(branches, children)
     }
 
     // The conjunctions of pairs of children of two ids, under the signs of the ids.
@@ -273,93 +183,6 @@ impl Interner {
 }
 
 impl Interner {
-    // The id that is true where it is so.
-    pub(crate) fn asks(&mut self, variable: TruthVariable) -> Result<NodeId, AllocError>
-        ensures kept { IsKept self.old self.new }
-        ensures held { IfOk result (diagram.IsHeld self.new.nodes) }
-        ensures means { IfOk result (λ id. (v : Valuation) → diagram.truth markers self.new.nodes id v ≡ answer variable v) }
-    {
-        let placed = self
-            .nodes
-            .place_truth(variable, NodeId::TRUE, NodeId::FALSE);
-        self.nodes.keeps_the_rules();
-        placed
-    }
-
-    // The id that means what the node does.
-    pub(crate) fn place(&mut self, node: Node) -> Result<NodeId, AllocError>
-        requires { diagram.AreChildren markers self.old.nodes (variable node) (pick node) }
-        ensures kept { IsKept self.old self.new }
-        ensures rules { IsStore markers self.new.nodes }
-        ensures id { IfOk result (diagram.IsChoice markers self.new.nodes (variable node) (pick node)) }
-    {
-        let placed = self.nodes.place(node);
-        self.nodes.keeps_the_rules();
-        placed
-    }
-
-    // As `place`, of the node that has these children on the pieces of the versions.
-    pub(crate) fn place_versions(
-        &mut self,
-        variable: VersionVariable,
-        pieces: Cuts<Version, NodeId>,
-        children: Vec<NodeId>,
-    ) -> Result<NodeId, AllocError>
-        requires count { vec_len children ≡ piece_count pieces }
-        requires children { diagram.AreChildren markers self.old.nodes (of_version variable) (version_child variable pieces children.items) }
-        ensures kept { IsKept self.old self.new }
-        ensures rules { IsStore markers self.new.nodes }
-        ensures id { IfOk result (diagram.IsChoice markers self.new.nodes (of_version variable) (version_child variable pieces children.items)) }
-    {
-        let placed = self.nodes.place_versions(variable, pieces, children);
-        self.nodes.keeps_the_rules();
-        placed
-    }
-
-    // As `place`, of the node that has these children on the pieces of the texts.
-    pub(crate) fn place_texts(
-        &mut self,
-        variable: TextVariable,
-        pieces: Cuts<String, NodeId>,
-        children: Vec<NodeId>,
-    ) -> Result<NodeId, AllocError>
-        requires count { vec_len children ≡ piece_count pieces }
-        requires children { diagram.AreChildren markers self.old.nodes (of_text variable) (text_child variable pieces children.items) }
-        ensures kept { IsKept self.old self.new }
-        ensures rules { IsStore markers self.new.nodes }
-        ensures id { IfOk result (diagram.IsChoice markers self.new.nodes (of_text variable) (text_child variable pieces children.items)) }
-    {
-        let placed = self.nodes.place_texts(variable, pieces, children);
-        self.nodes.keeps_the_rules();
-        placed
-    }
-
-    // As `place`, of the node that has the child `high` where it is so and `low` where it is not.
-    pub(crate) fn place_truth(
-        &mut self,
-        variable: TruthVariable,
-        high: NodeId,
-        low: NodeId,
-    ) -> Result<NodeId, AllocError>
-        requires { diagram.AreChildren markers self.old.nodes (truth_variable variable) (truth_child variable high low) }
-        ensures kept { IsKept self.old self.new }
-        ensures rules { IsStore markers self.new.nodes }
-        ensures id { IfOk result (diagram.IsChoice markers self.new.nodes (truth_variable variable) (truth_child variable high low)) }
-    {
-        let placed = self.nodes.place_truth(variable, high, low);
-        self.nodes.keeps_the_rules();
-        placed
-    }
-
-    // The nodes.
-    pub(crate) fn table(&self) -> &NodeTable
-        ensures { result.now ≡ self.now.nodes }
-    {
-        &self.nodes
-    }
-}
-
-impl Interner {
     ghost use Rattle.marker_graph.specs.Disjoint.{TellsDisjoint};
 
     // Whether no valuation satisfies both ids.
@@ -369,5 +192,55 @@ impl Interner {
         ensures { TellsDisjoint self.now.nodes a b result }
     {
         are_disjoint(self.alloc, &self.nodes, a, b)
+    }
+}
+
+impl Interner {
+    ghost use Rattle.marker_nodes.specs.Branches.{count, value_at, variable};
+    ghost use Rattle.marker_nodes.specs.Node.{listed_child};
+
+    // The id that is true where it is so.
+    pub(crate) fn asks(&mut self, variable: TruthVariable) -> Result<NodeId, AllocError>
+        ensures kept { IsKept self.old self.new }
+        ensures held { IfOk result (diagram.IsHeld self.new.nodes) }
+        ensures means { IfOk result (λ id. (v : Valuation) → diagram.truth markers self.new.nodes id v ≡ answer variable v) }
+    {
+        self.place_node(Branches::Truth(variable, NodeId::TRUE, NodeId::FALSE))
+    }
+
+    // The id that means what the node does.
+    pub(crate) fn place_node(&mut self, node: Node) -> Result<NodeId, AllocError>
+        requires { diagram.AreChildren markers self.old.nodes (variable node) (value_at node) }
+        ensures kept { IsKept self.old self.new }
+        ensures rules { IsStore markers self.new.nodes }
+        ensures id { IfOk result
+            (diagram.IsChoice markers self.new.nodes (variable node) (value_at node)) }
+    {
+        self.nodes.place_node(node)
+    }
+
+    // The id of the node that has these children on the pieces.
+    pub(crate) fn place<V: Drop>(
+        &mut self,
+        branches: Branches<V>,
+        children: Vec<NodeId>,
+    ) -> Result<NodeId, AllocError>
+        requires count { vec_len children ≡ count branches }
+        requires children { diagram.AreChildren markers self.old.nodes (variable branches)
+            (listed_child branches children.items) }
+        ensures kept { IsKept self.old self.new }
+        ensures rules { IsStore markers self.new.nodes }
+        ensures id { IfOk result (diagram.IsChoice markers self.new.nodes (variable branches)
+            (listed_child branches children.items)) }
+    {
+        self.nodes.place(branches, children)
+    }
+
+    // The nodes.
+    pub(crate) fn table(&self) -> &NodeTable
+        ensures table { result.now ≡ self.now.nodes }
+        ensures rules { IsStore markers self.now.nodes }
+    {
+        &self.nodes
     }
 }

@@ -38,7 +38,6 @@ pub fn tree_of(
     while let Some(token) = tokens.next() {
         apply(interner, &mut trees, token)?;
     }
-    interner.keeps_the_rules();
     match trees.pop() {
         Some(tree) => Ok(tree),
         None => Ok(MarkerTree::TRUE),

@@ -46,4 +46,4 @@ pub returns-clause-means : goal.returns-clause-means
 returns-clause-means c =
     let none : into_iter_items c.loop-token.tokens ≡ [] = nil_from_length _ (sym c.loop-token.tokens.rest.ok.0 ∙ c.in_default.ensures.cases.0) in
     let all = whole_tree c.args.formula.tokens.items (into_iter_items c.loop-token.tokens) c.loop-token.interner c.loop-token.trees.items none c.loop-token.invariant.done in
-    λ v. true_is c.loop-token.interner.nodes c.keeps_the_rules.ensures.nodes v ∙ sym (nothing_says_true c.loop-token.interner (stack_of c.args.formula.tokens.items) c.loop-token.trees.items all (nil_from_length _ (sym c.loop-token.trees.ok.0 ∙ c.in-None.ensures.cases.0)) v)
+    λ v. true_is c.loop-token.interner.nodes v ∙ sym (nothing_says_true c.loop-token.interner (stack_of c.args.formula.tokens.items) c.loop-token.trees.items all (nil_from_length _ (sym c.loop-token.trees.ok.0 ∙ c.in-None.ensures.cases.0)) v)

@@ -1,19 +1,13 @@
-use Rattle.std.proofs.Common.{◌≡◌, sym, ap, refl, ◌∙◌, ◌∷◌, [], arith, string_bytes}
-use Rattle.pep440_version.specs.Order.{version_cmp}
-use Rattle.version_ranges.specs.Cuts.{value_of, value_by, piece_of, piece_by}
+use Rattle.std.proofs.Common.{sym, ap, ◌∙◌, arith}
 use Rattle.marker_diagrams.proofs.NodeLaws.{keeps_both}
-use Rattle.marker_nodes.specs.Variable.{of_version, of_text, truth_variable}
-use Rattle.marker_nodes.specs.Node.{markers, text_cmp}
-use Rattle.marker_diagrams.specs.declared.node_id.TheConstants.NodeId.{TRUE}
-use Rattle.marker_diagrams.proofs.ChoiceLaws.{children_same}
-use Rattle.marker_nodes.proofs.PieceChildren.{one_default}
-use Rattle.marker_graph.proofs.Descents.{kept_store}
-use Rattle.marker_graph.proofs.AndLaws.{known_is, known_more, held_kept, well_kept_longer, next_below, next_ands, step_below, step_children, step_placed, version_found, text_found, text_listed, truth_pair, truth_index, truth_found, truth_listed, truth_has, truth_same, truth_choice}
+use Rattle.marker_nodes.specs.Node.{markers}
+use Rattle.marker_nodes.specs.Branches.{piece, value_at, variable}
+use Rattle.marker_graph.proofs.AndLaws.{known_is, known_more, held_kept, well_kept_longer, next_below, next_ands, step_below, step_children, step_placed}
 use Rattle.marker_graph.proofs.CountLaws.{descends_of, spends_end, spends_placed, next_spends}
 use Rattle.marker_graph.proofs.interner.Interner.+and.Goals as goal
 
 pub and-returns-in-Some-clause-and : goal.and-returns-in-Some-clause-and
-and-returns-in-Some-clause-and t c = c.in-Some.ensures.short c.args.self.now.nodes (kept_store c.args.self.now _ c.self.invariant c.self.view_is) c.requires.a c.requires.b
+and-returns-in-Some-clause-and t c = c.in-Some.ensures.short c.args.self.now.nodes c.requires.a c.requires.b
 
 pub and-returns-in-Some-get-clause-and : goal.and-returns-in-Some-get-clause-and
 and-returns-in-Some-get-clause-and t c = known_is c.args.self.now _ c.args.a c.args.b _ c.self.invariant c.self.view_is c.in-Some-get.ensures.value
@@ -61,93 +55,27 @@ and_all-returns-in_err-push-clause-spends t c =
 pub and_all-returns-clause-ands : goal.and_all-returns-clause-ands
 and_all-returns-clause-ands t c = c.loop-i.invariant.done
 
-pub and_text-and_all-requires : goal.and_text-and_all-requires
-and_text-and_all-requires t c = (
+pub expanded-and_all-requires : goal.expanded-and_all-requires
+expanded-and_all-requires t c = (
   omega (arith, c.decreases),
-  step_below c.args.self.now.nodes c.self.inside.nodes (ap (λ s. s.nodes) c.self.view_is) c.self.invariant.nodes c.args.a c.args.b c.requires.a c.requires.b (of_text c.args.variable) c.requires.first
-      (λ v. value_by string_bytes text_cmp c.in_ok-pieces.pieces (v.text c.args.variable)) c.in_ok-pieces.ensures c.in_ok-pairs.pairs.items c.deref.result.now c.deref.ensures.value (text_found c.args.variable c.in_ok-pieces.pieces c.in_ok-pairs.pairs.items c.in_ok-pairs.ensures.inhabited),
+  step_below c.args.self.now.nodes c.self.inside.nodes (ap (λ s. s.nodes) c.self.view_is) c.self.invariant.nodes c.args.a c.args.b c.requires.a c.requires.b (variable c.in_ok-branches.branches) c.in_ok-branches.ensures.first
+      (value_at c.in_ok-branches.branches) c.in_ok-branches.ensures.children c.in_ok-pairs.pairs.items c.deref.result.now c.deref.ensures.value c.in_ok-pairs.ensures.inhabited,
 )
 
-pub and_text-place_texts-placed-requires-clause-children : goal.and_text-place_texts-placed-requires-clause-children
-and_text-place_texts-placed-requires-clause-children t c =
-    step_children c.args.self.now.nodes c.self.inside.nodes (ap (λ s. s.nodes) c.self.view_is) c.self.invariant.nodes c.args.a c.args.b c.requires.a c.requires.b (of_text c.args.variable) c.requires.first
-    (λ v. value_by string_bytes text_cmp c.in_ok-pieces.pieces (v.text c.args.variable)) c.in_ok-pieces.ensures c.in_ok-pairs.pairs.items c.deref.result.now c.deref.ensures.value
-    c.and_all.new.self.nodes c.in_ok-children.ensures.kept c.in_ok-children.children.items (sym c.in_ok-children.children.ok.0 ∙ c.in_ok-children.ensures.count) c.in_ok-children.ensures.ands (λ v. piece_by string_bytes text_cmp c.in_ok-pieces.pieces (v.text c.args.variable)) (λ v. text_listed c.in_ok-pieces.pieces c.in_ok-pairs.pairs.items c.in_ok-pairs.ensures.value (v.text c.args.variable)) c.self-2.inside.nodes (ap (λ s. s.nodes) c.self-2.view_is)
+pub expanded-place-requires-clause-children : goal.expanded-place-requires-clause-children
+expanded-place-requires-clause-children t c =
+    step_children c.args.self.now.nodes c.self.inside.nodes (ap (λ s. s.nodes) c.self.view_is) c.self.invariant.nodes c.args.a c.args.b c.requires.a c.requires.b (variable c.in_ok-branches.branches) c.in_ok-branches.ensures.first
+    (value_at c.in_ok-branches.branches) c.in_ok-branches.ensures.children c.in_ok-pairs.pairs.items c.deref.result.now c.deref.ensures.value
+    c.and_all.new.self.nodes c.in_ok-children.ensures.kept c.in_ok-children.children.items (sym c.in_ok-children.children.ok.0 ∙ c.in_ok-children.ensures.count) c.in_ok-children.ensures.ands (piece c.in_ok-branches.branches) c.in_ok-pairs.ensures.value c.self-2.inside.nodes (ap (λ s. s.nodes) c.self-2.view_is)
 
-pub and_text-invariant_of-self : goal.and_text-invariant_of-self
-and_text-invariant_of-self t c = well_kept_longer _ _ c.self-2.invariant c.keeps_the_rules.ensures c.place_texts-placed.ensures.kept
+pub expanded-invariant_of-self : goal.expanded-invariant_of-self
+expanded-invariant_of-self t c = well_kept_longer _ _ c.self-2.invariant (c.place.ensures.rules c.self-2.invariant.nodes) c.place.ensures.kept
 
-pub and_text-returns-clause-spends : goal.and_text-returns-clause-spends
-and_text-returns-clause-spends t c = spends_placed c.args.self.now c.and_all.new.self c.in_ok-children.ensures.spends c.self-2.view_is
+pub expanded-returns-clause-spends : goal.expanded-returns-clause-spends
+expanded-returns-clause-spends t c = spends_placed c.args.self.now c.and_all.new.self c.in_ok-children.ensures.spends c.self-2.view_is
 
-pub and_text-returns-clause-and : goal.and_text-returns-clause-and
-and_text-returns-clause-and t c =
-    step_placed c.args.self.now.nodes c.self.inside.nodes (ap (λ s. s.nodes) c.self.view_is) c.self.invariant.nodes c.args.a c.args.b c.requires.a c.requires.b (of_text c.args.variable) c.requires.first
-    (λ v. value_by string_bytes text_cmp c.in_ok-pieces.pieces (v.text c.args.variable)) c.in_ok-pieces.ensures c.in_ok-pairs.pairs.items c.deref.result.now c.deref.ensures.value
-    c.and_all.new.self.nodes c.in_ok-children.ensures.kept c.in_ok-children.children.items (sym c.in_ok-children.children.ok.0 ∙ c.in_ok-children.ensures.count) c.in_ok-children.ensures.ands (λ v. piece_by string_bytes text_cmp c.in_ok-pieces.pieces (v.text c.args.variable)) (λ v. text_listed c.in_ok-pieces.pieces c.in_ok-pairs.pairs.items c.in_ok-pairs.ensures.value (v.text c.args.variable)) c.self-2.inside.nodes c.place_texts-placed.new.self (ap (λ s. s.nodes) c.self-2.view_is) c.place_texts-placed.ensures.kept c.place_texts-placed.result c.place_texts-placed.ensures.id
-
-pub and_version-and_all-requires : goal.and_version-and_all-requires
-and_version-and_all-requires t c = (
-  omega (arith, c.decreases),
-  step_below c.args.self.now.nodes c.self.inside.nodes (ap (λ s. s.nodes) c.self.view_is) c.self.invariant.nodes c.args.a c.args.b c.requires.a c.requires.b (of_version c.args.variable) c.requires.first
-      (λ v. value_of version_cmp c.in_ok-pieces.pieces (v.version c.args.variable)) c.in_ok-pieces.ensures c.in_ok-pairs.pairs.items c.deref.result.now c.deref.ensures.value (version_found c.args.variable c.in_ok-pieces.pieces c.in_ok-pairs.pairs.items c.in_ok-pairs.ensures.inhabited),
-)
-
-pub and_version-place_versions-placed-requires-clause-children : goal.and_version-place_versions-placed-requires-clause-children
-and_version-place_versions-placed-requires-clause-children t c =
-    step_children c.args.self.now.nodes c.self.inside.nodes (ap (λ s. s.nodes) c.self.view_is) c.self.invariant.nodes c.args.a c.args.b c.requires.a c.requires.b (of_version c.args.variable) c.requires.first
-    (λ v. value_of version_cmp c.in_ok-pieces.pieces (v.version c.args.variable)) c.in_ok-pieces.ensures c.in_ok-pairs.pairs.items c.deref.result.now c.deref.ensures.value
-    c.and_all.new.self.nodes c.in_ok-children.ensures.kept c.in_ok-children.children.items (sym c.in_ok-children.children.ok.0 ∙ c.in_ok-children.ensures.count) c.in_ok-children.ensures.ands (λ v. piece_of version_cmp c.in_ok-pieces.pieces (v.version c.args.variable)) (λ v. c.in_ok-pairs.ensures.value (v.version c.args.variable)) c.self-2.inside.nodes (ap (λ s. s.nodes) c.self-2.view_is)
-
-pub and_version-invariant_of-self : goal.and_version-invariant_of-self
-and_version-invariant_of-self t c = well_kept_longer _ _ c.self-2.invariant c.keeps_the_rules.ensures c.place_versions-placed.ensures.kept
-
-pub and_version-returns-clause-spends : goal.and_version-returns-clause-spends
-and_version-returns-clause-spends t c = spends_placed c.args.self.now c.and_all.new.self c.in_ok-children.ensures.spends c.self-2.view_is
-
-pub and_version-returns-clause-and : goal.and_version-returns-clause-and
-and_version-returns-clause-and t c =
-    step_placed c.args.self.now.nodes c.self.inside.nodes (ap (λ s. s.nodes) c.self.view_is) c.self.invariant.nodes c.args.a c.args.b c.requires.a c.requires.b (of_version c.args.variable) c.requires.first
-    (λ v. value_of version_cmp c.in_ok-pieces.pieces (v.version c.args.variable)) c.in_ok-pieces.ensures c.in_ok-pairs.pairs.items c.deref.result.now c.deref.ensures.value
-    c.and_all.new.self.nodes c.in_ok-children.ensures.kept c.in_ok-children.children.items (sym c.in_ok-children.children.ok.0 ∙ c.in_ok-children.ensures.count) c.in_ok-children.ensures.ands (λ v. piece_of version_cmp c.in_ok-pieces.pieces (v.version c.args.variable)) (λ v. c.in_ok-pairs.ensures.value (v.version c.args.variable)) c.self-2.inside.nodes c.place_versions-placed.new.self (ap (λ s. s.nodes) c.self-2.view_is) c.place_versions-placed.ensures.kept c.place_versions-placed.result c.place_versions-placed.ensures.id
-
-pub and_truth-and_all-requires : goal.and_truth-and_all-requires
-and_truth-and_all-requires t c = (
-  omega (arith, c.decreases),
-  step_below c.args.self.now.nodes c.self.inside.nodes (ap (λ s. s.nodes) c.self.view_is) c.self.invariant.nodes c.args.a c.args.b c.requires.a c.requires.b (truth_variable c.args.variable) c.requires.first
-      (truth_pair c.args.variable (c.halves.result.0, c.halves-2.result.0) (c.halves.result.1, c.halves-2.result.1))
-      (truth_has c.self.inside.nodes c.args.variable c.args.a c.args.b c.halves.result.0 c.halves.result.1 c.halves-2.result.0 c.halves-2.result.1 c.halves.ensures c.halves-2.ensures)
-      ((c.halves.result.0, c.halves-2.result.0) ∷ (c.halves.result.1, c.halves-2.result.1) ∷ []) ((c.halves.result.0, c.halves-2.result.0) ∷ (c.halves.result.1, c.halves-2.result.1) ∷ []) refl (truth_found c.args.variable (c.halves.result.0, c.halves-2.result.0) (c.halves.result.1, c.halves-2.result.1)),
-)
-
-pub and_truth-place_truth-placed-requires : goal.and_truth-place_truth-placed-requires
-and_truth-place_truth-placed-requires t c =
-    children_same markers c.self-2.inside.nodes (truth_variable c.args.variable) _ _
-    (truth_same c.args.variable c.in_ok-children.children.items c.index-high.result.now c.index-low.result.now
-    (one_default c.in_ok-children.children.items 0 c.index-high.result.now TRUE (let n = c.in_ok-children.children.ok.0 in let h : c.in_ok-children.children.len ≡ 2 = c.in_ok-children.ensures.count in omega arith) c.index-high.ensures)
-    (one_default c.in_ok-children.children.items 1 c.index-low.result.now TRUE (let n = c.in_ok-children.children.ok.0 in let h : c.in_ok-children.children.len ≡ 2 = c.in_ok-children.ensures.count in omega arith) c.index-low.ensures))
-    (step_children c.args.self.now.nodes c.self.inside.nodes (ap (λ s. s.nodes) c.self.view_is) c.self.invariant.nodes c.args.a c.args.b c.requires.a c.requires.b (truth_variable c.args.variable) c.requires.first
-    (truth_pair c.args.variable (c.halves.result.0, c.halves-2.result.0) (c.halves.result.1, c.halves-2.result.1))
-    (truth_has c.self.inside.nodes c.args.variable c.args.a c.args.b c.halves.result.0 c.halves.result.1 c.halves-2.result.0 c.halves-2.result.1 c.halves.ensures c.halves-2.ensures)
-    ((c.halves.result.0, c.halves-2.result.0) ∷ (c.halves.result.1, c.halves-2.result.1) ∷ []) ((c.halves.result.0, c.halves-2.result.0) ∷ (c.halves.result.1, c.halves-2.result.1) ∷ []) refl
-    c.and_all.new.self.nodes c.in_ok-children.ensures.kept c.in_ok-children.children.items (sym c.in_ok-children.children.ok.0 ∙ c.in_ok-children.ensures.count) c.in_ok-children.ensures.ands (truth_index c.args.variable)
-    (truth_listed c.args.variable (c.halves.result.0, c.halves-2.result.0) (c.halves.result.1, c.halves-2.result.1)) c.self-2.inside.nodes (ap (λ s. s.nodes) c.self-2.view_is))
-
-pub and_truth-invariant_of-self : goal.and_truth-invariant_of-self
-and_truth-invariant_of-self t c = well_kept_longer _ _ c.self-2.invariant c.keeps_the_rules.ensures c.place_truth-placed.ensures.kept
-
-pub and_truth-returns-clause-spends : goal.and_truth-returns-clause-spends
-and_truth-returns-clause-spends t c = spends_placed c.args.self.now c.and_all.new.self c.in_ok-children.ensures.spends c.self-2.view_is
-
-pub and_truth-returns-clause-and : goal.and_truth-returns-clause-and
-and_truth-returns-clause-and t c =
-    step_placed c.args.self.now.nodes c.self.inside.nodes (ap (λ s. s.nodes) c.self.view_is) c.self.invariant.nodes c.args.a c.args.b c.requires.a c.requires.b (truth_variable c.args.variable) c.requires.first
-    (truth_pair c.args.variable (c.halves.result.0, c.halves-2.result.0) (c.halves.result.1, c.halves-2.result.1))
-    (truth_has c.self.inside.nodes c.args.variable c.args.a c.args.b c.halves.result.0 c.halves.result.1 c.halves-2.result.0 c.halves-2.result.1 c.halves.ensures c.halves-2.ensures)
-    ((c.halves.result.0, c.halves-2.result.0) ∷ (c.halves.result.1, c.halves-2.result.1) ∷ []) ((c.halves.result.0, c.halves-2.result.0) ∷ (c.halves.result.1, c.halves-2.result.1) ∷ []) refl
-    c.and_all.new.self.nodes c.in_ok-children.ensures.kept c.in_ok-children.children.items (sym c.in_ok-children.children.ok.0 ∙ c.in_ok-children.ensures.count) c.in_ok-children.ensures.ands (truth_index c.args.variable)
-    (truth_listed c.args.variable (c.halves.result.0, c.halves-2.result.0) (c.halves.result.1, c.halves-2.result.1)) c.self-2.inside.nodes c.place_truth-placed.new.self (ap (λ s. s.nodes) c.self-2.view_is) c.place_truth-placed.ensures.kept c.place_truth-placed.result
-    (truth_choice c.place_truth-placed.new.self c.args.variable c.in_ok-children.children.items c.index-high.result.now c.index-low.result.now
-    (one_default c.in_ok-children.children.items 0 c.index-high.result.now TRUE (let n = c.in_ok-children.children.ok.0 in let h : c.in_ok-children.children.len ≡ 2 = c.in_ok-children.ensures.count in omega arith) c.index-high.ensures)
-    (one_default c.in_ok-children.children.items 1 c.index-low.result.now TRUE (let n = c.in_ok-children.children.ok.0 in let h : c.in_ok-children.children.len ≡ 2 = c.in_ok-children.ensures.count in omega arith) c.index-low.ensures)
-    c.place_truth-placed.result c.place_truth-placed.ensures.id)
+pub expanded-returns-clause-and : goal.expanded-returns-clause-and
+expanded-returns-clause-and t c =
+    step_placed c.args.self.now.nodes c.self.inside.nodes (ap (λ s. s.nodes) c.self.view_is) c.self.invariant.nodes c.args.a c.args.b c.requires.a c.requires.b (variable c.in_ok-branches.branches) c.in_ok-branches.ensures.first
+    (value_at c.in_ok-branches.branches) c.in_ok-branches.ensures.children c.in_ok-pairs.pairs.items c.deref.result.now c.deref.ensures.value
+    c.and_all.new.self.nodes c.in_ok-children.ensures.kept c.in_ok-children.children.items (sym c.in_ok-children.children.ok.0 ∙ c.in_ok-children.ensures.count) c.in_ok-children.ensures.ands (piece c.in_ok-branches.branches) c.in_ok-pairs.ensures.value c.self-2.inside.nodes c.place.new.self (ap (λ s. s.nodes) c.self-2.view_is) c.place.ensures.kept c.place.result c.place.ensures.id
