@@ -7,6 +7,7 @@ crate and its edits, all crates below it, the toolchain's line, and these script
 from __future__ import annotations
 
 import hashlib
+import threading
 from pathlib import Path
 
 from checks import edits
@@ -21,6 +22,8 @@ HEAD = """\
 # The crates whose wrong bodies were all refused, each with a sum of what that depends on.
 # Written by `.ci/wrong_bodies --record`, after a pass, and by nothing else.
 """
+
+WRITING = threading.Lock()
 
 
 class Record:
@@ -52,8 +55,10 @@ class Record:
     def stands(self, task: str, total: str) -> bool:
         return self.kept.get(task) == total
 
-    def write(self, passed: dict[str, str], tasks: set[str]) -> None:
-        """Writes the sums of what passed, and keeps those of other tasks that there still are."""
-        kept = {task: total for task, total in {**self.kept, **passed}.items() if task in tasks}
-        lines = [f"{task} {total}\n" for task, total in sorted(kept.items())]
-        self.file.write_text(HEAD + "".join(lines))
+    def keep(self, task: str, total: str, tasks: set[str]) -> None:
+        """Writes the sum of a task that has passed, beside those of other tasks that there still
+        are. So what passed is kept also where a later task fails, or where the run is ended."""
+        with WRITING:
+            self.kept = {it: sum for it, sum in self.kept.items() if it in tasks} | {task: total}
+            lines = [f"{it} {sum}\n" for it, sum in sorted(self.kept.items())]
+            self.file.write_text(HEAD + "".join(lines))
