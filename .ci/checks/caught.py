@@ -11,6 +11,7 @@ from pathlib import Path
 from checks import edits
 from checks.edits import BadEdit, Edit
 from checks.kit import Repository
+from checks.unproved import quick_kit
 
 # What an edit names in place of a test: the lines of the program `markers`, with their replies.
 STORED_RUN = "stored run"
@@ -33,6 +34,7 @@ class Trial:
         self.tester = tester
         self.edits = tried
         self.copy = room / tester
+        self.rt = quick_kit(room / f"kit-{tester}")
         self.tell = tell
 
     def run(self) -> bool:
@@ -95,7 +97,7 @@ class Trial:
     def tried(self, *words: str) -> str:
         """What `rt try` says, which builds without any proof."""
         ran = subprocess.run(
-            ["rt", "try", *words],
+            [self.rt, "try", *words],
             cwd=self.copy / "crates" / self.tester,
             stdin=subprocess.DEVNULL,
             stdout=subprocess.PIPE,

@@ -9,6 +9,7 @@ from dataclasses import dataclass
 from pathlib import Path
 
 from checks.kit import Repository
+from checks.unproved import quick_kit
 
 NOTHING = "nothing was refused"
 
@@ -41,6 +42,7 @@ class Starved:
         self.repository = repository
         self.room = room
         self.tell = tell
+        self.rt = quick_kit(room / "kit")
 
     def run(self, program: str, growth: int, cases: dict[str, str]) -> tuple[int, str]:
         """Builds a program, runs it on each input with this growth refused, and answers the status
@@ -50,7 +52,7 @@ class Starved:
         for name, given in cases.items():
             (folder / name).write_text(given)
         said = subprocess.run(
-            ["rt", "try", "--fail-alloc", str(growth), "--cases", str(folder)],
+            [self.rt, "try", "--fail-alloc", str(growth), "--cases", str(folder)],
             cwd=self.repository.folder(program),
             stdout=subprocess.PIPE,
             stderr=subprocess.STDOUT,
