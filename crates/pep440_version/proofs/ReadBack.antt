@@ -11,7 +11,7 @@ use Rattle.pep440_version.specs.declared.version.Prerelease.{Prerelease}
 use Rattle.pep440_version.specs.declared.version.PrereleaseKind.{PrereleaseKind}
 use Rattle.pep440_version.specs.Parts.{Parts, Segment}
 use Rattle.pep440_version.specs.Valid.{is_word_byte}
-use Rattle.pep440_version.specs.Grammar.{IsDev, IsEpoch, IsLocal, IsMark, IsNumber, IsNumbering, IsPost, IsPostWord, IsPre, IsPreWord, IsRelease, IsSegment, IsSegments, IsSeparator, IsVersion, IsVersionText, bare, before, dash, dashed, dev, dot, epoch, last, last_segment, left_out, long_alpha, long_beta, mark, no_dev, no_epoch, no_local, no_mark, no_post, no_pre, numeric, plus, post, pre, segment_before, short_alpha, short_beta, textual, underscore, version, word_c, word_post, word_pre, word_preview, word_r, word_rc, word_rev, written}
+use Rattle.pep440_version.specs.Grammar.{IsDev, IsEpoch, IsLocal, IsMark, IsNumber, IsNumbering, IsPattern, IsPatternText, IsPost, IsPostWord, IsPre, IsPreWord, IsRelease, IsSegment, IsSegments, IsSeparator, IsVersion, IsVersionText, bare, before, dash, dashed, dev, dot, epoch, last, last_segment, left_out, long_alpha, long_beta, mark, no_dev, no_epoch, no_local, no_mark, no_post, no_pre, numeric, plain, plus, post, pre, segment_before, short_alpha, short_beta, starred, textual, underscore, version, word_c, word_post, word_pre, word_preview, word_r, word_rc, word_rev, written}
 
 -- no white space, and not changed by a change to lower case
 abbrev is_text_byte : ℕ → Bool
@@ -164,3 +164,13 @@ version-text t v h =
     let plain = version-plain t v h in
     let same : map to_ascii_lowercase (trim t) ≡ t = ap (map to_ascii_lowercase) (plain-trim t plain) ∙ plain-lower t plain in
     subst (λ (z : List ℕ). IsVersion z v) (sym same) h
+
+pattern-plain : (t : List ℕ) (v : Parts) (star : Bool) → IsPattern t v star → IsPlain t
+pattern-plain t v star (plain h) = version-plain t v h
+pattern-plain t v star (starred {m = m} {e = e} {r = r} is_m is_e is_r) = both m _ (mark-plain is_m) (both e _ (epoch-plain is_e) (both r _ (release-plain is_r) refl))
+
+pub pattern-text : (t : List ℕ) (v : Parts) (star : Bool) → IsPattern t v star → IsPatternText t v star
+pattern-text t v star h =
+    let plain = pattern-plain t v star h in
+    let same : map to_ascii_lowercase (trim t) ≡ t = ap (map to_ascii_lowercase) (plain-trim t plain) ∙ plain-lower t plain in
+    subst (λ (z : List ℕ). IsPattern z v star) (sym same) h
