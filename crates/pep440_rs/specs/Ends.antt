@@ -29,11 +29,15 @@ ends_of operator.TildeEqual r = at_release r ∷ at_release (raised (front r)) �
 ends_of operator.EqualStar r = at_release r ∷ at_release (raised r) ∷ []
 ends_of operator.NotEqualStar r = at_release r ∷ at_release (raised r) ∷ []
 
--- the same of a comparison of `python_version`
+-- where the versions from `M.m` up to `M.(m+1)` begin and end
+abbrev minor_ends : List ℕ → List (Point Parts)
+minor_ends r = at_release (minor_release r) ∷ at_release (next_minor r) ∷ []
+
+-- where the set of a comparison of `python_version` begins and ends
 abbrev pub python_ends_of : Operator → List ℕ → List (Point Parts)
-python_ends_of operator.Equal r = at_release (minor_release (trimmed r)) ∷ at_release (next_minor (trimmed r)) ∷ []
-python_ends_of operator.ExactEqual r = at_release (minor_release (trimmed r)) ∷ at_release (next_minor (trimmed r)) ∷ []
-python_ends_of operator.NotEqual r = at_release (minor_release (trimmed r)) ∷ at_release (next_minor (trimmed r)) ∷ []
+python_ends_of operator.Equal r = minor_ends (trimmed r)
+python_ends_of operator.ExactEqual r = minor_ends (trimmed r)
+python_ends_of operator.NotEqual r = minor_ends (trimmed r)
 python_ends_of operator.LessThan r = at_release (first_minor (trimmed r)) ∷ []
 python_ends_of operator.LessThanEqual r = at_release (next_minor (trimmed r)) ∷ []
 python_ends_of operator.GreaterThan r = at_release (next_minor (trimmed r)) ∷ []

@@ -98,7 +98,8 @@ impl VersionSpecifierError {
 
     /// The text that was read, with the white space around it, None where no text was read.
     pub fn text(&self) -> Option<&str>
-        ensures { MatchOption result (self.now.place ≡ None) (λ text. IsAt self.now.place text.now) }
+        ensures { MatchOption result (self.now.place ≡ None)
+            (λ text. IsAt self.now.place text.now) }
     {
         match &self.place {
             Some(place) => Some(place.text.as_str()),
@@ -106,8 +107,8 @@ impl VersionSpecifierError {
         }
     }
 
-    /// How many bytes of the text stand before the fault, None where no text was read. There a character begins, or the
-    /// text ends.
+    /// How many bytes of the text stand before the fault, None where no text was read. There a
+    /// character begins, or the text ends.
     pub fn offset(&self) -> Option<usize>
         ensures value { result ≡ offset_of self.now.place }
         ensures boundary { IfSome result (λ offset. IsBetweenCharacters self.now.place offset) }

@@ -37,21 +37,24 @@ pub fn text_says_one_specifier()
     ensures { (text : List ℕ) (s t : Specifier) → IsSpecifierText text s → IsSpecifierText text t → s ≡ t }
 {}
 
-/// The operator and the version of each specifier go together, and the parts of its version are valid.
+/// The operator and the version of each specifier go together, and the parts of its version are
+/// valid.
 pub fn specifiers_are_well_formed(specifier: &VersionSpecifier)
     ensures { IsWellFormed specifier.now }
 {
     normal_text_reads_back(specifier.version());
 }
 
-/// The text of a specifier is read back as that specifier, with as many release numbers, stars and `~=` included.
+/// The text of a specifier is read back as that specifier, with as many release numbers, stars and
+/// `~=` included.
 pub fn specifier_text_reads_back()
     ensures { (s : Specifier) → IsWellFormed s → IsSpecifierText (specifier_text s) s }
 {}
 
-/// The text of a specifier has the characters of versions and of operators, and `*`, alone: no white space, no capital,
-/// no comma, no semicolon and no quote.
+/// The text of a specifier has the characters of versions and of operators, and `*`, alone: no white
+/// space, no capital, no comma, no semicolon and no quote.
 pub fn specifier_text_is_plain()
-    ensures bytes { (s : Specifier) → IsWellFormed s → list_all is_specifier_byte (specifier_text s) ≡ true }
+    ensures bytes { (s : Specifier) → IsWellFormed s
+        → list_all is_specifier_byte (specifier_text s) ≡ true }
     ensures plain { (b : ℕ) → is_specifier_byte b ≡ true → IsPlainByte b }
 {}

@@ -52,15 +52,17 @@ pub fn normal_text_reads_back(version: &Version)
     let _ = &version.epoch;
 }
 
-/// The normal text of a version has lower-case letters, digits, `!`, `+` and `.` alone: no white space, no capital, no
-/// comma, no semicolon and no quote.
+/// The normal text of a version has lower-case letters, digits, `!`, `+` and `.` alone: no white
+/// space, no capital, no comma, no semicolon and no quote.
 pub fn normal_text_is_plain()
     ensures bytes { (v : Parts) → IsValid v → list_all is_version_byte (version_text v) ≡ true }
     ensures plain { (b : ℕ) → is_version_byte b ≡ true → IsPlainByte b }
 {}
 
-/// The normal text of a release, with an epoch or without, and `.*` behind it is read back as that release with a star.
+/// The normal text of a release, with an epoch or without, and `.*` behind it is read back as that
+/// release with a star.
 pub fn starred_text_reads_back()
     ensures { (epoch : ℕ) (release : List ℕ) → IsValid (starred_parts epoch release)
-        → IsPatternText (version_text (starred_parts epoch release) ++ codes ".*") (starred_parts epoch release) true }
+        → IsPatternText (version_text (starred_parts epoch release) ++ codes ".*")
+        (starred_parts epoch release) true }
 {}

@@ -1,4 +1,5 @@
--- Points that stand alike to some points: what compares a point with these alone tells no two such points apart. (This project's own.)
+-- Points that stand alike to some points: what compares a point with these alone tells no two such
+-- points apart. (This project's own.)
 use Rattle.std.specs.Prelude.{◌≡◌, ◌≢◌, ⊤, List, [], ◌∷◌}
 use Rattle.std.specs.declared.cmp.Ordering.{Ordering}
 use Rattle.std.specs.declared.cmp.Ordering.TheVariants.{Equal}

@@ -78,8 +78,10 @@ impl<T: Ord + Clone, V: Eq + Clone> Cuts<T, V> {
         requires clones { ClonesAreEqual T.eq T.is_clone }
         requires value_clones { ClonesAreEqual V.eq V.is_clone }
         requires point { (p : Point T) × IsBetween T.cmp (bound_of lower) (bound_of upper) p }
-        ensures clamped { IfOk result (λ r. IsClamped T.cmp (bound_of lower.entry) (bound_of upper.entry) V.eq (value_of T.cmp self.now) (value_of T.cmp r)) }
-        ensures bounds { IfOk result (λ r. (test : T → Bool) → IsKeptByClones T.is_clone test → all_cuts test self.now ≡ true → all_cuts test r ≡ true) }
+        ensures clamped { IfOk result (λ r. IsClamped T.cmp (bound_of lower.entry)
+            (bound_of upper.entry) V.eq (value_of T.cmp self.now) (value_of T.cmp r)) }
+        ensures bounds { IfOk result (λ r. (test : T → Bool) → IsKeptByClones T.is_clone test
+            → all_cuts test self.now ≡ true → all_cuts test r ≡ true) }
     {
         let steps: &[(Cut<T>, V)] = &self.rest;
         let mut first = &self.first;

@@ -76,10 +76,12 @@ pub fn functions_of_texts<V: Eq>(left: &Cuts<String, V>, right: &Cuts<String, V>
     pieces_have_the_values_of_points(left);
 }
 
-/// Where none of some points ties with a point, there is another one right before it, as far as these can tell: it comes
-/// before the point, not before a lower one that is given, and stands before the same of them. So what compares points
-/// with finitely many points alone changes at these alone.
+/// Where none of some points ties with a point, there is another one right before it, as far as
+/// these can tell: it comes before the point, not before a lower one that is given, and stands before
+/// the same of them. So what compares points with finitely many points alone changes at these alone.
 pub fn point_before_is_alike<T: Ord>()
-    ensures { (ends : List (Point T)) (low p : Point T) → TiesWithNone T.cmp p ends → point_cmp T.cmp low p ≡ Less
-        → (q : Point T) × (point_lt T.cmp q low ≡ false) × (point_lt T.cmp q p ≡ true) × AreAlike T.cmp q p ends }
+    ensures { (ends : List (Point T)) (low p : Point T)
+        → TiesWithNone T.cmp p ends → point_cmp T.cmp low p ≡ Less
+        → (q : Point T) × (point_lt T.cmp q low ≡ false) × (point_lt T.cmp q p ≡ true)
+        × AreAlike T.cmp q p ends }
 {}
