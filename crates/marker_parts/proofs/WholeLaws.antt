@@ -6,12 +6,12 @@ use Rattle.std.proofs.Math.Utf8.{scalars}
 use Rattle.std.proofs.lemmas.Str.{scalars-chars}
 use Rattle.pep508_text.specs.Run.{after_space}
 use Rattle.pep508_text.specs.Suffix.{IsSuffix}
-use Rattle.pep508_text.proofs.RunLaws.{spaces_end, spaces_from, trimmed_nil}
+use Rattle.pep508_text.proofs.RunLaws.{spaces_end, spaces_from, trimmed_nil, trimmed_after_space}
 use Rattle.marker_warnings.specs.declared.warning.MarkerWarningKind.{MarkerWarningKind}
 use Rattle.marker_warnings.specs.Kinds.{Adds, Keeps}
 use Rattle.marker_words.specs.declared.fault.Fault.{Fault}
 use Rattle.marker_words.specs.declared.fault.FaultKind.TheVariants.{Trailing}
-use Rattle.marker_words.specs.Fault.{IsFault, IsFaultAt}
+use Rattle.marker_words.specs.Fault.{IsFault, IsFaultAt, IsAllButLast, HasNoSpace}
 use Rattle.marker_words.proofs.FaultLaws.{fault_of_suffix, fault_in_front}
 use Rattle.marker_parts.specs.declared.expression.MarkerExpression.{MarkerExpression}
 use Rattle.marker_parts.specs.declared.comparison.ComparisonError.{ComparisonError}
@@ -34,30 +34,33 @@ last_utf8 : (text front : List ℕ) (c : ℕ) → IsUtf8 text → chars text ≡
 last_utf8 text front c utf8 e = ((c ∷ []), (last_scalar (chars front) c (ap scalars (sym e) ∙ scalars-chars text utf8), append-nil (encode_utf8 c)))
 
 -- a text that goes on behind a comparison
-pub trailing_at : (text piece others : List ℕ) (c last : ℕ) → IsUtf8 text → text ≡ encode_utf8 c ++ others → text ≡ piece ++ encode_utf8 last → chars text ≡ chars piece ++ (last ∷ []) → IsFaultAt text (Trailing c) piece (length text)
-trailing_at text piece others c last utf8 begins ends last_is =
-    fault_in_front text piece (encode_utf8 last) (Trailing c) (length text) utf8 (last_utf8 text piece last utf8 last_is) ends refl (others, last, sym ends ∙ begins, refl)
+pub trailing_at : (rest text piece others : List ℕ) (c last : ℕ) → IsUtf8 text → IsSuffix rest text → chars text ≡ after_space (chars rest) → text ≡ encode_utf8 c ++ others → text ≡ piece ++ encode_utf8 last → chars text ≡ chars piece ++ (last ∷ []) → IsFaultAt rest (Trailing c) piece (length text)
+trailing_at rest text piece others c last utf8 suffix space_is begins ends last_is =
+    let found : IsAllButLast c piece (encode_utf8 last) = record { others = others; last = last; begins = sym ends ∙ begins; ends = refl } in
+    let spaceless : HasNoSpace text = ap after_space space_is ∙ trimmed_after_space (chars rest) ∙ sym space_is in
+    fault_of_suffix suffix
+    (fault_in_front text piece (encode_utf8 last) (Trailing c) (length text) utf8 (last_utf8 text piece last utf8 last_is) ends refl (found, subst HasNoSpace ends spaceless))
 
-pub read_to_the_end : {text rest space : List ℕ} {expression : Option MarkerExpression} {old new : List MarkerWarningKind} → ReadsComparison text rest expression old new → old ≡ [] → space ≡ after_space (chars rest) → space ≡ [] → IsRead text expression new
-read_to_the_end {text} {rest} {space} {expression} {old} {new} read nothing space_is ended = record {
+pub read_to_the_end : {text rest : List ℕ} {expression : Option MarkerExpression} {old new : List MarkerWarningKind} → ReadsComparison text rest expression old new → old ≡ [] → after_space (chars rest) ≡ [] → IsRead text expression new
+read_to_the_end {text} {rest} {expression} {old} {new} read nothing ended = record {
   meaning = read.meaning;
-  comparison = record { rest = chars rest; compared = read.compared; end = spaces_from (sym space_is ∙ ended) };
+  comparison = record { rest = chars rest; compared = read.compared; end = spaces_from ended };
   test = read.test;
   kinds_are = read.kinds ∙ ap (λ (k : List MarkerWarningKind). k ++ read.meaning.kinds) nothing;
 }
 
 -- more follows the only comparison at the front
-pub more_follows : {text rest space : List ℕ} {m : Meaning} → Compared (chars text) rest m → space ≡ after_space rest → space ≢ [] → IsNoComparison text
-more_follows compared space_is some n whole =
+pub more_follows : {text rest : List ℕ} {m : Meaning} → Compared (chars text) rest m → after_space rest ≢ [] → IsNoComparison text
+more_follows compared some n whole =
     let same = compared_same whole.compared compared in
-    some (space_is ∙ ap after_space (sym same.0) ∙ spaces_end whole.end trimmed_nil)
+    some (ap after_space (sym same.0) ∙ spaces_end whole.end trimmed_nil)
 
 pub none_at_front : (text : List ℕ) (error : ComparisonError) → IsRefused text error → IsUnread text error
 none_at_front text errors.OutOfMemory h = tt
 none_at_front text (errors.Fault fault) h = (λ m whole. h.0.no_compared whole.rest m whole.compared, h.1)
 
-pub unread_behind : {text rest space : List ℕ} {expression : Option MarkerExpression} {old new : List MarkerWarningKind} (fault : Fault) → ReadsComparison text rest expression old new → IsSuffix text rest → IsSuffix rest space → chars space ≡ after_space (chars rest) → chars space ≢ [] → IsFault space fault → IsUnread text (errors.Fault fault)
-unread_behind fault read suffix behind space_is some at = (more_follows read.compared space_is some, fault_of_suffix suffix (fault_of_suffix behind at))
+pub unread_behind : {text rest : List ℕ} {expression : Option MarkerExpression} {old new : List MarkerWarningKind} (fault : Fault) → ReadsComparison text rest expression old new → IsSuffix text rest → after_space (chars rest) ≢ [] → IsFault rest fault → IsUnread text (errors.Fault fault)
+unread_behind fault read suffix some at = (more_follows read.compared some, fault_of_suffix suffix at)
 
 -- nothing is added, and then more
 pub adds_nothing : (kinds : Option (List MarkerWarningKind)) → Adds kinds kinds []

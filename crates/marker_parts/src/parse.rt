@@ -2,6 +2,7 @@
 
 ghost use Rattle.std.specs.Prelude.{◌≡◌, ◌≢◌, ◌++◌, [], List, IfOk, IfErr, IfSome, IfNone, OnErr, OnOk};
 ghost use Rattle.std.specs.Str.{chars};
+ghost use Rattle.pep508_text.specs.Run.{after_space};
 ghost use Rattle.marker_warnings.specs.declared.warning.MarkerWarningKind.{MarkerWarningKind};
 ghost use Rattle.marker_warnings.specs.Kinds.{Adds, Keeps};
 ghost use Rattle.marker_words.specs.Fault.{IsFault};
@@ -16,12 +17,13 @@ use pep508_text::{first, last, skip_space};
 use refusal::Refusal;
 use std::alloc::{AllocError, Global};
 
-// What is wrong where a text goes on behind its comparison. The last character is left out of the span.
-fn trailing(text: &str) -> Option<Fault<'_>>
-    ensures none { IfNone result (chars text.now ≡ []) }
-    ensures some { IfSome result (λ fault. chars text.now ≢ []) }
-    ensures fault { IfSome result (IsFault text.now) }
+// What is wrong where more than white space follows the comparison of a text. The last character is left out of the span.
+fn trailing(rest: &str) -> Option<Fault<'_>>
+    ensures none { IfNone result (after_space (chars rest.now) ≡ []) }
+    ensures some { IfSome result (λ fault. after_space (chars rest.now) ≢ []) }
+    ensures fault { IfSome result (IsFault rest.now) }
 {
+    let text = skip_space(rest);
     let Some((found, _)) = first(text) else {
         return None;
     };
@@ -48,7 +50,7 @@ fn read_whole(
         Ok(read) => read,
         Err(error) => return Err(error),
     };
-    match trailing(skip_space(rest)) {
+    match trailing(rest) {
         None => Ok((expression, kinds)),
         Some(fault) => Err(ComparisonError::Fault(fault)),
     }

@@ -7,12 +7,11 @@ use Rattle.std.proofs.lemmas.Bool.Decides.{nat_tests}
 use Rattle.std.proofs.lemmas.List.{append_cancel_right}
 use Rattle.pep508_text.specs.Run.{run_of}
 use Rattle.pep508_text.specs.declared.classes.Class.{Class}
-use Rattle.pep508_text.specs.Suffix.{IsSuffix, IsPiece, StandsAt, IsSpan}
+use Rattle.pep508_text.specs.Suffix.{IsSuffix, IsPiece, IsSpan}
 use Rattle.pep508_text.proofs.SuffixLaws.{suffix_self, suffix_then, suffix_nil, piece_start, span_of_piece}
 use Rattle.marker_words.specs.declared.fault.Fault.{Fault}
 use Rattle.marker_words.specs.declared.fault.FaultKind.{FaultKind}
-use Rattle.marker_words.specs.declared.fault.FaultKind.TheVariants.{ValueAtEnd, NoValue, NoOperator, NotAtEnd, NoSpaceAfterNot, Unclosed, MissingAtEnd, Missing, Unexpected, Trailing}
-use Rattle.marker_words.specs.Fault.{message_of, span_len, operator_class, IsLongest, Finds, IsFault, IsFaultAt, IsSpanOf, IsMarkerFault, value_at_end, no_value, no_operator, not_at_end, no_space_after_not, unclosed, missing_at_end, missing, unexpected, trailing}
+use Rattle.marker_words.specs.Fault.{message_of, span_len, operator_class, IsLongest, Finds, IsFault, IsFaultAt, IsSpanOf, IsMarkerFault}
 
 -- what is known at any error
 pub on_err : {T E Q : Type 0} (r : Result T E) → Q → OnErr r Q
@@ -82,11 +81,6 @@ span_of text piece left place = span_of_piece place (len_inside left (length pie
 covers_of : (t n left : ℕ) → t - left < t → cond (eqb left 0) 1 n ≡ n
 covers_of t n left inside = len_inside left n (omega arith)
 
-at_end : (text piece back : List ℕ) (left : ℕ) → length (piece ++ back) ≡ left → piece ++ back ≡ [] → length text - left ≡ length text
-at_end text piece back left length_is none =
-    let left_is : left ≡ 0 = sym length_is ∙ ap length none in
-    omega arith
-
 -- a piece has a span
 abbrev spanned : (text piece : List ℕ) (left : ℕ) → IsPiece text piece left → IsSpanOf text piece (length text - left) (cond (eqb left 0) 1 (length piece))
 spanned text piece left place = record {
@@ -95,29 +89,9 @@ spanned text piece left place = record {
   covers = covers_of (length text) (length piece) left;
 }
 
-spanned_as : (text piece front : List ℕ) (left : ℕ) → IsPiece text piece left → piece ≡ front → IsSpanOf text front (length text - left) (cond (eqb left 0) 1 (length piece))
-spanned_as text piece front left place e = subst (λ (x : List ℕ). IsSpanOf text x (length text - left) (cond (eqb left 0) 1 (length piece))) e (spanned text piece left place)
+told : (text piece : List ℕ) (left : ℕ) (kind : FaultKind) (place : IsPiece text piece left) → Finds kind piece place.back → IsMarkerFault text (length text - left) (cond (eqb left 0) 1 (length piece)) (message_of kind piece)
+told text piece left kind place found = record { kind = kind; piece = piece; place = spanned text piece left place; found = found; said = refl }
 
 -- a fault of a text is told as one of the messages, at its place
-told : (text piece : List ℕ) (left : ℕ) (kind : FaultKind) (place : IsPiece text piece left) → Finds kind piece place.back → IsMarkerFault text (length text - left) (cond (eqb left 0) 1 (length piece)) (message_of kind piece)
-told text piece left ValueAtEnd place found = value_at_end (at_end text piece place.back left place.length_is found) (span_of text piece left place)
-told text piece left NoValue place found = no_value (spanned text piece left place) found
-told text piece left NoOperator place found = no_operator (spanned text piece left place) found
-told text piece left NotAtEnd place found = not_at_end (at_end text piece place.back left place.length_is found) (span_of text piece left place)
-told text piece left NoSpaceAfterNot place found =
-    subst (λ (x : List ℕ). IsMarkerFault text (length text - left) (cond (eqb left 0) 1 (length piece)) (message_of NoSpaceAfterNot x)) (sym found.1)
-    (no_space_after_not found.0 (spanned_as text piece (encode_utf8 found.0) left place found.1))
-told text piece left (Unclosed closing) place found = unclosed found.0 closing found.1 (spanned_as text piece (encode_utf8 found.0) left place found.2)
-told text piece left (MissingAtEnd awaited) place found = missing_at_end awaited (at_end text piece place.back left place.length_is found) (span_of text piece left place)
-told text piece left (Missing awaited) place found =
-    subst (λ (x : List ℕ). IsMarkerFault text (length text - left) (cond (eqb left 0) 1 (length piece)) (message_of (Missing awaited) x)) (sym found.1)
-    (missing awaited found.0 (spanned_as text piece (encode_utf8 found.0) left place found.1))
-told text piece left (Unexpected c) place found =
-    let stands : StandsAt text (encode_utf8 c) (length text - left) = record { front = place.begins.front; back = found.0; joined = place.begins.joined ∙ ap (λ (x : List ℕ). place.begins.front ++ x) found.2; start_is = piece_start place } in
-    unexpected c found.1 stands (spanned text piece left place) found.3
-told text piece left (Trailing c) place found =
-    let stands : StandsAt text (encode_utf8 c) (length text - left) = record { front = place.begins.front; back = found.0; joined = place.begins.joined ∙ ap (λ (x : List ℕ). place.begins.front ++ x) found.2; start_is = piece_start place } in
-    trailing c found.1 stands (spanned text piece left place) found.3
-
 pub fault_told : (text : List ℕ) (fault : Fault) → IsFault text fault → IsMarkerFault text (length text - fault.left) (span_len fault) (message_of fault.kind fault.piece.now)
 fault_told text fault f = told text fault.piece.now fault.left fault.kind f.place f.found

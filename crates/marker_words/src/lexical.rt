@@ -10,7 +10,7 @@ ghost use Rattle.marker_words.specs.Key.{version_key_name, key_name};
 ghost use Rattle.marker_words.specs.Lexical.{Value, IsQuote, IsValue, symbol_text, IsOperator, Sides};
 ghost use Rattle.marker_words.specs.Part.{value_of, IsNamed, IsBehindNot};
 ghost use Rattle.marker_words.specs.Keyword.{IsKeyword};
-ghost use Rattle.marker_words.specs.Fault.{IsFault, begins_word};
+ghost use Rattle.marker_words.specs.Fault.{IsFault, IsLetterOfIn, begins_word};
 
 use crate::fault::{Fault, FaultKind};
 use crate::key::{MarkerValueString, MarkerValueVersion};
@@ -184,7 +184,7 @@ fn behind_not(text: &str) -> Result<&str, Fault<'_>>
 fn expect(text: &str, awaited: char) -> Result<&str, Fault<'_>>
     ensures found { IfOk result (λ rest. chars text.now ≡ awaited ∷ chars rest.now) }
     ensures none { OnErr result ((rest : List ℕ) → chars text.now ≢ awaited ∷ rest) }
-    ensures fault { IfErr result (IsFault text.now) }
+    ensures fault { IfErr result (λ fault. IsLetterOfIn awaited → IsFault text.now fault) }
     ensures suffix { IfOk result (λ rest. IsSuffix text.now rest.now) }
     ensures no_longer { IfOk result (λ rest. length rest.now ≤ length text.now) }
 {

@@ -4,7 +4,8 @@
 ghost use Rattle.std.specs.Prelude.{◌≡◌, ◌↔◌, ◌<◌, List, ℕ, Some, slice_get, [], Option, IfOk, IfSome, IfNone, IfErr, OnOk, length};
 ghost use Rattle.std.specs.Prelude.{◌⊎◌, ◌≢◌, ◌++◌, ◌∷◌};
 ghost use Rattle.std.specs.Str.{chars};
-ghost use Rattle.marker_words.specs.Fault.{IsFault};
+ghost use Rattle.marker_words.specs.Fault.{IsFault, HasNoSpace};
+ghost use Rattle.marker_words.specs.Keyword.{NoKeyword};
 ghost use Rattle.pep508_markers.specs.First.{BeginsWith};
 ghost use Rattle.marker_warnings.specs.declared.warning.MarkerWarningKind.{MarkerWarningKind};
 ghost use Rattle.pep508_markers.specs.Formula.{Formula};
@@ -50,7 +51,7 @@ pub struct Reader<'a> {
 fn unexpected(text: &str, found: char) -> Fault<'_>
     requires begins { BeginsWith found text.now }
     requires some { chars text.now ≢ [] }
-    ensures { IsFault text.now result }
+    ensures { HasNoSpace text.now → NoKeyword (chars text.now) → IsFault text.now result }
 {
     match last(text) {
         Some((piece, _)) => Fault {
@@ -66,7 +67,7 @@ fn unexpected(text: &str, found: char) -> Fault<'_>
 // parenthesis.
 fn unclosed<'a>(text: &'a str, group: &'a str) -> Fault<'a>
     requires { slice_get (chars group.now) 0 ≡ Some 40 }
-    ensures { IsFault text.now result ⊎ IsFault group.now result }
+    ensures { ((others : List ℕ) → chars text.now ≢ 41 ∷ others) → IsFault text.now result ⊎ IsFault group.now result }
 {
     if let Some((_, rest)) = first(text) {
         return Fault::before(FaultKind::Missing(')'), text, rest);
