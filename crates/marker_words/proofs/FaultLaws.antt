@@ -11,53 +11,71 @@ use Rattle.pep508_text.specs.Suffix.{IsSuffix, IsPiece, IsSpan}
 use Rattle.pep508_text.proofs.SuffixLaws.{suffix_self, suffix_then, suffix_nil, piece_start, span_of_piece}
 use Rattle.marker_words.specs.declared.fault.Fault.{Fault}
 use Rattle.marker_words.specs.declared.fault.FaultKind.{FaultKind}
-use Rattle.marker_words.specs.Fault.{message_of, span_len, operator_class, IsLongest, Finds, IsFault, IsFaultAt, IsSpanOf, IsMarkerFault}
+use Rattle.marker_words.specs.declared.fault.FaultKind.TheVariants.{ValueAtEnd, NoValue, NoOperator, NotAtEnd, NoSpaceAfterNot, Unclosed, MissingAtEnd, Missing, Unexpected, Trailing}
+use Rattle.marker_words.specs.Fault.{message_of, span_len, operator_class, IsLongest, IsUnclosed, quotes, parentheses, Finds, IsFault, IsFaultAt, NoneOpen, IsSpanOf, IsMarkerFault}
 
 -- what is known at any error
 pub on_err : {T E Q : Type 0} (r : Result T E) → Q → OnErr r Q
 on_err (Ok x) q = tt
 on_err (Err e) q = q
 
+-- what words say of a text is true in each grammar
+unclosed_among : {Open : List ℕ → Type 0} {opening closing : ℕ} {back : List ℕ} → IsUnclosed NoneOpen opening closing back → IsUnclosed Open opening closing back
+unclosed_among (quotes quote none) = quotes quote none
+unclosed_among (parentheses open_there) = absurd open_there
+
+among : (Open : List ℕ → Type 0) (kind : FaultKind) (piece back : List ℕ) → Finds NoneOpen kind piece back → Finds Open kind piece back
+among Open ValueAtEnd piece back found = found
+among Open NoValue piece back found = found
+among Open NoOperator piece back found = found
+among Open NotAtEnd piece back found = found
+among Open NoSpaceAfterNot piece back found = found
+among Open (Unclosed closing) piece back found = (found.0, unclosed_among found.1, found.2)
+among Open (MissingAtEnd awaited) piece back found = found
+among Open (Missing awaited) piece back found = found
+among Open (Unexpected c) piece back found = found
+among Open (Trailing c) piece back found = found
+
 -- a fault in what is left is one in the whole text
-pub fault_of_suffix : {text rest piece : List ℕ} {kind : FaultKind} {left : ℕ} → IsSuffix text rest → IsFaultAt rest kind piece left → IsFaultAt text kind piece left
+pub fault_of_suffix : {Open : List ℕ → Type 0} → {text rest piece : List ℕ} {kind : FaultKind} {left : ℕ} → IsSuffix text rest → IsFaultAt Open rest kind piece left → IsFaultAt Open text kind piece left
 fault_of_suffix suffix fault = record {
   place = record { back = fault.place.back; begins = suffix_then suffix fault.place.begins; ends = fault.place.ends; length_is = fault.place.length_is };
   found = fault.found;
 }
 
 -- a piece at the front of what is left
-pub fault_in_front : (text piece back : List ℕ) (kind : FaultKind) (left : ℕ) → IsUtf8 text → IsUtf8 back → text ≡ piece ++ back → left ≡ length text → Finds kind piece back → IsFaultAt text kind piece left
+pub fault_in_front : {Open : List ℕ → Type 0} → (text piece back : List ℕ) (kind : FaultKind) (left : ℕ) → IsUtf8 text → IsUtf8 back → text ≡ piece ++ back → left ≡ length text → Finds Open kind piece back → IsFaultAt Open text kind piece left
 fault_in_front text piece back kind left utf8 ends joined left_is found = record {
   place = record { back = back; begins = subst (IsSuffix text) joined (suffix_self text utf8); ends = ends; length_is = ap length (sym joined) ∙ sym left_is };
   found = found;
 }
 
 -- the same of a fault that a call answers
-pub fault_before : (text back piece : List ℕ) (kind found_kind : FaultKind) (left : ℕ) → IsUtf8 text → IsUtf8 back → found_kind ≡ kind → text ≡ piece ++ back → left ≡ length text → Finds kind piece back → IsFaultAt text found_kind piece left
-fault_before text back piece kind found_kind left utf8 ends kind_is joined left_is found =
-    subst (λ (k : FaultKind). IsFaultAt text k piece left) (sym kind_is) (fault_in_front text piece back kind left utf8 ends joined left_is found)
+pub fault_before : {Open : List ℕ → Type 0} → (text back piece : List ℕ) (kind found_kind : FaultKind) (left : ℕ) → IsUtf8 text → IsUtf8 back → found_kind ≡ kind → text ≡ piece ++ back → left ≡ length text → Finds Open kind piece back → IsFaultAt Open text found_kind piece left
+fault_before {Open} text back piece kind found_kind left utf8 ends kind_is joined left_is found =
+    subst (λ (k : FaultKind). IsFaultAt Open text k piece left) (sym kind_is) (fault_in_front text piece back kind left utf8 ends joined left_is found)
 
 -- at the end of the text
-pub fault_at_end : (text piece : List ℕ) (kind found_kind : FaultKind) (left : ℕ) → found_kind ≡ kind → piece ≡ [] → left ≡ 0 → Finds kind [] [] → IsFaultAt text found_kind piece left
-fault_at_end text piece kind found_kind left kind_is piece_is left_is found =
-    let here : IsFaultAt text kind [] 0 = record { place = record { back = []; begins = suffix_nil text; ends = (suffix_nil text).utf8; length_is = refl }; found = found } in
-    let there : IsFaultAt text found_kind [] 0 = subst (λ (k : FaultKind). IsFaultAt text k [] 0) (sym kind_is) here in
-    let piece_there : IsFaultAt text found_kind piece 0 = subst (λ (x : List ℕ). IsFaultAt text found_kind x 0) (sym piece_is) there in
-    subst (IsFaultAt text found_kind piece) (sym left_is) piece_there
+pub fault_at_end : {Open : List ℕ → Type 0} → (text piece : List ℕ) (kind found_kind : FaultKind) (left : ℕ) → found_kind ≡ kind → piece ≡ [] → left ≡ 0 → Finds Open kind [] [] → IsFaultAt Open text found_kind piece left
+fault_at_end {Open} text piece kind found_kind left kind_is piece_is left_is found =
+    let here : IsFaultAt Open text kind [] 0 = record { place = record { back = []; begins = suffix_nil text; ends = (suffix_nil text).utf8; length_is = refl }; found = found } in
+    let there : IsFaultAt Open text found_kind [] 0 = subst (λ (k : FaultKind). IsFaultAt Open text k [] 0) (sym kind_is) here in
+    let piece_there : IsFaultAt Open text found_kind piece 0 = subst (λ (x : List ℕ). IsFaultAt Open text found_kind x 0) (sym piece_is) there in
+    subst (IsFaultAt Open text found_kind piece) (sym left_is) piece_there
 
 -- the piece in front of the same rest
 pub same_front : (text piece front rest : List ℕ) → text ≡ piece ++ rest → text ≡ front ++ rest → piece ≡ front
 same_front text piece front rest e f = append_cancel_right piece front rest (sym e ∙ f)
 
 -- a fault at the text's first character
-pub fault_at_first : {text rest piece : List ℕ} {left : ℕ} {found_kind : FaultKind} (c : ℕ) (kind : FaultKind) → IsUtf8 text → IsSuffix text rest → text ≡ encode_utf8 c ++ rest → found_kind ≡ kind → text ≡ piece ++ rest → left ≡ length text → (piece ≡ encode_utf8 c → Finds kind piece rest) → IsFaultAt text found_kind piece left
+pub fault_at_first : {Open : List ℕ → Type 0} → {text rest piece : List ℕ} {left : ℕ} {found_kind : FaultKind} (c : ℕ) (kind : FaultKind) → IsUtf8 text → IsSuffix text rest → text ≡ encode_utf8 c ++ rest → found_kind ≡ kind → text ≡ piece ++ rest → left ≡ length text → (piece ≡ encode_utf8 c → Finds Open kind piece rest) → IsFaultAt Open text found_kind piece left
 fault_at_first {text} {rest} {piece} {left} {found_kind} c kind utf8 suffix first kind_is joined left_is found =
     fault_before text rest piece kind found_kind left utf8 suffix.utf8 kind_is joined left_is (found (same_front text piece (encode_utf8 c) rest joined first))
 
 -- a fault at the run in front of a text
-pub fault_at_run : {text rest run piece : List ℕ} {left : ℕ} {found_kind : FaultKind} (kind : FaultKind) → IsUtf8 text → IsSuffix text rest → text ≡ run ++ rest → found_kind ≡ kind → piece ≡ run → left ≡ length text → Finds kind run rest → IsFaultAt text found_kind piece left
-fault_at_run {text} {rest} {run} {piece} {left} {found_kind} kind utf8 suffix joined kind_is piece_is left_is found =
-    subst (λ (x : List ℕ). IsFaultAt text found_kind x left) (sym piece_is)
+pub fault_at_run : {Open : List ℕ → Type 0} → {text rest run piece : List ℕ} {left : ℕ} {found_kind : FaultKind} (kind : FaultKind) → IsUtf8 text → IsSuffix text rest → text ≡ run ++ rest → found_kind ≡ kind → piece ≡ run → left ≡ length text → Finds Open kind run rest → IsFaultAt Open text found_kind piece left
+fault_at_run {Open} {text} {rest} {run} {piece} {left} {found_kind} kind utf8 suffix joined kind_is piece_is left_is found =
+    subst (λ (x : List ℕ). IsFaultAt Open text found_kind x left) (sym piece_is)
     (fault_before text rest run kind found_kind left utf8 suffix.utf8 kind_is joined left_is found)
 
 pub run_longest : (text rest run : List ℕ) (class : Class) → text ≡ run ++ rest → run ≡ encode_utf8_all (run_of class (chars text)) → IsLongest class run rest
@@ -89,9 +107,13 @@ spanned text piece left place = record {
   covers = covers_of (length text) (length piece) left;
 }
 
-told : (text piece : List ℕ) (left : ℕ) (kind : FaultKind) (place : IsPiece text piece left) → Finds kind piece place.back → IsMarkerFault text (length text - left) (cond (eqb left 0) 1 (length piece)) (message_of kind piece)
+told : {Open : List ℕ → Type 0} → (text piece : List ℕ) (left : ℕ) (kind : FaultKind) (place : IsPiece text piece left) → Finds Open kind piece place.back → IsMarkerFault Open text (length text - left) (cond (eqb left 0) 1 (length piece)) (message_of kind piece)
 told text piece left kind place found = record { kind = kind; piece = piece; place = spanned text piece left place; found = found; said = refl }
 
 -- a fault of a text is told as one of the messages, at its place
-pub fault_told : (text : List ℕ) (fault : Fault) → IsFault text fault → IsMarkerFault text (length text - fault.left) (span_len fault) (message_of fault.kind fault.piece.now)
+pub fault_told : {Open : List ℕ → Type 0} → (text : List ℕ) (fault : Fault) → IsFault Open text fault → IsMarkerFault Open text (length text - fault.left) (span_len fault) (message_of fault.kind fault.piece.now)
 fault_told text fault f = told text fault.piece.now fault.left fault.kind f.place f.found
+
+-- a fault of words is one of each grammar that has them
+pub fault_of_words : {Open : List ℕ → Type 0} {text piece : List ℕ} {kind : FaultKind} {left : ℕ} → IsFaultAt NoneOpen text kind piece left → IsFaultAt Open text kind piece left
+fault_of_words {kind = kind} fault = record { place = fault.place; found = among _ kind _ _ fault.found }

@@ -55,11 +55,11 @@ pub data IsLetterOfIn : ℕ → Type 0 where
   first_letter : IsLetterOfIn 105
   last_letter : IsLetterOfIn 110
 
--- an opening character, the one that closes it, and what stands behind the first: behind a quote comes no other; whether a
--- parenthesis is closed is no matter of words
-pub data IsUnclosed : ℕ → ℕ → List ℕ → Type 0 where
-  quotes : {quote : ℕ} {back : List ℕ} → IsQuote quote → after_run (NotQuote quote) (chars back) ≡ [] → IsUnclosed quote quote back
-  parentheses : {back : List ℕ} → IsUnclosed 40 41 back
+-- An opening character, the one that closes it, and what stands behind the first: behind a quote comes no other. Where a
+-- parenthesis is not closed, by what stands behind it, is said by the grammar that has parentheses (`Open`).
+pub data IsUnclosed (Open : List ℕ → Type 0) : ℕ → ℕ → List ℕ → Type 0 where
+  quotes : {quote : ℕ} {back : List ℕ} → IsQuote quote → after_run (NotQuote quote) (chars back) ≡ [] → IsUnclosed Open quote quote back
+  parentheses : {back : List ℕ} → Open back → IsUnclosed Open 40 41 back
 
 -- the character stands at the front of the text, and the piece is all but the text's last character
 pub record IsAllButLast (c : ℕ) (piece back : List ℕ) : Type 0 where
@@ -69,26 +69,33 @@ pub record IsAllButLast (c : ℕ) (piece back : List ℕ) : Type 0 where
   pub ends : back ≡ encode_utf8 last
 
 -- when a fault is true of a text: `piece` stands at its place, and `back` from there to the end of the text
-abbrev pub Finds : FaultKind → List ℕ → List ℕ → Type 0
-Finds ValueAtEnd piece back = piece ++ back ≡ []
-Finds NoValue piece back = IsLongest KeyPart piece back × HasNoValue (piece ++ back)
-Finds NoOperator piece back = IsLongest (operator_class (chars (piece ++ back))) piece back × HasNoOperator (piece ++ back)
-Finds NotAtEnd piece back = piece ++ back ≡ []
-Finds NoSpaceAfterNot piece back = (found : ℕ) × (piece ≡ encode_utf8 found) × (holds Space found ≡ false)
-Finds (Unclosed closing) piece back = (opening : ℕ) × IsUnclosed opening closing back × (piece ≡ encode_utf8 opening)
-Finds (MissingAtEnd awaited) piece back = (piece ++ back ≡ []) × IsLetterOfIn awaited
-Finds (Missing awaited) piece back = (found : ℕ) × (piece ≡ encode_utf8 found) × (found ≢ awaited) × (IsLetterOfIn awaited ⊎ (awaited ≡ 41))
-Finds (Unexpected c) piece back = IsAllButLast c piece back × HasNoSpace (piece ++ back) × NoKeyword (chars (piece ++ back))
-Finds (Trailing c) piece back = IsAllButLast c piece back × HasNoSpace (piece ++ back)
+abbrev pub Finds : (List ℕ → Type 0) → FaultKind → List ℕ → List ℕ → Type 0
+Finds Open ValueAtEnd piece back = piece ++ back ≡ []
+Finds Open NoValue piece back = IsLongest KeyPart piece back × HasNoValue (piece ++ back)
+Finds Open NoOperator piece back = IsLongest (operator_class (chars (piece ++ back))) piece back × HasNoOperator (piece ++ back)
+Finds Open NotAtEnd piece back = piece ++ back ≡ []
+Finds Open NoSpaceAfterNot piece back = (found : ℕ) × (piece ≡ encode_utf8 found) × (holds Space found ≡ false)
+Finds Open (Unclosed closing) piece back = (opening : ℕ) × IsUnclosed Open opening closing back × (piece ≡ encode_utf8 opening)
+Finds Open (MissingAtEnd awaited) piece back = (piece ++ back ≡ []) × IsLetterOfIn awaited
+Finds Open (Missing awaited) piece back = (found : ℕ) × (piece ≡ encode_utf8 found) × (found ≢ awaited) × (IsLetterOfIn awaited ⊎ (awaited ≡ 41))
+Finds Open (Unexpected c) piece back = IsAllButLast c piece back × HasNoSpace (piece ++ back) × NoKeyword (chars (piece ++ back))
+Finds Open (Trailing c) piece back = IsAllButLast c piece back × HasNoSpace (piece ++ back)
 
 -- a fault of this kind stands in the text
-pub record IsFaultAt (text : List ℕ) (kind : FaultKind) (piece : List ℕ) (left : ℕ) : Type 0 where
+pub record IsFaultAt (Open : List ℕ → Type 0) (text : List ℕ) (kind : FaultKind) (piece : List ℕ) (left : ℕ) : Type 0 where
   pub place : IsPiece text piece left
-  pub found : Finds kind piece place.back
+  pub found : Finds Open kind piece place.back
 
 -- the fault is one of this text
-abbrev pub IsFault : List ℕ → Fault → Type 0
-IsFault text fault = IsFaultAt text fault.kind fault.piece.now fault.left
+abbrev pub IsFault : (List ℕ → Type 0) → List ℕ → Fault → Type 0
+IsFault Open text fault = IsFaultAt Open text fault.kind fault.piece.now fault.left
+
+-- a fault of words, which have no parentheses
+abbrev pub NoneOpen : List ℕ → Type 0
+NoneOpen back = ⊥
+
+abbrev pub IsWordFault : List ℕ → Fault → Type 0
+IsWordFault = IsFault NoneOpen
 
 -- the piece stands at `start`, and the span is the piece, or the end of the text with the length 1
 pub record IsSpanOf (text piece : List ℕ) (start len : ℕ) : Type 0 where
@@ -97,11 +104,11 @@ pub record IsSpanOf (text piece : List ℕ) (start len : ℕ) : Type 0 where
   pub covers : start < length text → len ≡ length piece
 
 -- a message that a marker text may be refused with, and its span: one of the faults is true of the text there, and says so
-pub record IsMarkerFault (text : List ℕ) (start len : ℕ) (message : List ℕ) : Type 0 where
+pub record IsMarkerFault (Open : List ℕ → Type 0) (text : List ℕ) (start len : ℕ) (message : List ℕ) : Type 0 where
   pub kind : FaultKind
   pub piece : List ℕ
   pub place : IsSpanOf text piece start len
-  pub found : Finds kind piece place.stands.back
+  pub found : Finds Open kind piece place.stands.back
   pub said : message ≡ message_of kind piece
 
 -- the length of a fault's span
