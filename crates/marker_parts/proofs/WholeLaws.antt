@@ -77,11 +77,11 @@ told_fault {Open = Open} {text} {fault} {error} at tells =
     }
 
 -- a text that is no comparison is refused
-pub refused_text : {T E : Type 0} {text : List ℕ} (error : ComparisonError) (refusal : Refusal (Pep508Error T E)) → IsUnread text error → Becomes text error refusal → IsRefusal text refusal
-refused_text error refusals.OutOfMemory unread told = tt
-refused_text error refusals.SegmentAtEnd unread told = told
-refused_text errors.OutOfMemory (refusals.Fault e) unread told = absurd told
-refused_text (errors.Fault fault) (refusals.Fault e) unread told = (unread.0, told_fault unread.1 told)
+pub refused_text : {T E : Type 0} (text : List ℕ) (error : ComparisonError) (refusal : Refusal (Pep508Error T E)) → IsUnread text error → Becomes text error refusal → IsRefusal text refusal
+refused_text text error refusals.OutOfMemory unread told = tt
+refused_text text error refusals.SegmentAtEnd unread told = told
+refused_text text errors.OutOfMemory (refusals.Fault e) unread told = absurd told
+refused_text text (errors.Fault fault) (refusals.Fault e) unread told = (unread.0, told_fault unread.1 told)
 
 -- nothing is added, and then more
 pub adds_nothing : (kinds : Option (List MarkerWarningKind)) → Adds kinds kinds []

@@ -18,10 +18,9 @@ use crate::operator::MarkerOperator;
 use crate::parts::{ComparisonRef, Keyword, MarkerValueRef};
 use pep508_text::{Class, first, skip_space, split_run, strip};
 
-/// The value at the front of the text, which is a quoted text, a key or `extra`.
-///
-/// There is none at the end of the text, at a quote that is not closed, and at any other run of characters.
-pub fn value(text: &str) -> Result<(MarkerValueRef<'_>, &str), Fault<'_>>
+// The value at the front of the text, which is a quoted text, a key or `extra`. There is none at the end of the text, at
+// a quote that is not closed, and at any other run of characters.
+fn value(text: &str) -> Result<(MarkerValueRef<'_>, &str), Fault<'_>>
     ensures found { IfOk result (λ x. IsValue (chars text.now) (chars x.1.now) (value_of x.0)) }
     ensures none { OnErr result
         ((output : List ℕ) (value : Value) → IsValue (chars text.now) output value → ⊥) }
@@ -103,12 +102,10 @@ fn text_key(name: &str) -> Option<MarkerValueString>
     }
 }
 
-/// The operator at the front of the text.
-///
-/// It is a word, `in` or `not in`, where the text begins with an alphabetic character (Unicode's), and else
-/// made of the characters `<`, `=`, `>`, `~` and `!`. Anything else is no operator, nor is a `not` behind
-/// which no white space and then the letters `in` stand.
-pub fn comparison_operator(text: &str) -> Result<(MarkerOperator, &str), Fault<'_>>
+// The operator at the front of the text. It is a word, `in` or `not in`, where the text begins with an alphabetic
+// character (Unicode's), and else made of the characters `<`, `=`, `>`, `~` and `!`. Anything else is no operator, nor is
+// a `not` behind which no white space and then the letters `in` stand.
+pub(crate) fn comparison_operator(text: &str) -> Result<(MarkerOperator, &str), Fault<'_>>
     ensures found { IfOk result (λ x. IsOperator (chars text.now) (chars x.1.now) x.0) }
     ensures none { OnErr result ((output : List ℕ) (operator : MarkerOperator)
         → IsOperator (chars text.now) output operator → ⊥) }
