@@ -47,8 +47,8 @@ mutual
   or_from v (grammar.or ands rest) = let h = and_from v ands in let t = or_rest_from h.0 rest in (t.0, grammar.or h.1 t.1)
 
 -- what may end a text with nothing open is a marker
-marker_from : {t : List ℕ} {w : Kinds} {f : Option Formula} {k : Kinds} → Before [] None None (chars t) w f k → IsMarker t
-marker_from {t} (before atom (goes {h = h} {output = o} rest more (ended e same kinds))) =
+marker_from : (t : List ℕ) {w : Kinds} {f : Option Formula} {k : Kinds} → Before [] None None (chars t) w f k → IsMarker t
+marker_from t (before atom (goes {h = h} {output = o} rest more (ended e same kinds))) =
     let x = or_from [] (grammar.or (grammar.and atom rest) more) in
     (h, (x.0, record { start = chars t; end = o; before = none; body = x.1; after = e }))
 
@@ -59,19 +59,19 @@ all_map P Q (g ∷ groups) stack back h =
     (λ q. h.0 (back [] q), all_map (λ outer. P (l ∷ outer)) (λ outer. Q (l ∷ outer)) groups (under g.has_or g.has_and stack) (λ outer q. back (l ∷ outer) q) h.1)
 
 -- a parenthesis opens
-pub opened_group : (gs : List Group) (g : Group) (stack : List Formula) {hs : List Group} {i t rest : List ℕ} {w : Kinds} → hs ≡ gs ++ (g ∷ []) → t ≡ after_space i → t ≡ 40 ∷ chars rest → g.text.now ≡ encode_utf8 40 ++ rest →
+pub opened_group : (gs : List Group) (g : Group) (stack : List Formula) (hs : List Group) (i t rest : List ℕ) (w : Kinds) → hs ≡ gs ++ (g ∷ []) → t ≡ after_space i → t ≡ 40 ∷ chars rest → g.text.now ≡ encode_utf8 40 ++ rest →
     AllOpen (EndsAtom (Ors g.has_or g.has_and stack) (Ands g.has_or g.has_and stack) i w) (reverse gs) (under g.has_or g.has_and stack) → AllOpen (EndsAtom None None (chars rest) w) (reverse hs) stack
-opened_group gs g stack {hs} {i} {t} {rest} {w} pushed e opens begins h =
-    let behind : EndsAtom None None (chars rest) w [] → OpensMarker g.text.now = λ q back b. subst IsMarker (append_cancel_left (encode_utf8 40) rest back (sym begins ∙ b)) (marker_from q.1.1) in
+opened_group gs g stack hs i t rest w pushed e opens begins h =
+    let behind : EndsAtom None None (chars rest) w [] → OpensMarker g.text.now = λ q back b. subst IsMarker (append_cancel_left (encode_utf8 40) rest back (sym begins ∙ b)) (marker_from rest q.1.1) in
     let outside = all_map (EndsAtom (Ors g.has_or g.has_and stack) (Ands g.has_or g.has_and stack) i w) (λ outer. EndsAtom None None (chars rest) w (level g.has_or g.has_and stack ∷ outer)) (reverse gs) (under g.has_or g.has_and stack)
         (λ outer q. (q.0, (q.1.0, open_back outer _ _ i (chars rest) t w q.0 q.1.0 e opens q.1.1))) h in
     subst (λ (groups : List Group). AllOpen (EndsAtom None None (chars rest) w) groups stack) (sym (ap reverse pushed ∙ reverse-push gs g)) (behind, outside)
 
 -- a comparison is read
-pub opened_compare : (groups : List Group) (has_or : Bool) {has_and any : Bool} {added : Option Formula} {stack new : List Formula} {i o : List ℕ} {w v : Kinds} {m : Meaning} →
+pub opened_compare : (groups : List Group) (has_or : Bool) (w v : Kinds) {has_and any : Bool} {added : Option Formula} {stack new : List Formula} {i o : List ℕ} {m : Meaning} →
     Compared i o m → Appends has_and any added stack new → added ≡ of_test m.test → v ≡ w ++ m.kinds →
     AllOpen (EndsAtom (Ors has_or has_and stack) (Ands has_or has_and stack) i w) groups (under has_or has_and stack) → AllOpen (EndsRest (Ors has_or any new) (Ands has_or any new) o v) groups (under has_or any new)
-opened_compare groups has_or {has_and} {any} {added} {stack} {new} {i} {o} {w} {v} {m} c a test kinds h =
+opened_compare groups has_or w v {has_and} {any} {added} {stack} {new} {i} {o} {m} c a test kinds h =
     let ands : held any new ≡ and_of (held has_and stack) (of_test m.test) = a.top ∙ ap (and_of (held has_and stack)) test in
     let same : (outer : List Held) (f : Option Formula) (k : Kinds) → After outer (Ors has_or any new) (Ands has_or any new) o v f k ≡ After outer (Ors has_or has_and stack) (and_of (Ands has_or has_and stack) (of_test m.test)) o (w ++ m.kinds) f k
     = λ outer f k. (λ j. After outer (held has_or (a.rest j)) (ands j) o (kinds j) f k) in
@@ -80,38 +80,38 @@ opened_compare groups has_or {has_and} {any} {added} {stack} {new} {i} {o} {w} {
     subst (λ (s : List Formula). AllOpen (EndsRest (Ors has_or any new) (Ands has_or any new) o v) groups s) (sym (ap (below has_or) a.rest)) there
 
 -- `and` stands behind an atom
-pub opened_and : (groups : List Group) (stack : List Formula) {ors ands : Option Formula} {i t b : List ℕ} {w : Kinds} → t ≡ after_space i → Run NotSpace t (codes "and") b → AllOpen (EndsRest ors ands i w) groups stack → AllOpen (EndsAtom ors ands b w) groups stack
-opened_and groups stack {ors} {ands} {i} {t} {b} {w} e run h = all_map (EndsRest ors ands i w) (EndsAtom ors ands b w) groups stack (λ outer q. (q.0, (q.1.0, and_back e run q.1.1))) h
+pub opened_and : (groups : List Group) (stack : List Formula) (ors ands : Option Formula) (i : List ℕ) (w : Kinds) {t b : List ℕ} → t ≡ after_space i → Run NotSpace t (codes "and") b → AllOpen (EndsRest ors ands i w) groups stack → AllOpen (EndsAtom ors ands b w) groups stack
+opened_and groups stack ors ands i w {t} {b} e run h = all_map (EndsRest ors ands i w) (EndsAtom ors ands b w) groups stack (λ outer q. (q.0, (q.1.0, and_back e run q.1.1))) h
 
 -- `or` stands behind an atom
-pub opened_or : (groups : List Group) {has_or has_and any : Bool} {stack new : List Formula} {i t b : List ℕ} {w : Kinds} →
+pub opened_or : (groups : List Group) (i : List ℕ) (w : Kinds) {has_or has_and any : Bool} {stack new : List Formula} {t b : List ℕ} →
     IsJoined symbols.or or_of has_or has_and any stack new → t ≡ after_space i → Run NotSpace t (codes "or") b →
     AllOpen (EndsRest (Ors has_or has_and stack) (Ands has_or has_and stack) i w) groups (under has_or has_and stack) → AllOpen (EndsAtom (held any new) None b w) groups (below any new)
-opened_or groups {has_or} {has_and} {any} {stack} {new} {i} {t} {b} {w} joined e run h =
+opened_or groups i w {has_or} {has_and} {any} {stack} {new} {t} {b} joined e run h =
     let same : (outer : List Held) (f : Option Formula) (k : Kinds) → Before outer (held any new) None b w f k ≡ Before outer (or_of (Ors has_or has_and stack) (Ands has_or has_and stack)) None b w f k
     = λ outer f k. (λ j. Before outer (joined.top j) None b w f k) in
     let there = all_map (EndsRest (Ors has_or has_and stack) (Ands has_or has_and stack) i w) (EndsAtom (held any new) None b w) groups (under has_or has_and stack)
         (λ outer q. (q.0, (q.1.0, or_back e run (as_type (same outer q.0 q.1.0) q.1.1)))) h in
     subst (λ (s : List Formula). AllOpen (EndsAtom (held any new) None b w) groups s) (sym joined.rest) there
 
-module _ (gs : List Group) (g : Group) {hs : List Group} (popped : hs ≡ gs ++ (g ∷ [])) where
-  parted : {P : List Held → Type 0} {low : List Formula} → AllOpen P (reverse hs) low → AllOpen P (g ∷ reverse gs) low
-  parted {P} {low} h = subst (λ (groups : List Group). AllOpen P groups low) (ap reverse popped ∙ reverse-push gs g) h
+module _ (gs : List Group) (g : Group) (hs : List Group) (popped : hs ≡ gs ++ (g ∷ [])) where
+  parted : (P : List Held → Type 0) (low : List Formula) → AllOpen P (reverse hs) low → AllOpen P (g ∷ reverse gs) low
+  parted P low h = subst (λ (groups : List Group). AllOpen P groups low) (ap reverse popped ∙ reverse-push gs g) h
 
   -- the text ends in the innermost parenthesis
-  pub opened_end : {ors ands : Option Formula} {low : List Formula} {i t : List ℕ} {w : Kinds} → t ≡ after_space i → AllOpen (EndsRest ors ands i w) (reverse hs) low → t ≡ [] → OpensMarker g.text.now
-  opened_end {ors} {ands} {w = w} e h ends = (parted h).0 (or_of ors ands, (w, end_back e ends refl refl))
+  pub opened_end : (ors ands : Option Formula) (low : List Formula) (i t : List ℕ) (w : Kinds) → t ≡ after_space i → AllOpen (EndsRest ors ands i w) (reverse hs) low → t ≡ [] → OpensMarker g.text.now
+  opened_end ors ands low i t w e h ends = (parted (EndsRest ors ands i w) low h).0 (or_of ors ands, (w, end_back e ends refl refl))
 
   -- a parenthesis closes
-  pub opened_close : {has_or has_and whole any : Bool} {stack mid new : List Formula} {i a t : List ℕ} {w : Kinds} →
+  pub opened_close : (i a t : List ℕ) (w : Kinds) {has_or has_and whole any : Bool} {stack mid new : List Formula} →
       IsJoined symbols.or or_of has_or has_and whole stack mid → IsJoined symbols.and and_of g.has_and whole any mid new → t ≡ after_space i → t ≡ 41 ∷ a →
       AllOpen (EndsRest (Ors has_or has_and stack) (Ands has_or has_and stack) i w) (reverse hs) (under has_or has_and stack) → AllOpen (EndsRest (Ors g.has_or any new) (Ands g.has_or any new) a w) (reverse gs) (under g.has_or any new)
-  opened_close {has_or} {has_and} {whole} {any} {stack} {mid} {new} {i} {a} {t} {w} ored anded e closes h =
+  opened_close i a t w {has_or} {has_and} {whole} {any} {stack} {mid} {new} ored anded e closes h =
       let low : List Formula = under has_or has_and stack in
       let ands_is : held any new ≡ and_of (held g.has_and low) (or_of (Ors has_or has_and stack) (Ands has_or has_and stack)) = anded.top ∙ (λ j. and_of (held g.has_and (ored.rest j)) (ored.top j)) in
       let rest_is : below any new ≡ below g.has_and low = anded.rest ∙ ap (below g.has_and) ored.rest in
       let same : (outer : List Held) (f : Option Formula) (k : Kinds) → After outer (Ors g.has_or any new) (Ands g.has_or any new) a w f k ≡ After outer (held g.has_or (below g.has_and low)) (and_of (held g.has_and low) (or_of (Ors has_or has_and stack) (Ands has_or has_and stack))) a w f k
       = λ outer f k. (λ j. After outer (held g.has_or (rest_is j)) (ands_is j) a w f k) in
       let there = all_map (λ outer. EndsRest (Ors has_or has_and stack) (Ands has_or has_and stack) i w (level g.has_or g.has_and low ∷ outer)) (EndsRest (Ors g.has_or any new) (Ands g.has_or any new) a w) (reverse gs) (under g.has_or g.has_and low)
-          (λ outer q. (q.0, (q.1.0, close_back e closes (as_type (same outer q.0 q.1.0) q.1.1)))) (parted h).1 in
+          (λ outer q. (q.0, (q.1.0, close_back e closes (as_type (same outer q.0 q.1.0) q.1.1)))) (parted (EndsRest (Ors has_or has_and stack) (Ands has_or has_and stack) i w) low h).1 in
       subst (λ (s : List Formula). AllOpen (EndsRest (Ors g.has_or any new) (Ands g.has_or any new) a w) (reverse gs) s) (sym (ap (below g.has_or) rest_is)) there

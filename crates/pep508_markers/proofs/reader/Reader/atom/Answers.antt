@@ -25,7 +25,7 @@ pub returns-in-Some-clause-same : goal.returns-in-Some-clause-same
 returns-in-Some-clause-same c = open_same _ _ _ c.in_ok-open.ensures c.skip_space-text.ensures.rest c.in-Some.ensures.found
 
 pub returns-in-Some-clause-opened : goal.returns-in-Some-clause-opened
-returns-in-Some-clause-opened c = opened_group _ _ _ c.in_ok-open.ensures c.skip_space-text.ensures.rest c.in-Some.ensures.found c.in-Some.ensures.bytes
+returns-in-Some-clause-opened c = opened_group _ _ _ _ _ _ _ _ c.in_ok-open.ensures c.skip_space-text.ensures.rest c.in-Some.ensures.found c.in-Some.ensures.bytes
 
 pub returns-in_err-expression-clause-err : goal.returns-in_err-expression-clause-err
 returns-in_err-expression-clause-err c =
@@ -50,4 +50,4 @@ returns-clause-same c =
 pub returns-clause-opened : goal.returns-clause-opened
 returns-clause-opened c =
     let read = c.in_ok-expression.ensures.found in
-    opened_compare _ c.args.self.now.has_or read.compared c.in_ok-self.ensures.stack (ap of_test read.test) read.kinds
+    opened_compare _ c.args.self.now.has_or _ _ read.compared c.in_ok-self.ensures.stack (ap of_test read.test) read.kinds

@@ -61,7 +61,7 @@ pub returns-in_default-strip-clause-err : goal.returns-in_default-strip-clause-e
 returns-in_default-strip-clause-err c =
     let popped = c.in-Some.ensures.items in
     let wordless = other_word _ _ c.in_default.not-And c.in_default-word.not-Or c.keyword-word.ensures.which in (
-      λ opened. fault_of_either (suffix_then c.requires.rest c.skip_space-text.ensures.suffix) (all_last (λ (g : Group). IsSuffix c.args.self.now.text.now g.text.now) _ _ popped c.requires.groups) (c.unclosed.ensures c.in_default-strip.ensures.none (opened_end _ _ popped c.skip_space-text.ensures.rest opened)),
+      λ opened. fault_of_either (suffix_then c.requires.rest c.skip_space-text.ensures.suffix) (all_last (λ (g : Group). IsSuffix c.args.self.now.text.now g.text.now) _ _ popped c.requires.groups) (c.unclosed.ensures c.in_default-strip.ensures.none (opened_end _ _ _ popped _ _ _ _ _ _ c.skip_space-text.ensures.rest opened)),
       fault_close _ _ _ popped c.skip_space-text.ensures.rest wordless c.in_default-strip.ensures.none,
     )
 
@@ -88,13 +88,13 @@ returns-clause-same c =
 pub returns-in-And-clause-opened : goal.returns-in-And-clause-opened
 returns-in-And-clause-opened c =
     let word = subst (λ w. IsKeyword w (chars c.skip_space-text.result.now) (chars c.keyword-word.result.1.now)) c.in-And.is c.keyword-word.ensures.which in
-    opened_and _ _ c.skip_space-text.ensures.rest word
+    opened_and _ _ _ _ _ _ c.skip_space-text.ensures.rest word
 
 pub returns-in-Or-clause-opened : goal.returns-in-Or-clause-opened
 returns-in-Or-clause-opened c =
     let joined = ored c.args.self.now c.requires _ _ c.in_ok-whole.ensures.tokens c.in_ok-whole.ensures.any in
     let word = subst (λ w. IsKeyword w (chars c.skip_space-text.result.now) (chars c.keyword-word.result.1.now)) c.in-Or.is c.keyword-word.ensures.which in
-    opened_or _ joined c.skip_space-text.ensures.rest word
+    opened_or _ _ _ joined c.skip_space-text.ensures.rest word
 
 pub returns-in_default-pop-clause-valid : goal.returns-in_default-pop-clause-valid
 returns-in_default-pop-clause-valid c = ored_valid c.args.self.now c.requires _ c.in_ok-whole.ensures.tokens
@@ -104,4 +104,4 @@ returns-clause-opened c =
     let popped = c.in-Some.ensures.items in
     let or_joined = ored c.args.self.now c.requires _ _ c.in_ok-whole.ensures.tokens c.in_ok-whole.ensures.any in
     let and_joined = anded c.args.self.now c.requires _ c.in-Some.group popped _ _ _ _ or_joined c.in_ok-self.ensures.tokens c.in_ok-self.ensures.any in
-    opened_close _ c.in-Some.group popped or_joined and_joined c.skip_space-text.ensures.rest c.in-Some-strip.ensures.found
+    opened_close _ c.in-Some.group _ popped _ _ _ _ or_joined and_joined c.skip_space-text.ensures.rest c.in-Some-strip.ensures.found
