@@ -13,8 +13,8 @@ use Rattle.pep508_markers.specs.Grammar.{Atom, group, comparison, AndRest, no_an
 use Rattle.pep508_markers.specs.Grammar as grammar
 use Rattle.pep508_markers.specs.Postfix as symbols
 use Rattle.pep508_markers.specs.Reading.{Held, ended, After, goes, Before, before}
-use Rattle.pep508_markers.specs.Reader.{level, under, OpensMarker, EndsAtom, EndsRest, AllOpen}
-use Rattle.pep508_markers.specs.Refused.{IsMarker}
+use Rattle.pep508_markers.specs.Reader.{level, under, EndsAtom, EndsRest, AllOpen}
+use Rattle.pep508_markers.specs.Refused.{IsMarker, OpensMarker}
 use Rattle.pep508_markers.specs.Stack.{held, below, Appends}
 use Rattle.pep508_markers.proofs.ReaderLaws.{reverse-push, Ors, Ands}
 use Rattle.pep508_markers.proofs.ReadingLaws.{open_back, compare_back, and_back, or_back, close_back, end_back}

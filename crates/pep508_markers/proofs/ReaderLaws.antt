@@ -20,7 +20,7 @@ use Rattle.pep508_text.proofs.SuffixLaws.{suffix_self}
 use Rattle.marker_words.proofs.FaultLaws.{fault_of_suffix, fault_of_words}
 use Rattle.marker_words.specs.Fault.{IsFaultAt}
 use Rattle.pep508_markers.specs.Refused.{IsMarker, IsTextFault}
-use Rattle.pep508_markers.specs.Reader.{IsOpened, AllOpen, MayEnd}
+use Rattle.pep508_markers.specs.Reader.{IsOpened, AllOpen}
 use Rattle.pep508_markers.specs.Valid.{IsValid}
 use Rattle.pep508_markers.proofs.ValidLaws.{valid_join}
 use Rattle.marker_words.specs.declared.fault.FaultKind.{FaultKind}
@@ -209,6 +209,10 @@ module _ (r : Reader) (sound : IsSound r) where
       let h : total (reverse r.groups.items) ≡ count g.has_and + (count g.has_or + total (reverse gs)) = ap total (ap reverse popped ∙ reverse-push gs g) in
       postfix_join g.has_and whole tokens.And mid put (omega (arith, sound.full, h, joined.length_is)) postfix
 
+  pub anded_valid : (gs : List Group) (g : Group) → r.groups.items ≡ gs ++ (g ∷ []) → (whole : Bool) (mid new : List Token) → IsJoined symbols.or or_of r.has_or r.has_and whole (stack_in r) (stack_of mid) → IsValid mid →
+      new ≡ (if g.has_and && whole then mid ++ (tokens.And ∷ []) else mid) → IsValid new
+  anded_valid gs g popped whole mid new joined valid put = valid_join (g.has_and && whole) tokens.And mid put refl valid
+
   -- at the end of the text no other formula is left
   pub one_left : (any : Bool) (new : List Formula) → r.groups.items ≡ [] → IsJoined symbols.or or_of r.has_or r.has_and any (stack_in r) new → length new ≤ 1
   one_left any new none joined =
@@ -250,8 +254,8 @@ start_sound r utf8 rest_is no_groups no_tokens no_or no_and = record {
   groups = subst (All (λ (g : Group). IsSuffix r.text.now g.text.now)) (sym no_groups) (λ k d h. absurd (omega (arith, h)));
 }
 
-pub start_opened : (w : Wanted) (r : Reader) → r.groups.items ≡ [] → IsOpened w r
-start_opened w r no_groups = subst (λ (x : List Group). AllOpen (MayEnd w r) (reverse x) _) (sym no_groups) tt
+pub start_opened : (May : List Held → Type 0) (gs : List Group) (low : List Formula) → gs ≡ [] → AllOpen May (reverse gs) low
+start_opened May gs low none = subst (λ (x : List Group). AllOpen May (reverse x) low) (sym none) tt
 
 pub opened_at : (r : Reader) (v w : Wanted) → v ≡ w → IsOpened v r → IsOpened w r
 opened_at r v w e h = subst (λ x. IsOpened x r) e h

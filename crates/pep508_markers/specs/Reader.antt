@@ -1,5 +1,5 @@
 -- What a reader stands for: which readings of the whole text its state leaves.
-use Rattle.std.specs.Prelude.{◌≡◌, ℕ, ◌+◌, Bool, List, [], ◌∷◌, ◌++◌, Option, reverse, length, All, encode_utf8}
+use Rattle.std.specs.Prelude.{◌≡◌, ℕ, ◌+◌, Bool, List, [], ◌∷◌, Option, reverse, length, All}
 use Rattle.std.specs.Str.{chars}
 use Rattle.pep508_text.specs.Suffix.{IsSuffix}
 use Rattle.marker_warnings.specs.declared.warning.MarkerWarningKind.{MarkerWarningKind}
@@ -13,7 +13,7 @@ use Rattle.pep508_markers.specs.Formula.{Formula}
 use Rattle.pep508_markers.specs.Reading.{Held, Before, After}
 use Rattle.pep508_markers.specs.Postfix.{stack_of, top_of, IsPostfix}
 use Rattle.pep508_markers.specs.Valid.{IsValid}
-use Rattle.pep508_markers.specs.Refused.{IsMarker, IsTextFault}
+use Rattle.pep508_markers.specs.Refused.{OpensMarker, IsTextFault}
 use Rattle.pep508_markers.specs.Stack.{held, below, count}
 
 -- what an `or` and its last `and` have so far, and the stack below both
@@ -63,10 +63,6 @@ module _ (r : Reader) where
 abbrev pub MayRead : Wanted → Reader → Option Formula → List MarkerWarningKind → Type 0
 MayRead wanted.Atom r f k = Before (outer_in r) (ors_in r) (ands_in r) (chars r.rest.now) r.kinds.items f k
 MayRead wanted.Rest r f k = After (outer_in r) (ors_in r) (ands_in r) (chars r.rest.now) r.kinds.items f k
-
--- a text that begins with a parenthesis, and behind it a marker stands, to its end
-abbrev pub OpensMarker : List ℕ → Type 0
-OpensMarker text = (back : List ℕ) → text ≡ encode_utf8 40 ++ back → IsMarker back
 
 -- what is left of a text may end it, where these lists are open
 abbrev pub EndsAtom : Option Formula → Option Formula → List ℕ → List MarkerWarningKind → List Held → Type 0

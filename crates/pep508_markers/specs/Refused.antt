@@ -1,5 +1,5 @@
 -- Why a text was not read.
-use Rattle.std.specs.Prelude.{List, ℕ, Option}
+use Rattle.std.specs.Prelude.{◌≡◌, ℕ, List, ◌++◌, Option, encode_utf8}
 use Rattle.marker_words.specs.declared.fault.Fault.{Fault}
 use Rattle.marker_words.specs.Fault.{IsFault}
 use Rattle.marker_warnings.specs.declared.warning.MarkerWarningKind.{MarkerWarningKind}
@@ -11,6 +11,10 @@ use Rattle.pep508_markers.specs.Grammar.{Reads}
 -- the grammar has the text
 abbrev pub IsMarker : List ℕ → Type 0
 IsMarker text = (f : Option Formula) × ((k : List MarkerWarningKind) × Reads text f k)
+
+-- a text that begins with a parenthesis, and behind it a marker stands, to its end
+abbrev pub OpensMarker : List ℕ → Type 0
+OpensMarker text = (back : List ℕ) → text ≡ encode_utf8 40 ++ back → IsMarker back
 
 -- the grammar does not have the text
 abbrev pub IsUnread : List ℕ → Type 0

@@ -7,8 +7,7 @@ ghost use Rattle.std.specs.Str.{chars};
 ghost use Rattle.marker_words.specs.Fault.{HasNoSpace};
 ghost use Rattle.marker_words.specs.Keyword.{NoKeyword};
 ghost use Rattle.pep508_markers.specs.First.{BeginsWith};
-ghost use Rattle.pep508_markers.specs.Refused.{IsTextFault};
-ghost use Rattle.pep508_markers.specs.Reader.{OpensMarker};
+ghost use Rattle.pep508_markers.specs.Refused.{IsTextFault, OpensMarker};
 ghost use Rattle.marker_warnings.specs.declared.warning.MarkerWarningKind.{MarkerWarningKind};
 ghost use Rattle.pep508_markers.specs.Formula.{Formula};
 

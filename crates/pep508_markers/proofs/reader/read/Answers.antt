@@ -9,7 +9,7 @@ loop-wanted-init c = record {
   text = refl;
   sound = start_sound _ c.utf8.text refl c.new.ensures.items c.new-2.ensures.items refl refl;
   follows = follows_start _ _ _ _ c.new.ensures.items c.new-3.ensures.items;
-  opened = start_opened wanted.Atom _ c.new.ensures.items;
+  opened = start_opened _ _ _ c.new.ensures.items;
 }
 
 pub returns-in_err-wanted-in-Atom-clause-err : goal.returns-in_err-wanted-in-Atom-clause-err

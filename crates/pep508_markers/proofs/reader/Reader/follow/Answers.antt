@@ -8,10 +8,8 @@ use Rattle.pep508_markers.specs.declared.reader.Group.{Group}
 use Rattle.marker_words.specs.Keyword.{IsKeyword}
 use Rattle.marker_words.proofs.FaultLaws.{fault_of_suffix}
 use Rattle.pep508_markers.proofs.ReadingLaws.{and_on, and_back}
-use Rattle.pep508_markers.proofs.ReaderLaws.{ored, anded, or_same, or_full, close_same, close_full, ored_postfix, anded_postfix, one_left, end_same, fault_end, fault_close, all_before, all_last, ored_valid, not_nil, other_word, fault_of_either}
-use Rattle.pep508_markers.specs.declared.formula.Token.TheVariants.{And}
+use Rattle.pep508_markers.proofs.ReaderLaws.{ored, anded, or_same, or_full, close_same, close_full, ored_postfix, anded_postfix, one_left, end_same, fault_end, fault_close, all_before, all_last, ored_valid, anded_valid, not_nil, other_word, fault_of_either}
 use Rattle.pep508_markers.proofs.OpenLaws.{opened_and, opened_or, opened_close, opened_end}
-use Rattle.pep508_markers.proofs.ValidLaws.{valid_join}
 use Rattle.pep508_markers.proofs.reader.Reader.follow.Goals as goal
 
 pub returns-in-And-clause-sound : goal.returns-in-And-clause-sound
@@ -73,7 +71,7 @@ returns-clause-sound c =
     record {
       full = close_full _ c.in-Some.group popped or_joined and_joined c.requires.full;
       postfix = anded_postfix c.args.self.now c.requires _ c.in-Some.group popped _ _ _ or_joined (ored_postfix c.args.self.now c.requires _ c.in_ok-whole.ensures.tokens) c.in_ok-self.ensures.tokens;
-      valid = valid_join _ And _ c.in_ok-self.ensures.tokens refl (ored_valid c.args.self.now c.requires _ c.in_ok-whole.ensures.tokens);
+      valid = anded_valid c.args.self.now c.requires _ c.in-Some.group popped _ _ _ or_joined (ored_valid c.args.self.now c.requires _ c.in_ok-whole.ensures.tokens) c.in_ok-self.ensures.tokens;
       rest = suffix_then c.requires.rest (suffix_then c.skip_space-text.ensures.suffix c.in-Some-strip.ensures.suffix);
       groups = all_before (λ (g : Group). IsSuffix c.args.self.now.text.now g.text.now) _ _ popped c.requires.groups;
     }
