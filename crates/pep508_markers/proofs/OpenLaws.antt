@@ -64,7 +64,7 @@ pub opened_group : (gs : List Group) (g : Group) (stack : List Formula) (hs : Li
 opened_group gs g stack hs i t rest w pushed e opens begins h =
     let behind : EndsAtom None None (chars rest) w [] → OpensMarker g.text.now = λ q back b. subst IsMarker (append_cancel_left (encode_utf8 40) rest back (sym begins ∙ b)) (marker_from rest q.1.1) in
     let outside = all_map (EndsAtom (Ors g.has_or g.has_and stack) (Ands g.has_or g.has_and stack) i w) (λ outer. EndsAtom None None (chars rest) w (level g.has_or g.has_and stack ∷ outer)) (reverse gs) (under g.has_or g.has_and stack)
-        (λ outer q. (q.0, (q.1.0, open_back outer _ _ i (chars rest) t w q.0 q.1.0 e opens q.1.1))) h in
+    (λ outer q. (q.0, (q.1.0, open_back outer _ _ i (chars rest) t w q.0 q.1.0 e opens q.1.1))) h in
     subst (λ (groups : List Group). AllOpen (EndsAtom None None (chars rest) w) groups stack) (sym (ap reverse pushed ∙ reverse-push gs g)) (behind, outside)
 
 -- a comparison is read
@@ -76,7 +76,7 @@ opened_compare groups has_or w v {has_and} {any} {added} {stack} {new} {i} {o} {
     let same : (outer : List Held) (f : Option Formula) (k : Kinds) → After outer (Ors has_or any new) (Ands has_or any new) o v f k ≡ After outer (Ors has_or has_and stack) (and_of (Ands has_or has_and stack) (of_test m.test)) o (w ++ m.kinds) f k
     = λ outer f k. (λ j. After outer (held has_or (a.rest j)) (ands j) o (kinds j) f k) in
     let there = all_map (EndsAtom (Ors has_or has_and stack) (Ands has_or has_and stack) i w) (EndsRest (Ors has_or any new) (Ands has_or any new) o v) groups (under has_or has_and stack)
-        (λ outer q. (q.0, (q.1.0, compare_back c (as_type (same outer q.0 q.1.0) q.1.1)))) h in
+    (λ outer q. (q.0, (q.1.0, compare_back c (as_type (same outer q.0 q.1.0) q.1.1)))) h in
     subst (λ (s : List Formula). AllOpen (EndsRest (Ors has_or any new) (Ands has_or any new) o v) groups s) (sym (ap (below has_or) a.rest)) there
 
 -- `and` stands behind an atom
@@ -91,7 +91,7 @@ opened_or groups i w {has_or} {has_and} {any} {stack} {new} {t} {b} joined e run
     let same : (outer : List Held) (f : Option Formula) (k : Kinds) → Before outer (held any new) None b w f k ≡ Before outer (or_of (Ors has_or has_and stack) (Ands has_or has_and stack)) None b w f k
     = λ outer f k. (λ j. Before outer (joined.top j) None b w f k) in
     let there = all_map (EndsRest (Ors has_or has_and stack) (Ands has_or has_and stack) i w) (EndsAtom (held any new) None b w) groups (under has_or has_and stack)
-        (λ outer q. (q.0, (q.1.0, or_back e run (as_type (same outer q.0 q.1.0) q.1.1)))) h in
+    (λ outer q. (q.0, (q.1.0, or_back e run (as_type (same outer q.0 q.1.0) q.1.1)))) h in
     subst (λ (s : List Formula). AllOpen (EndsAtom (held any new) None b w) groups s) (sym joined.rest) there
 
 module _ (gs : List Group) (g : Group) (hs : List Group) (popped : hs ≡ gs ++ (g ∷ [])) where
@@ -113,5 +113,5 @@ module _ (gs : List Group) (g : Group) (hs : List Group) (popped : hs ≡ gs ++ 
       let same : (outer : List Held) (f : Option Formula) (k : Kinds) → After outer (Ors g.has_or any new) (Ands g.has_or any new) a w f k ≡ After outer (held g.has_or (below g.has_and low)) (and_of (held g.has_and low) (or_of (Ors has_or has_and stack) (Ands has_or has_and stack))) a w f k
       = λ outer f k. (λ j. After outer (held g.has_or (rest_is j)) (ands_is j) a w f k) in
       let there = all_map (λ outer. EndsRest (Ors has_or has_and stack) (Ands has_or has_and stack) i w (level g.has_or g.has_and low ∷ outer)) (EndsRest (Ors g.has_or any new) (Ands g.has_or any new) a w) (reverse gs) (under g.has_or g.has_and low)
-          (λ outer q. (q.0, (q.1.0, close_back e closes (as_type (same outer q.0 q.1.0) q.1.1)))) (parted (EndsRest (Ors has_or has_and stack) (Ands has_or has_and stack) i w) low h).1 in
+      (λ outer q. (q.0, (q.1.0, close_back e closes (as_type (same outer q.0 q.1.0) q.1.1)))) (parted (EndsRest (Ors has_or has_and stack) (Ands has_or has_and stack) i w) low h).1 in
       subst (λ (s : List Formula). AllOpen (EndsRest (Ors g.has_or any new) (Ands g.has_or any new) a w) (reverse gs) s) (sym (ap (below g.has_or) rest_is)) there

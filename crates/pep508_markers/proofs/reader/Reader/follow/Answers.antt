@@ -1,4 +1,4 @@
-use Rattle.std.proofs.Common.{◌≡◌, [], ◌++◌, ◌-◌, take, sym, ap, ◌∙◌, subst, refl}
+use Rattle.std.proofs.Common.{◌≡◌, [], ◌++◌, ◌-◌, take, sym, ap, ◌∙◌, subst}
 use Rattle.std.specs.Str.{chars}
 use Rattle.pep508_text.specs.Run.{after_space}
 use Rattle.pep508_text.proofs.RunLaws.{trimmed_after_space}
