@@ -3,4 +3,4 @@ mod MeaningLaws
 mod CloneLaws
 mod VersionListLaws
 mod AskLaws
-mod WholeLaws
+pub mod WholeLaws

@@ -1,24 +1,27 @@
 -- A text is one comparison where one is read and white space alone follows.
-use Rattle.std.proofs.Common.{◌≡◌, ◌≢◌, ℕ, Bool, true, false, List, [], ◌∷◌, ◌++◌, length, refl, sym, ap, ◌∙◌, subst, append_assoc, append-nil, Option, Some, None}
+use Rattle.std.proofs.Common.{◌≡◌, ◌≢◌, ℕ, ◌-◌, Bool, true, false, List, [], ◌∷◌, ◌++◌, length, refl, sym, ap, ◌∙◌, subst, append_assoc, append-nil, Option, Some, None}
 use Rattle.std.specs.Prelude.{IsUtf8, encode_utf8, ◌&&◌}
 use Rattle.std.specs.Str.{chars}
 use Rattle.std.proofs.Math.Utf8.{scalars}
 use Rattle.std.proofs.lemmas.Str.{scalars-chars}
 use Rattle.pep508_text.specs.Run.{after_space}
 use Rattle.pep508_text.specs.Suffix.{IsSuffix}
-use Rattle.pep508_text.proofs.RunLaws.{spaces_end, spaces_from, trimmed_nil}
+use Rattle.pep508_text.proofs.RunLaws.{spaces_end, spaces_from, trimmed_nil, trimmed_after_space}
+use Rattle.refusal.specs.declared.Refusal.{Refusal}
+use Rattle.refusal.specs.declared.Refusal.TheVariants as refusals
+use Rattle.pep508_errors.specs.declared.error.Pep508Error.{Pep508Error}
 use Rattle.marker_warnings.specs.declared.warning.MarkerWarningKind.{MarkerWarningKind}
 use Rattle.marker_warnings.specs.Kinds.{Adds, Keeps}
 use Rattle.marker_words.specs.declared.fault.Fault.{Fault}
 use Rattle.marker_words.specs.declared.fault.FaultKind.TheVariants.{Trailing}
-use Rattle.marker_words.specs.Fault.{IsFault, IsFaultAt}
-use Rattle.marker_words.proofs.FaultLaws.{fault_of_suffix, fault_in_front}
+use Rattle.marker_words.specs.Fault.{NoneOpen, IsFault, IsWordFault, IsFaultAt, IsMarkerFault, message_of, span_len, IsAllButLast, HasNoSpace}
+use Rattle.marker_words.proofs.FaultLaws.{fault_of_suffix, fault_in_front, fault_told}
 use Rattle.marker_parts.specs.declared.expression.MarkerExpression.{MarkerExpression}
 use Rattle.marker_parts.specs.declared.comparison.ComparisonError.{ComparisonError}
 use Rattle.marker_parts.specs.declared.comparison.ComparisonError.TheVariants as errors
 use Rattle.marker_parts.specs.Comparison.{Meaning, Compared}
 use Rattle.marker_parts.specs.Read.{ReadsComparison, IsRefused}
-use Rattle.marker_parts.specs.Whole.{IsRead, IsNoComparison, IsUnread}
+use Rattle.marker_parts.specs.Whole.{IsRead, IsNoComparison, IsUnread, Tells, Becomes, IsTold, IsRefusal}
 use Rattle.marker_parts.proofs.ComparisonLaws.{compared_same}
 
 second_of : (a b : Bool) → (a && b) ≡ true → b ≡ true
@@ -34,30 +37,51 @@ last_utf8 : (text front : List ℕ) (c : ℕ) → IsUtf8 text → chars text ≡
 last_utf8 text front c utf8 e = ((c ∷ []), (last_scalar (chars front) c (ap scalars (sym e) ∙ scalars-chars text utf8), append-nil (encode_utf8 c)))
 
 -- a text that goes on behind a comparison
-pub trailing_at : (text piece others : List ℕ) (c last : ℕ) → IsUtf8 text → text ≡ encode_utf8 c ++ others → text ≡ piece ++ encode_utf8 last → chars text ≡ chars piece ++ (last ∷ []) → IsFaultAt text (Trailing c) piece (length text)
-trailing_at text piece others c last utf8 begins ends last_is =
-    fault_in_front text piece (encode_utf8 last) (Trailing c) (length text) utf8 (last_utf8 text piece last utf8 last_is) ends refl (others, last, sym ends ∙ begins, refl)
+pub trailing_at : (rest text piece others : List ℕ) (c last : ℕ) → IsUtf8 text → IsSuffix rest text → chars text ≡ after_space (chars rest) → text ≡ encode_utf8 c ++ others → text ≡ piece ++ encode_utf8 last → chars text ≡ chars piece ++ (last ∷ []) → IsFaultAt NoneOpen rest (Trailing c) piece (length text)
+trailing_at rest text piece others c last utf8 suffix space_is begins ends last_is =
+    let found : IsAllButLast c piece (encode_utf8 last) = record { others = others; last = last; begins = sym ends ∙ begins; ends = refl } in
+    let spaceless : HasNoSpace text = ap after_space space_is ∙ trimmed_after_space (chars rest) ∙ sym space_is in
+    fault_of_suffix suffix
+    (fault_in_front text piece (encode_utf8 last) (Trailing c) (length text) utf8 (last_utf8 text piece last utf8 last_is) ends refl (found, subst HasNoSpace ends spaceless))
 
-pub read_to_the_end : {text rest space : List ℕ} {expression : Option MarkerExpression} {old new : List MarkerWarningKind} → ReadsComparison text rest expression old new → old ≡ [] → space ≡ after_space (chars rest) → space ≡ [] → IsRead text expression new
-read_to_the_end {text} {rest} {space} {expression} {old} {new} read nothing space_is ended = record {
+pub read_to_the_end : {text rest : List ℕ} {expression : Option MarkerExpression} {old new : List MarkerWarningKind} → ReadsComparison text rest expression old new → old ≡ [] → after_space (chars rest) ≡ [] → IsRead text expression new
+read_to_the_end {text} {rest} {expression} {old} {new} read nothing ended = record {
   meaning = read.meaning;
-  comparison = record { rest = chars rest; compared = read.compared; end = spaces_from (sym space_is ∙ ended) };
+  comparison = record { rest = chars rest; compared = read.compared; end = spaces_from ended };
   test = read.test;
   kinds_are = read.kinds ∙ ap (λ (k : List MarkerWarningKind). k ++ read.meaning.kinds) nothing;
 }
 
 -- more follows the only comparison at the front
-pub more_follows : {text rest space : List ℕ} {m : Meaning} → Compared (chars text) rest m → space ≡ after_space rest → space ≢ [] → IsNoComparison text
-more_follows compared space_is some n whole =
+pub more_follows : {text rest : List ℕ} {m : Meaning} → Compared (chars text) rest m → after_space rest ≢ [] → IsNoComparison text
+more_follows compared some n whole =
     let same = compared_same whole.compared compared in
-    some (space_is ∙ ap after_space (sym same.0) ∙ spaces_end whole.end trimmed_nil)
+    some (ap after_space (sym same.0) ∙ spaces_end whole.end trimmed_nil)
 
 pub none_at_front : (text : List ℕ) (error : ComparisonError) → IsRefused text error → IsUnread text error
 none_at_front text errors.OutOfMemory h = tt
 none_at_front text (errors.Fault fault) h = (λ m whole. h.0.no_compared whole.rest m whole.compared, h.1)
 
-pub unread_behind : {text rest space : List ℕ} {expression : Option MarkerExpression} {old new : List MarkerWarningKind} (fault : Fault) → ReadsComparison text rest expression old new → IsSuffix text rest → IsSuffix rest space → chars space ≡ after_space (chars rest) → chars space ≢ [] → IsFault space fault → IsUnread text (errors.Fault fault)
-unread_behind fault read suffix behind space_is some at = (more_follows read.compared space_is some, fault_of_suffix suffix (fault_of_suffix behind at))
+pub unread_behind : {text rest : List ℕ} {expression : Option MarkerExpression} {old new : List MarkerWarningKind} (fault : Fault) → ReadsComparison text rest expression old new → IsSuffix text rest → after_space (chars rest) ≢ [] → IsWordFault rest fault → IsUnread text (errors.Fault fault)
+unread_behind fault read suffix some at = (more_follows read.compared some, fault_of_suffix suffix at)
+
+-- an error that tells a fault of the text
+pub told_fault : {T E : Type 0} {Open : List ℕ → Type 0} {text : List ℕ} {fault : Fault} {error : Pep508Error T E} → IsFault Open text fault → Tells text fault error → IsTold Open text error
+told_fault {Open = Open} {text} {fault} {error} at tells =
+    let said = message_of fault.kind fault.piece.now in
+    record {
+      input = tells.input;
+      said = said;
+      message = tells.message;
+      place = subst (λ (n : ℕ). IsMarkerFault Open text n error.len said) (sym tells.start) (subst (λ (n : ℕ). IsMarkerFault Open text (length text - fault.left) n said) (sym tells.len) (fault_told text fault at));
+    }
+
+-- a text that is no comparison is refused
+pub refused_text : {T E : Type 0} (text : List ℕ) (error : ComparisonError) (refusal : Refusal (Pep508Error T E)) → IsUnread text error → Becomes text error refusal → IsRefusal text refusal
+refused_text text error refusals.OutOfMemory unread told = tt
+refused_text text error refusals.SegmentAtEnd unread told = told
+refused_text text errors.OutOfMemory (refusals.Fault e) unread told = absurd told
+refused_text text (errors.Fault fault) (refusals.Fault e) unread told = (unread.0, told_fault unread.1 told)
 
 -- nothing is added, and then more
 pub adds_nothing : (kinds : Option (List MarkerWarningKind)) → Adds kinds kinds []

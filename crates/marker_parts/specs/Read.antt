@@ -3,7 +3,7 @@ use Rattle.std.specs.Prelude.{◌≡◌, ℕ, List, ◌++◌, Option, option_map
 use Rattle.std.specs.Str.{chars}
 use Rattle.marker_words.specs.declared.operator.MarkerOperator.{MarkerOperator}
 use Rattle.marker_words.specs.Lexical.{Value, Sides}
-use Rattle.marker_words.specs.Fault.{IsFault}
+use Rattle.marker_words.specs.Fault.{IsWordFault}
 use Rattle.marker_warnings.specs.declared.warning.MarkerWarningKind.{MarkerWarningKind}
 use Rattle.marker_parts.specs.declared.expression.MarkerExpression.{MarkerExpression}
 use Rattle.marker_parts.specs.declared.outcome.Outcome.{Outcome}
@@ -31,4 +31,4 @@ pub record HasNoComparison (input : List ℕ) : Type 0 where
 -- why a comparison is not read: for want of memory, or since none stands there, which is told as a fault of the text
 abbrev pub IsRefused : List ℕ → ComparisonError → Type 0
 IsRefused text OutOfMemory = ⊤
-IsRefused text (Fault fault) = HasNoComparison (chars text) × IsFault text fault
+IsRefused text (Fault fault) = HasNoComparison (chars text) × IsWordFault text fault

@@ -1,6 +1,6 @@
 -- A text that is one comparison, with white space around it, and how one that is none is told. (PEP 508, "Grammar"; the
 -- messages are this project's.)
-use Rattle.std.specs.Prelude.{◌≡◌, ◌⊎◌, ℕ, List, [], ◌++◌, Option, option_map, string_bytes, ⊤}
+use Rattle.std.specs.Prelude.{◌≡◌, ◌⊎◌, ℕ, ◌-◌, List, [], ◌++◌, length, Option, option_map, string_bytes, ⊤}
 use Rattle.std.specs.Str.{chars}
 use Rattle.refusal.specs.declared.Refusal.{Refusal}
 use Rattle.refusal.specs.declared.Refusal.TheVariants as refusals
@@ -10,7 +10,8 @@ use Rattle.pep508_errors.specs.declared.error.Pep508ErrorSource.{Pep508ErrorSour
 use Rattle.pep508_errors.specs.declared.error.Pep508ErrorSource.TheVariants as sources
 use Rattle.marker_warnings.specs.declared.warning.MarkerWarningKind.{MarkerWarningKind}
 use Rattle.marker_warnings.specs.Kinds.{Adds}
-use Rattle.marker_words.specs.Fault.{IsFault, IsMarkerFault}
+use Rattle.marker_words.specs.declared.fault.Fault.{Fault}
+use Rattle.marker_words.specs.Fault.{NoneOpen, IsWordFault, IsMarkerFault, message_of, span_len}
 use Rattle.marker_parts.specs.declared.expression.MarkerExpression.{MarkerExpression}
 use Rattle.marker_parts.specs.declared.comparison.ComparisonError.{ComparisonError}
 use Rattle.marker_parts.specs.declared.comparison.ComparisonError.TheVariants as errors
@@ -44,7 +45,7 @@ IsNoComparison text = (m : Meaning) → ¬ IsComparison text m
 -- why the text is not read
 abbrev pub IsUnread : List ℕ → ComparisonError → Type 0
 IsUnread text errors.OutOfMemory = ⊤
-IsUnread text (errors.Fault fault) = IsNoComparison text × IsFault text fault
+IsUnread text (errors.Fault fault) = IsNoComparison text × IsWordFault text fault
 
 module _ {T E : Type 0} where
   -- the message is this one, and no fault of a URL
@@ -53,18 +54,32 @@ module _ {T E : Type 0} where
   IsMessage (sources.UrlError fault) said = ⊥
   IsMessage (sources.UnsupportedRequirement message) said = ⊥
 
-  -- one of the messages of markers, at its place in the text
-  pub record IsTold (text : List ℕ) (error : Pep508Error T E) : Type 0 where
+  -- this fault, with its message and its place, and the text
+  pub record Tells (text : List ℕ) (fault : Fault) (error : Pep508Error T E) : Type 0 where
+    pub input : string_bytes error.input ≡ text
+    pub message : IsMessage error.message (message_of fault.kind fault.piece.now)
+    pub start : error.start ≡ length text - fault.left
+    pub len : error.len ≡ span_len fault
+
+  -- memory ran out, or the fault is told
+  abbrev pub Becomes : List ℕ → ComparisonError → Refusal (Pep508Error T E) → Type 0
+  Becomes text error refusals.OutOfMemory = ⊤
+  Becomes text error refusals.SegmentAtEnd = ⊥
+  Becomes text errors.OutOfMemory (refusals.Fault told) = ⊥
+  Becomes text (errors.Fault fault) (refusals.Fault told) = Tells text fault told
+
+  -- one of the messages of markers, which is true of the text at its place
+  pub record IsTold (Open : List ℕ → Type 0) (text : List ℕ) (error : Pep508Error T E) : Type 0 where
     pub input : string_bytes error.input ≡ text
     pub said : List ℕ
     pub message : IsMessage error.message said
-    pub place : IsMarkerFault text error.start error.len said
+    pub place : IsMarkerFault Open text error.start error.len said
 
   -- memory ran out, or the text is no comparison, and is told so
   abbrev pub IsRefusal : List ℕ → Refusal (Pep508Error T E) → Type 0
   IsRefusal text refusals.OutOfMemory = ⊤
   IsRefusal text refusals.SegmentAtEnd = ⊥
-  IsRefusal text (refusals.Fault error) = IsNoComparison text × IsTold text error
+  IsRefusal text (refusals.Fault error) = IsNoComparison text × IsTold NoneOpen text error
 
   -- a text at fault has told nothing
   abbrev pub OnFault : Refusal (Pep508Error T E) → Type 0 → Type 0

@@ -23,7 +23,7 @@ pub use marker_words::{
     ExtraOperator, Fault, FaultKind, MarkerOperator, MarkerOperatorBounds, MarkerValue,
     MarkerValueString, MarkerValueVersion, TextVariable, VersionVariable,
 };
-pub use parse::{error_of_fault, report_kinds};
+pub use parse::report_kinds;
 pub use pep440_rs::{Version, VersionSpecifier};
 pub use pep508_errors::{Pep508Error, Pep508ErrorSource, Pep508Url, Surroundings};
 pub use pep508_names::{ExtraName, InvalidNameError, PackageName};

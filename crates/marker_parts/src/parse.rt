@@ -2,10 +2,11 @@
 
 ghost use Rattle.std.specs.Prelude.{◌≡◌, ◌≢◌, ◌++◌, [], List, IfOk, IfErr, IfSome, IfNone, OnErr, OnOk};
 ghost use Rattle.std.specs.Str.{chars};
+ghost use Rattle.pep508_text.specs.Run.{after_space};
 ghost use Rattle.marker_warnings.specs.declared.warning.MarkerWarningKind.{MarkerWarningKind};
 ghost use Rattle.marker_warnings.specs.Kinds.{Adds, Keeps};
-ghost use Rattle.marker_words.specs.Fault.{IsFault};
-ghost use Rattle.marker_parts.specs.Whole.{HasBegun, IsRead, IsUnread, IsTold, IsRefusal, OnFault};
+ghost use Rattle.marker_words.specs.Fault.{IsWordFault};
+ghost use Rattle.marker_parts.specs.Whole.{HasBegun, IsRead, IsUnread, Tells, Becomes, IsRefusal, OnFault};
 
 use crate::comparison::{ComparisonError, read_comparison};
 use crate::expression::MarkerExpression;
@@ -16,12 +17,13 @@ use pep508_text::{first, last, skip_space};
 use refusal::Refusal;
 use std::alloc::{AllocError, Global};
 
-// What is wrong where a text goes on behind its comparison. The last character is left out of the span.
-fn trailing(text: &str) -> Option<Fault<'_>>
-    ensures none { IfNone result (chars text.now ≡ []) }
-    ensures some { IfSome result (λ fault. chars text.now ≢ []) }
-    ensures fault { IfSome result (IsFault text.now) }
+// What is wrong where more than white space follows the comparison of a text. The last character is left out of the span.
+fn trailing(rest: &str) -> Option<Fault<'_>>
+    ensures none { IfNone result (after_space (chars rest.now) ≡ []) }
+    ensures some { IfSome result (λ fault. after_space (chars rest.now) ≢ []) }
+    ensures fault { IfSome result (IsWordFault rest.now) }
 {
+    let text = skip_space(rest);
     let Some((found, _)) = first(text) else {
         return None;
     };
@@ -48,20 +50,19 @@ fn read_whole(
         Ok(read) => read,
         Err(error) => return Err(error),
     };
-    match trailing(skip_space(rest)) {
+    match trailing(rest) {
         None => Ok((expression, kinds)),
         Some(fault) => Err(ComparisonError::Fault(fault)),
     }
 }
 
-/// The fault with its message, its place and its text.
-pub fn error_of_fault<T: Pep508Url>(
+// The fault with its message, its place and its text.
+fn error_of_fault<T: Pep508Url>(
     alloc: Global,
     text: &str,
     fault: Fault<'_>,
 ) -> Result<Pep508Error<T>, AllocError>
-    requires { IsFault text.now fault }
-    ensures { IfOk result (IsTold text.now) }
+    ensures { IfOk result (Tells text.now fault.entry) }
 {
     let message = fault.to_string(alloc)?;
     Ok(Pep508Error {
@@ -72,20 +73,19 @@ pub fn error_of_fault<T: Pep508Url>(
     })
 }
 
-fn refusal<T: Pep508Url>(
-    alloc: Global,
-    text: &str,
-    error: ComparisonError<'_>,
-) -> Refusal<Pep508Error<T>>
-    requires { IsUnread text.now error }
-    ensures { IsRefusal text.now result }
-{
-    match error {
-        ComparisonError::OutOfMemory => Refusal::OutOfMemory,
-        ComparisonError::Fault(fault) => match error_of_fault(alloc, text, fault) {
-            Ok(error) => Refusal::Fault(error),
-            Err(AllocError) => Refusal::OutOfMemory,
-        },
+impl ComparisonError<'_> {
+    /// The refusal of a text with this fault: its message, its place, and a copy of the text. It is `OutOfMemory` where
+    /// there is no memory for them.
+    pub fn refusal<T: Pep508Url>(self, alloc: Global, text: &str) -> Refusal<Pep508Error<T>>
+        ensures { Becomes text.now self.entry result }
+    {
+        match self {
+            ComparisonError::OutOfMemory => Refusal::OutOfMemory,
+            ComparisonError::Fault(fault) => match error_of_fault(alloc, text, fault) {
+                Ok(error) => Refusal::Fault(error),
+                Err(AllocError) => Refusal::OutOfMemory,
+            },
+        }
     }
 }
 
@@ -139,7 +139,7 @@ impl MarkerExpression {
     {
         match read_whole(alloc, text) {
             Ok((expression, _)) => Ok(expression),
-            Err(error) => Err(refusal(alloc, text, error)),
+            Err(error) => Err(error.refusal(alloc, text)),
         }
     }
 
@@ -162,7 +162,7 @@ impl MarkerExpression {
                 report_kinds(alloc, &kinds, reporter)?;
                 Ok(expression)
             }
-            Err(error) => Err(refusal(alloc, text, error)),
+            Err(error) => Err(error.refusal(alloc, text)),
         }
     }
 }

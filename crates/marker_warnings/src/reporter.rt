@@ -1,6 +1,6 @@
 //! Who is told of warnings.
 
-ghost use Rattle.std.specs.Prelude.{⊤, ◌≡◌, ◌∷◌, [], List, Option, None, Some, OnErr, OnOk, map};
+ghost use Rattle.std.specs.Prelude.{⊤, ◌≡◌, ◌∷◌, [], List, Option, None, Some, OnErr, OnOk, IsOk, map};
 ghost use Rattle.marker_warnings.specs.Kinds.{Adds, Keeps};
 ghost use Rattle.marker_warnings.specs.declared.warning.MarkerWarningKind.{MarkerWarningKind};
 
@@ -64,7 +64,9 @@ pub struct TracingReporter<L>(pub L);
 impl<L: Log> Reporter for TracingReporter<L> {
     ghost kinds = { λ _. None };
 
-    fn report(&mut self, _kind: MarkerWarningKind, warning: String) -> Result<(), AllocError> {
+    fn report(&mut self, _kind: MarkerWarningKind, warning: String) -> Result<(), AllocError>
+        ensures { IsOk result }
+    {
         warn!(self.0; "{warning}");
         Ok(())
     }

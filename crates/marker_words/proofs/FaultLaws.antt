@@ -7,58 +7,75 @@ use Rattle.std.proofs.lemmas.Bool.Decides.{nat_tests}
 use Rattle.std.proofs.lemmas.List.{append_cancel_right}
 use Rattle.pep508_text.specs.Run.{run_of}
 use Rattle.pep508_text.specs.declared.classes.Class.{Class}
-use Rattle.pep508_text.specs.Suffix.{IsSuffix, IsPiece, StandsAt, IsSpan}
+use Rattle.pep508_text.specs.Suffix.{IsSuffix, IsPiece, IsSpan}
 use Rattle.pep508_text.proofs.SuffixLaws.{suffix_self, suffix_then, suffix_nil, piece_start, span_of_piece}
 use Rattle.marker_words.specs.declared.fault.Fault.{Fault}
 use Rattle.marker_words.specs.declared.fault.FaultKind.{FaultKind}
 use Rattle.marker_words.specs.declared.fault.FaultKind.TheVariants.{ValueAtEnd, NoValue, NoOperator, NotAtEnd, NoSpaceAfterNot, Unclosed, MissingAtEnd, Missing, Unexpected, Trailing}
-use Rattle.marker_words.specs.Fault.{message_of, span_len, operator_class, IsLongest, Finds, IsFault, IsFaultAt, IsSpanOf, IsMarkerFault, value_at_end, no_value, no_operator, not_at_end, no_space_after_not, unclosed, missing_at_end, missing, unexpected, trailing}
+use Rattle.marker_words.specs.Fault.{message_of, span_len, operator_class, IsLongest, IsUnclosed, quotes, parentheses, Finds, IsFault, IsFaultAt, NoneOpen, IsSpanOf, IsMarkerFault}
 
 -- what is known at any error
 pub on_err : {T E Q : Type 0} (r : Result T E) → Q → OnErr r Q
 on_err (Ok x) q = tt
 on_err (Err e) q = q
 
+-- what words say of a text is true in each grammar
+unclosed_among : {Open : List ℕ → Type 0} {opening closing : ℕ} {back : List ℕ} → IsUnclosed NoneOpen opening closing back → IsUnclosed Open opening closing back
+unclosed_among (quotes quote none) = quotes quote none
+unclosed_among (parentheses open_there) = absurd open_there
+
+among : (Open : List ℕ → Type 0) (kind : FaultKind) (piece back : List ℕ) → Finds NoneOpen kind piece back → Finds Open kind piece back
+among Open ValueAtEnd piece back found = found
+among Open NoValue piece back found = found
+among Open NoOperator piece back found = found
+among Open NotAtEnd piece back found = found
+among Open NoSpaceAfterNot piece back found = found
+among Open (Unclosed closing) piece back found = (found.0, unclosed_among found.1, found.2)
+among Open (MissingAtEnd awaited) piece back found = found
+among Open (Missing awaited) piece back found = found
+among Open (Unexpected c) piece back found = found
+among Open (Trailing c) piece back found = found
+
 -- a fault in what is left is one in the whole text
-pub fault_of_suffix : {text rest piece : List ℕ} {kind : FaultKind} {left : ℕ} → IsSuffix text rest → IsFaultAt rest kind piece left → IsFaultAt text kind piece left
+pub fault_of_suffix : {Open : List ℕ → Type 0} → {text rest piece : List ℕ} {kind : FaultKind} {left : ℕ} → IsSuffix text rest → IsFaultAt Open rest kind piece left → IsFaultAt Open text kind piece left
 fault_of_suffix suffix fault = record {
   place = record { back = fault.place.back; begins = suffix_then suffix fault.place.begins; ends = fault.place.ends; length_is = fault.place.length_is };
   found = fault.found;
 }
 
 -- a piece at the front of what is left
-pub fault_in_front : (text piece back : List ℕ) (kind : FaultKind) (left : ℕ) → IsUtf8 text → IsUtf8 back → text ≡ piece ++ back → left ≡ length text → Finds kind piece back → IsFaultAt text kind piece left
+pub fault_in_front : {Open : List ℕ → Type 0} → (text piece back : List ℕ) (kind : FaultKind) (left : ℕ) → IsUtf8 text → IsUtf8 back → text ≡ piece ++ back → left ≡ length text → Finds Open kind piece back → IsFaultAt Open text kind piece left
 fault_in_front text piece back kind left utf8 ends joined left_is found = record {
   place = record { back = back; begins = subst (IsSuffix text) joined (suffix_self text utf8); ends = ends; length_is = ap length (sym joined) ∙ sym left_is };
   found = found;
 }
 
 -- the same of a fault that a call answers
-pub fault_before : (text back piece : List ℕ) (kind found_kind : FaultKind) (left : ℕ) → IsUtf8 text → IsUtf8 back → found_kind ≡ kind → text ≡ piece ++ back → left ≡ length text → Finds kind piece back → IsFaultAt text found_kind piece left
-fault_before text back piece kind found_kind left utf8 ends kind_is joined left_is found =
-    subst (λ (k : FaultKind). IsFaultAt text k piece left) (sym kind_is) (fault_in_front text piece back kind left utf8 ends joined left_is found)
+pub fault_before : {Open : List ℕ → Type 0} → (text back piece : List ℕ) (kind found_kind : FaultKind) (left : ℕ) → IsUtf8 text → IsUtf8 back → found_kind ≡ kind → text ≡ piece ++ back → left ≡ length text → Finds Open kind piece back → IsFaultAt Open text found_kind piece left
+fault_before {Open} text back piece kind found_kind left utf8 ends kind_is joined left_is found =
+    subst (λ (k : FaultKind). IsFaultAt Open text k piece left) (sym kind_is) (fault_in_front text piece back kind left utf8 ends joined left_is found)
 
 -- at the end of the text
-pub fault_at_end : (text piece : List ℕ) (kind found_kind : FaultKind) (left : ℕ) → found_kind ≡ kind → piece ≡ [] → left ≡ 0 → Finds kind [] [] → IsFaultAt text found_kind piece left
-fault_at_end text piece kind found_kind left kind_is piece_is left_is found =
-    let here : IsFaultAt text kind [] 0 = record { place = record { back = []; begins = suffix_nil text; ends = (suffix_nil text).utf8; length_is = refl }; found = found } in
-    let there : IsFaultAt text found_kind [] 0 = subst (λ (k : FaultKind). IsFaultAt text k [] 0) (sym kind_is) here in
-    let piece_there : IsFaultAt text found_kind piece 0 = subst (λ (x : List ℕ). IsFaultAt text found_kind x 0) (sym piece_is) there in
-    subst (IsFaultAt text found_kind piece) (sym left_is) piece_there
+pub fault_at_end : {Open : List ℕ → Type 0} → (text piece : List ℕ) (kind found_kind : FaultKind) (left : ℕ) → found_kind ≡ kind → piece ≡ [] → left ≡ 0 → Finds Open kind [] [] → IsFaultAt Open text found_kind piece left
+fault_at_end {Open} text piece kind found_kind left kind_is piece_is left_is found =
+    let here : IsFaultAt Open text kind [] 0 = record { place = record { back = []; begins = suffix_nil text; ends = (suffix_nil text).utf8; length_is = refl }; found = found } in
+    let there : IsFaultAt Open text found_kind [] 0 = subst (λ (k : FaultKind). IsFaultAt Open text k [] 0) (sym kind_is) here in
+    let piece_there : IsFaultAt Open text found_kind piece 0 = subst (λ (x : List ℕ). IsFaultAt Open text found_kind x 0) (sym piece_is) there in
+    subst (IsFaultAt Open text found_kind piece) (sym left_is) piece_there
 
 -- the piece in front of the same rest
 pub same_front : (text piece front rest : List ℕ) → text ≡ piece ++ rest → text ≡ front ++ rest → piece ≡ front
 same_front text piece front rest e f = append_cancel_right piece front rest (sym e ∙ f)
 
 -- a fault at the text's first character
-pub fault_at_first : {text rest piece : List ℕ} {left : ℕ} {found_kind : FaultKind} (c : ℕ) (kind : FaultKind) → IsUtf8 text → IsSuffix text rest → text ≡ encode_utf8 c ++ rest → found_kind ≡ kind → text ≡ piece ++ rest → left ≡ length text → (piece ≡ encode_utf8 c → Finds kind piece rest) → IsFaultAt text found_kind piece left
+pub fault_at_first : {Open : List ℕ → Type 0} → {text rest piece : List ℕ} {left : ℕ} {found_kind : FaultKind} (c : ℕ) (kind : FaultKind) → IsUtf8 text → IsSuffix text rest → text ≡ encode_utf8 c ++ rest → found_kind ≡ kind → text ≡ piece ++ rest → left ≡ length text → (piece ≡ encode_utf8 c → Finds Open kind piece rest) → IsFaultAt Open text found_kind piece left
 fault_at_first {text} {rest} {piece} {left} {found_kind} c kind utf8 suffix first kind_is joined left_is found =
     fault_before text rest piece kind found_kind left utf8 suffix.utf8 kind_is joined left_is (found (same_front text piece (encode_utf8 c) rest joined first))
 
 -- a fault at the run in front of a text
-pub fault_at_run : {text rest run piece : List ℕ} {left : ℕ} {found_kind : FaultKind} (kind : FaultKind) → IsUtf8 text → IsSuffix text rest → text ≡ run ++ rest → found_kind ≡ kind → piece ≡ run → left ≡ length text → Finds kind run rest → IsFaultAt text found_kind piece left
-fault_at_run {text} {rest} {run} {piece} {left} {found_kind} kind utf8 suffix joined kind_is piece_is left_is found =
-    subst (λ (x : List ℕ). IsFaultAt text found_kind x left) (sym piece_is)
+pub fault_at_run : {Open : List ℕ → Type 0} → {text rest run piece : List ℕ} {left : ℕ} {found_kind : FaultKind} (kind : FaultKind) → IsUtf8 text → IsSuffix text rest → text ≡ run ++ rest → found_kind ≡ kind → piece ≡ run → left ≡ length text → Finds Open kind run rest → IsFaultAt Open text found_kind piece left
+fault_at_run {Open} {text} {rest} {run} {piece} {left} {found_kind} kind utf8 suffix joined kind_is piece_is left_is found =
+    subst (λ (x : List ℕ). IsFaultAt Open text found_kind x left) (sym piece_is)
     (fault_before text rest run kind found_kind left utf8 suffix.utf8 kind_is joined left_is found)
 
 pub run_longest : (text rest run : List ℕ) (class : Class) → text ≡ run ++ rest → run ≡ encode_utf8_all (run_of class (chars text)) → IsLongest class run rest
@@ -82,11 +99,6 @@ span_of text piece left place = span_of_piece place (len_inside left (length pie
 covers_of : (t n left : ℕ) → t - left < t → cond (eqb left 0) 1 n ≡ n
 covers_of t n left inside = len_inside left n (omega arith)
 
-at_end : (text piece back : List ℕ) (left : ℕ) → length (piece ++ back) ≡ left → piece ++ back ≡ [] → length text - left ≡ length text
-at_end text piece back left length_is none =
-    let left_is : left ≡ 0 = sym length_is ∙ ap length none in
-    omega arith
-
 -- a piece has a span
 abbrev spanned : (text piece : List ℕ) (left : ℕ) → IsPiece text piece left → IsSpanOf text piece (length text - left) (cond (eqb left 0) 1 (length piece))
 spanned text piece left place = record {
@@ -95,29 +107,13 @@ spanned text piece left place = record {
   covers = covers_of (length text) (length piece) left;
 }
 
-spanned_as : (text piece front : List ℕ) (left : ℕ) → IsPiece text piece left → piece ≡ front → IsSpanOf text front (length text - left) (cond (eqb left 0) 1 (length piece))
-spanned_as text piece front left place e = subst (λ (x : List ℕ). IsSpanOf text x (length text - left) (cond (eqb left 0) 1 (length piece))) e (spanned text piece left place)
+told : {Open : List ℕ → Type 0} → (text piece : List ℕ) (left : ℕ) (kind : FaultKind) (place : IsPiece text piece left) → Finds Open kind piece place.back → IsMarkerFault Open text (length text - left) (cond (eqb left 0) 1 (length piece)) (message_of kind piece)
+told text piece left kind place found = record { kind = kind; piece = piece; place = spanned text piece left place; found = found; said = refl }
 
 -- a fault of a text is told as one of the messages, at its place
-told : (text piece : List ℕ) (left : ℕ) (kind : FaultKind) (place : IsPiece text piece left) → Finds kind piece place.back → IsMarkerFault text (length text - left) (cond (eqb left 0) 1 (length piece)) (message_of kind piece)
-told text piece left ValueAtEnd place found = value_at_end (at_end text piece place.back left place.length_is found) (span_of text piece left place)
-told text piece left NoValue place found = no_value (spanned text piece left place) found
-told text piece left NoOperator place found = no_operator (spanned text piece left place) found
-told text piece left NotAtEnd place found = not_at_end (at_end text piece place.back left place.length_is found) (span_of text piece left place)
-told text piece left NoSpaceAfterNot place found =
-    subst (λ (x : List ℕ). IsMarkerFault text (length text - left) (cond (eqb left 0) 1 (length piece)) (message_of NoSpaceAfterNot x)) (sym found.1)
-    (no_space_after_not found.0 (spanned_as text piece (encode_utf8 found.0) left place found.1))
-told text piece left (Unclosed closing) place found = unclosed found.0 closing found.1 (spanned_as text piece (encode_utf8 found.0) left place found.2)
-told text piece left (MissingAtEnd awaited) place found = missing_at_end awaited (at_end text piece place.back left place.length_is found) (span_of text piece left place)
-told text piece left (Missing awaited) place found =
-    subst (λ (x : List ℕ). IsMarkerFault text (length text - left) (cond (eqb left 0) 1 (length piece)) (message_of (Missing awaited) x)) (sym found.1)
-    (missing awaited found.0 (spanned_as text piece (encode_utf8 found.0) left place found.1))
-told text piece left (Unexpected c) place found =
-    let stands : StandsAt text (encode_utf8 c) (length text - left) = record { front = place.begins.front; back = found.0; joined = place.begins.joined ∙ ap (λ (x : List ℕ). place.begins.front ++ x) found.2; start_is = piece_start place } in
-    unexpected c found.1 stands (spanned text piece left place) found.3
-told text piece left (Trailing c) place found =
-    let stands : StandsAt text (encode_utf8 c) (length text - left) = record { front = place.begins.front; back = found.0; joined = place.begins.joined ∙ ap (λ (x : List ℕ). place.begins.front ++ x) found.2; start_is = piece_start place } in
-    trailing c found.1 stands (spanned text piece left place) found.3
-
-pub fault_told : (text : List ℕ) (fault : Fault) → IsFault text fault → IsMarkerFault text (length text - fault.left) (span_len fault) (message_of fault.kind fault.piece.now)
+pub fault_told : {Open : List ℕ → Type 0} → (text : List ℕ) (fault : Fault) → IsFault Open text fault → IsMarkerFault Open text (length text - fault.left) (span_len fault) (message_of fault.kind fault.piece.now)
 fault_told text fault f = told text fault.piece.now fault.left fault.kind f.place f.found
+
+-- a fault of words is one of each grammar that has them
+pub fault_of_words : {Open : List ℕ → Type 0} {text piece : List ℕ} {kind : FaultKind} {left : ℕ} → IsFaultAt NoneOpen text kind piece left → IsFaultAt Open text kind piece left
+fault_of_words {kind = kind} fault = record { place = fault.place; found = among _ kind _ _ fault.found }

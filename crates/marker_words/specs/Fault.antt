@@ -1,12 +1,14 @@
 -- The faults of marker texts. Texts, pieces and messages are lists of bytes, and lengths count bytes.
-use Rattle.std.specs.Prelude.{◌≡◌, ℕ, ◌<◌, ◌==◌, Bool, false, List, [], ◌∷◌, ◌++◌, length, if◌then◌else◌, codes, encode_utf8, encode_utf8_all}
+use Rattle.std.specs.Prelude.{◌≡◌, ◌≢◌, ◌⊎◌, ℕ, ◌<◌, ◌==◌, Bool, false, List, [], ◌∷◌, ◌++◌, length, if◌then◌else◌, codes, encode_utf8, encode_utf8_all}
 use Rattle.std.specs.Str.{chars}
 use Rattle.pep508_text.specs.Class.{holds}
-use Rattle.pep508_text.specs.Run.{run_of}
+use Rattle.pep508_text.specs.Run.{run_of, after_run, after_space}
 use Rattle.pep508_text.specs.Suffix.{IsPiece, StandsAt, IsSpan}
 use Rattle.pep508_text.specs.declared.classes.Class.{Class}
-use Rattle.pep508_text.specs.declared.classes.Class.TheVariants.{KeyPart, Comparison, WordPart, Alphabetic}
-use Rattle.marker_words.specs.Lexical.{IsQuote}
+use Rattle.pep508_text.specs.declared.classes.Class.TheVariants.{Space, KeyPart, Comparison, WordPart, NotQuote, Alphabetic}
+use Rattle.marker_words.specs.Lexical.{Value, IsQuote, IsValue, IsOperator}
+use Rattle.marker_words.specs.Keyword.{NoKeyword}
+use Rattle.marker_words.specs.declared.operator.MarkerOperator.{MarkerOperator}
 use Rattle.marker_words.specs.declared.fault.Fault.{Fault}
 use Rattle.marker_words.specs.declared.fault.FaultKind.{FaultKind}
 use Rattle.marker_words.specs.declared.fault.FaultKind.TheVariants.{ValueAtEnd, NoValue, NoOperator, NotAtEnd, NoSpaceAfterNot, Unclosed, MissingAtEnd, Missing, Unexpected, Trailing}
@@ -37,10 +39,63 @@ operator_class cs = if begins_word cs then WordPart else Comparison
 abbrev pub IsLongest : Class → List ℕ → List ℕ → Type 0
 IsLongest class run back = run ≡ encode_utf8_all (run_of class (chars (run ++ back)))
 
--- an opening character and the one that closes it
-pub data Closes : ℕ → ℕ → Type 0 where
-  quotes : {quote : ℕ} → IsQuote quote → Closes quote quote
-  parentheses : Closes 40 41
+-- no value stands at the front of the text: no quoted text, no key and no `extra`
+abbrev pub HasNoValue : List ℕ → Type 0
+HasNoValue text = (output : List ℕ) (value : Value) → IsValue (chars text) output value → ⊥
+
+abbrev pub HasNoOperator : List ℕ → Type 0
+HasNoOperator text = (output : List ℕ) (operator : MarkerOperator) → IsOperator (chars text) output operator → ⊥
+
+-- it begins with no white space
+abbrev pub HasNoSpace : List ℕ → Type 0
+HasNoSpace text = after_space (chars text) ≡ chars text
+
+-- a letter of `in`
+pub data IsLetterOfIn : ℕ → Type 0 where
+  first_letter : IsLetterOfIn 105
+  last_letter : IsLetterOfIn 110
+
+-- An opening character, the one that closes it, and what stands behind the first: behind a quote comes no other. Where a
+-- parenthesis is not closed, by what stands behind it, is said by the grammar that has parentheses (`Open`).
+pub data IsUnclosed (Open : List ℕ → Type 0) : ℕ → ℕ → List ℕ → Type 0 where
+  quotes : {quote : ℕ} {back : List ℕ} → IsQuote quote → after_run (NotQuote quote) (chars back) ≡ [] → IsUnclosed Open quote quote back
+  parentheses : {back : List ℕ} → Open back → IsUnclosed Open 40 41 back
+
+-- the character stands at the front of the text, and the piece is all but the text's last character
+pub record IsAllButLast (c : ℕ) (piece back : List ℕ) : Type 0 where
+  pub others : List ℕ
+  pub last : ℕ
+  pub begins : piece ++ back ≡ encode_utf8 c ++ others
+  pub ends : back ≡ encode_utf8 last
+
+-- when a fault is true of a text: `piece` stands at its place, and `back` from there to the end of the text
+abbrev pub Finds : (List ℕ → Type 0) → FaultKind → List ℕ → List ℕ → Type 0
+Finds Open ValueAtEnd piece back = piece ++ back ≡ []
+Finds Open NoValue piece back = IsLongest KeyPart piece back × HasNoValue (piece ++ back)
+Finds Open NoOperator piece back = IsLongest (operator_class (chars (piece ++ back))) piece back × HasNoOperator (piece ++ back)
+Finds Open NotAtEnd piece back = piece ++ back ≡ []
+Finds Open NoSpaceAfterNot piece back = (found : ℕ) × (piece ≡ encode_utf8 found) × (holds Space found ≡ false)
+Finds Open (Unclosed closing) piece back = (opening : ℕ) × IsUnclosed Open opening closing back × (piece ≡ encode_utf8 opening)
+Finds Open (MissingAtEnd awaited) piece back = (piece ++ back ≡ []) × IsLetterOfIn awaited
+Finds Open (Missing awaited) piece back = (found : ℕ) × (piece ≡ encode_utf8 found) × (found ≢ awaited) × (IsLetterOfIn awaited ⊎ (awaited ≡ 41))
+Finds Open (Unexpected c) piece back = IsAllButLast c piece back × HasNoSpace (piece ++ back) × NoKeyword (chars (piece ++ back))
+Finds Open (Trailing c) piece back = IsAllButLast c piece back × HasNoSpace (piece ++ back)
+
+-- a fault of this kind stands in the text
+pub record IsFaultAt (Open : List ℕ → Type 0) (text : List ℕ) (kind : FaultKind) (piece : List ℕ) (left : ℕ) : Type 0 where
+  pub place : IsPiece text piece left
+  pub found : Finds Open kind piece place.back
+
+-- the fault is one of this text
+abbrev pub IsFault : (List ℕ → Type 0) → List ℕ → Fault → Type 0
+IsFault Open text fault = IsFaultAt Open text fault.kind fault.piece.now fault.left
+
+-- a fault of words, which have no parentheses
+abbrev pub NoneOpen : List ℕ → Type 0
+NoneOpen back = ⊥
+
+abbrev pub IsWordFault : List ℕ → Fault → Type 0
+IsWordFault = IsFault NoneOpen
 
 -- the piece stands at `start`, and the span is the piece, or the end of the text with the length 1
 pub record IsSpanOf (text piece : List ℕ) (start len : ℕ) : Type 0 where
@@ -48,42 +103,13 @@ pub record IsSpanOf (text piece : List ℕ) (start len : ℕ) : Type 0 where
   pub span : IsSpan text start len
   pub covers : start < length text → len ≡ length piece
 
--- a message that a marker text may be refused with, and its span
-pub data IsMarkerFault (text : List ℕ) (start len : ℕ) : List ℕ → Type 0 where
-  value_at_end : start ≡ length text → IsSpan text start len → IsMarkerFault text start len (message_of ValueAtEnd [])
-  no_value : {run : List ℕ} → (place : IsSpanOf text run start len) → IsLongest KeyPart run place.stands.back → IsMarkerFault text start len (message_of NoValue run)
-  no_operator : {run : List ℕ} → (place : IsSpanOf text run start len) → IsLongest (operator_class (chars (run ++ place.stands.back))) run place.stands.back → IsMarkerFault text start len (message_of NoOperator run)
-  not_at_end : start ≡ length text → IsSpan text start len → IsMarkerFault text start len (message_of NotAtEnd [])
-  no_space_after_not : (found : ℕ) → IsSpanOf text (encode_utf8 found) start len → IsMarkerFault text start len (message_of NoSpaceAfterNot (encode_utf8 found))
-  unclosed : (opening closing : ℕ) → Closes opening closing → IsSpanOf text (encode_utf8 opening) start len → IsMarkerFault text start len (message_of (Unclosed closing) (encode_utf8 opening))
-  missing_at_end : (awaited : ℕ) → start ≡ length text → IsSpan text start len → IsMarkerFault text start len (message_of (MissingAtEnd awaited) [])
-  missing : (awaited found : ℕ) → IsSpanOf text (encode_utf8 found) start len → IsMarkerFault text start len (message_of (Missing awaited) (encode_utf8 found))
-  -- the span goes from the character up to, and without, the text's last one
-  unexpected : (c last : ℕ) {piece : List ℕ} → StandsAt text (encode_utf8 c) start → (place : IsSpanOf text piece start len) → place.stands.back ≡ encode_utf8 last → IsMarkerFault text start len (message_of (Unexpected c) piece)
-  -- the same of a text that is one comparison
-  trailing : (c last : ℕ) {piece : List ℕ} → StandsAt text (encode_utf8 c) start → (place : IsSpanOf text piece start len) → place.stands.back ≡ encode_utf8 last → IsMarkerFault text start len (message_of (Trailing c) piece)
-
--- what a fault of this kind found: the piece, and `back` from there to the end of the text
-abbrev pub Finds : FaultKind → List ℕ → List ℕ → Type 0
-Finds ValueAtEnd piece back = piece ++ back ≡ []
-Finds NoValue piece back = IsLongest KeyPart piece back
-Finds NoOperator piece back = IsLongest (operator_class (chars (piece ++ back))) piece back
-Finds NotAtEnd piece back = piece ++ back ≡ []
-Finds NoSpaceAfterNot piece back = (found : ℕ) × (piece ≡ encode_utf8 found)
-Finds (Unclosed closing) piece back = (opening : ℕ) × Closes opening closing × (piece ≡ encode_utf8 opening)
-Finds (MissingAtEnd awaited) piece back = piece ++ back ≡ []
-Finds (Missing awaited) piece back = (found : ℕ) × (piece ≡ encode_utf8 found)
-Finds (Unexpected c) piece back = (others : List ℕ) × (last : ℕ) × (piece ++ back ≡ encode_utf8 c ++ others) × (back ≡ encode_utf8 last)
-Finds (Trailing c) piece back = (others : List ℕ) × (last : ℕ) × (piece ++ back ≡ encode_utf8 c ++ others) × (back ≡ encode_utf8 last)
-
--- a fault of this kind stands in the text
-pub record IsFaultAt (text : List ℕ) (kind : FaultKind) (piece : List ℕ) (left : ℕ) : Type 0 where
-  pub place : IsPiece text piece left
-  pub found : Finds kind piece place.back
-
--- the fault is one of this text
-abbrev pub IsFault : List ℕ → Fault → Type 0
-IsFault text fault = IsFaultAt text fault.kind fault.piece.now fault.left
+-- a message that a marker text may be refused with, and its span: one of the faults is true of the text there, and says so
+pub record IsMarkerFault (Open : List ℕ → Type 0) (text : List ℕ) (start len : ℕ) (message : List ℕ) : Type 0 where
+  pub kind : FaultKind
+  pub piece : List ℕ
+  pub place : IsSpanOf text piece start len
+  pub found : Finds Open kind piece place.stands.back
+  pub said : message ≡ message_of kind piece
 
 -- the length of a fault's span
 abbrev pub span_len : Fault → ℕ

@@ -2,7 +2,7 @@
 
 ghost use Rattle.std.specs.Prelude.{◌≡◌, ◌++◌, ◌-◌, [], Some, length};
 ghost use Rattle.pep508_text.specs.Suffix.{IsSuffix};
-ghost use Rattle.marker_words.specs.Fault.{message_of, span_len, IsFault, IsMarkerFault};
+ghost use Rattle.marker_words.specs.Fault.{message_of, span_len, NoneOpen, IsWordFault, IsMarkerFault};
 
 use std::fmt;
 use std::fmt::Display;
@@ -87,9 +87,9 @@ impl<'a> Fault<'a> {
     pub fn start(&self, text: &str) -> usize
         ensures value { result ≡ length text.now - self.now.left }
 
-        // A fault of the text is told as one: at this start, with its length and message.
-        ensures told { IsFault text.now self.now
-            → IsMarkerFault text.now result (span_len self.now) (message_of self.now.kind self.now.piece.now) }
+        // A fault of words is told as one of the text: at this start, with its length and message.
+        ensures told { IsWordFault text.now self.now
+            → IsMarkerFault NoneOpen text.now result (span_len self.now) (message_of self.now.kind self.now.piece.now) }
     {
         text.len().saturating_sub(self.left)
     }

@@ -10,7 +10,7 @@ ghost use Rattle.marker_words.specs.Key.{version_key_name, key_name};
 ghost use Rattle.marker_words.specs.Lexical.{Value, IsQuote, IsValue, symbol_text, IsOperator, Sides};
 ghost use Rattle.marker_words.specs.Part.{value_of, IsNamed, IsBehindNot};
 ghost use Rattle.marker_words.specs.Keyword.{IsKeyword};
-ghost use Rattle.marker_words.specs.Fault.{IsFault, begins_word};
+ghost use Rattle.marker_words.specs.Fault.{IsWordFault, IsLetterOfIn, begins_word};
 
 use crate::fault::{Fault, FaultKind};
 use crate::key::{MarkerValueString, MarkerValueVersion};
@@ -18,14 +18,13 @@ use crate::operator::MarkerOperator;
 use crate::parts::{ComparisonRef, Keyword, MarkerValueRef};
 use pep508_text::{Class, first, skip_space, split_run, strip};
 
-/// The value at the front of the text, which is a quoted text, a key or `extra`.
-///
-/// There is none at the end of the text, at a quote that is not closed, and at any other run of characters.
-pub fn value(text: &str) -> Result<(MarkerValueRef<'_>, &str), Fault<'_>>
+// The value at the front of the text, which is a quoted text, a key or `extra`. There is none at the end of the text, at
+// a quote that is not closed, and at any other run of characters.
+fn value(text: &str) -> Result<(MarkerValueRef<'_>, &str), Fault<'_>>
     ensures found { IfOk result (λ x. IsValue (chars text.now) (chars x.1.now) (value_of x.0)) }
     ensures none { OnErr result
         ((output : List ℕ) (value : Value) → IsValue (chars text.now) output value → ⊥) }
-    ensures fault { IfErr result (IsFault text.now) }
+    ensures fault { IfErr result (IsWordFault text.now) }
     ensures suffix { IfOk result (λ x. IsSuffix text.now x.1.now) }
     ensures shorter { IfOk result (λ x. length x.1.now < length text.now) }
 {
@@ -103,16 +102,14 @@ fn text_key(name: &str) -> Option<MarkerValueString>
     }
 }
 
-/// The operator at the front of the text.
-///
-/// It is a word, `in` or `not in`, where the text begins with an alphabetic character (Unicode's), and else
-/// made of the characters `<`, `=`, `>`, `~` and `!`. Anything else is no operator, nor is a `not` behind
-/// which no white space and then the letters `in` stand.
-pub fn comparison_operator(text: &str) -> Result<(MarkerOperator, &str), Fault<'_>>
+// The operator at the front of the text. It is a word, `in` or `not in`, where the text begins with an alphabetic
+// character (Unicode's), and else made of the characters `<`, `=`, `>`, `~` and `!`. Anything else is no operator, nor is
+// a `not` behind which no white space and then the letters `in` stand.
+pub(crate) fn comparison_operator(text: &str) -> Result<(MarkerOperator, &str), Fault<'_>>
     ensures found { IfOk result (λ x. IsOperator (chars text.now) (chars x.1.now) x.0) }
     ensures none { OnErr result ((output : List ℕ) (operator : MarkerOperator)
         → IsOperator (chars text.now) output operator → ⊥) }
-    ensures fault { IfErr result (IsFault text.now) }
+    ensures fault { IfErr result (IsWordFault text.now) }
     ensures suffix { IfOk result (λ x. IsSuffix text.now x.1.now) }
     ensures no_longer { IfOk result (λ x. length x.1.now ≤ length text.now) }
 {
@@ -165,7 +162,7 @@ fn symbol(run: &str) -> Option<MarkerOperator>
 fn behind_not(text: &str) -> Result<&str, Fault<'_>>
     ensures found { IfOk result (λ rest. IsBehindNot (chars text.now) (chars rest.now)) }
     ensures none { OnErr result ((output : List ℕ) → IsBehindNot (chars text.now) output → ⊥) }
-    ensures fault { IfErr result (IsFault text.now) }
+    ensures fault { IfErr result (IsWordFault text.now) }
     ensures suffix { IfOk result (λ rest. IsSuffix text.now rest.now) }
     ensures no_longer { IfOk result (λ rest. length rest.now ≤ length text.now) }
 {
@@ -184,7 +181,7 @@ fn behind_not(text: &str) -> Result<&str, Fault<'_>>
 fn expect(text: &str, awaited: char) -> Result<&str, Fault<'_>>
     ensures found { IfOk result (λ rest. chars text.now ≡ awaited ∷ chars rest.now) }
     ensures none { OnErr result ((rest : List ℕ) → chars text.now ≢ awaited ∷ rest) }
-    ensures fault { IfErr result (IsFault text.now) }
+    ensures fault { IfErr result (λ fault. IsLetterOfIn awaited → IsWordFault text.now fault) }
     ensures suffix { IfOk result (λ rest. IsSuffix text.now rest.now) }
     ensures no_longer { IfOk result (λ rest. length rest.now ≤ length text.now) }
 {
@@ -203,7 +200,7 @@ pub fn sides(text: &str) -> Result<(ComparisonRef<'_>, &str), Fault<'_>>
     ensures found { IfOk result (λ x. Sides (chars text.now) (chars x.1.now) (value_of x.0.left) x.0.operator (value_of x.0.right)) }
     ensures none { OnErr result ((output : List ℕ) (left right : Value) (operator : MarkerOperator)
         → Sides (chars text.now) output left operator right → ⊥) }
-    ensures fault { IfErr result (IsFault text.now) }
+    ensures fault { IfErr result (IsWordFault text.now) }
     ensures suffix { IfOk result (λ x. IsSuffix text.now x.1.now) }
     ensures shorter { IfOk result (λ x. length x.1.now < length text.now) }
 {

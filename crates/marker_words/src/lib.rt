@@ -14,7 +14,7 @@ mod parts;
 pub use crate::bounds::MarkerOperatorBounds;
 pub use crate::fault::{Fault, FaultKind};
 pub use crate::key::{MarkerValueString, MarkerValueVersion, TextVariable, VersionVariable};
-pub use crate::lexical::{comparison_operator, keyword, sides, value};
+pub use crate::lexical::{keyword, sides};
 pub use crate::marker_value::{MarkerValue, Quoted};
 pub use crate::operator::{ExtraOperator, MarkerOperator};
 pub use crate::parts::{ComparisonRef, Keyword, MarkerValueRef};

@@ -6,3 +6,5 @@ mod ReaderLaws
 mod FaultsOfReader
 mod CellLaws
 mod TruthLaws
+mod ValidLaws
+mod OpenLaws

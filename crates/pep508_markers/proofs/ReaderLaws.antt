@@ -17,8 +17,12 @@ use Rattle.std.specs.Str.{chars}
 use Rattle.pep508_text.specs.Suffix.{IsSuffix}
 use Rattle.std.specs.Prelude.{IsUtf8}
 use Rattle.pep508_text.proofs.SuffixLaws.{suffix_self}
-use Rattle.marker_words.proofs.FaultLaws.{fault_of_suffix}
-use Rattle.marker_words.specs.Fault.{IsFault, IsFaultAt}
+use Rattle.marker_words.proofs.FaultLaws.{fault_of_suffix, fault_of_words}
+use Rattle.marker_words.specs.Fault.{IsFaultAt}
+use Rattle.pep508_markers.specs.Refused.{IsMarker, IsTextFault}
+use Rattle.pep508_markers.specs.Reader.{IsOpened, AllOpen}
+use Rattle.pep508_markers.specs.Valid.{IsValid}
+use Rattle.pep508_markers.proofs.ValidLaws.{valid_join}
 use Rattle.marker_words.specs.declared.fault.FaultKind.{FaultKind}
 use Rattle.std.proofs.Common.{◌⊎◌, inl, inr}
 use Rattle.marker_parts.specs.Read as read
@@ -53,10 +57,10 @@ reverse-push gs g = reverse-append gs (g ∷ [])
 
 module _ (has_or has_and : Bool) (stack : List Formula) where
   -- what the innermost lists have
-  abbrev Ors : Option Formula
+  abbrev pub Ors : Option Formula
   Ors = held has_or (below has_and stack)
 
-  abbrev Ands : Option Formula
+  abbrev pub Ands : Option Formula
   Ands = held has_and stack
 
   abbrev Outer : List Group → List Held
@@ -173,7 +177,7 @@ not_nil c e f = absurd cc
 module _ (r : Reader) {t : List ℕ} (rest : IsSuffix r.text.now r.rest.now) (skipped : t ≡ after_space (chars r.rest.now)) (plain : (a : List ℕ) → t ≢ 40 ∷ a) where
   pub refused_atom : (e : ComparisonError) → read.IsRefused r.rest.now e → IsRefused wanted.Atom r e
   refused_atom OutOfMemory h = tt
-  refused_atom (Fault e) h = (fault_of_suffix rest h.1, λ f k x. no_atom skipped plain h.0.no_compared x)
+  refused_atom (Fault e) h = (λ opened. fault_of_suffix rest (fault_of_words h.1), λ f k x. no_atom skipped plain h.0.no_compared x)
 
 count_one : (any : Bool) → count any ≤ 1
 count_one true = omega arith
@@ -196,11 +200,18 @@ module _ (r : Reader) (sound : IsSound r) where
   pub ored_postfix : (new : List Token) → new ≡ (if r.has_or && r.has_and then r.tokens.items ++ (tokens.Or ∷ []) else r.tokens.items) → IsPostfix new
   ored_postfix new put = postfix_join r.has_or r.has_and tokens.Or r.tokens.items put (omega (arith, sound.full)) sound.postfix
 
+  pub ored_valid : (new : List Token) → new ≡ (if r.has_or && r.has_and then r.tokens.items ++ (tokens.Or ∷ []) else r.tokens.items) → IsValid new
+  ored_valid new put = valid_join (r.has_or && r.has_and) tokens.Or r.tokens.items put refl sound.valid
+
   pub anded_postfix : (gs : List Group) (g : Group) → r.groups.items ≡ gs ++ (g ∷ []) → (whole : Bool) (mid new : List Token) → IsJoined symbols.or or_of r.has_or r.has_and whole (stack_in r) (stack_of mid) → IsPostfix mid →
       new ≡ (if g.has_and && whole then mid ++ (tokens.And ∷ []) else mid) → IsPostfix new
   anded_postfix gs g popped whole mid new joined postfix put =
       let h : total (reverse r.groups.items) ≡ count g.has_and + (count g.has_or + total (reverse gs)) = ap total (ap reverse popped ∙ reverse-push gs g) in
       postfix_join g.has_and whole tokens.And mid put (omega (arith, sound.full, h, joined.length_is)) postfix
+
+  pub anded_valid : (gs : List Group) (g : Group) → r.groups.items ≡ gs ++ (g ∷ []) → (whole : Bool) (mid new : List Token) → IsJoined symbols.or or_of r.has_or r.has_and whole (stack_in r) (stack_of mid) → IsValid mid →
+      new ≡ (if g.has_and && whole then mid ++ (tokens.And ∷ []) else mid) → IsValid new
+  anded_valid gs g popped whole mid new joined valid put = valid_join (g.has_and && whole) tokens.And mid put refl valid
 
   -- at the end of the text no other formula is left
   pub one_left : (any : Bool) (new : List Formula) → r.groups.items ≡ [] → IsJoined symbols.or or_of r.has_or r.has_and any (stack_in r) new → length new ≤ 1
@@ -210,7 +221,7 @@ module _ (r : Reader) (sound : IsSound r) where
       omega (arith, zero, few, sound.full, joined.length_is)
 
 -- a fault of what is left, or of a part that begins at a parenthesis, is one of the text
-pub fault_of_either : {text rest group : List ℕ} {kind : FaultKind} {piece : List ℕ} {left : ℕ} → IsSuffix text rest → IsSuffix text group → IsFaultAt rest kind piece left ⊎ IsFaultAt group kind piece left → IsFaultAt text kind piece left
+pub fault_of_either : {text rest group : List ℕ} {kind : FaultKind} {piece : List ℕ} {left : ℕ} → IsSuffix text rest → IsSuffix text group → IsFaultAt IsMarker rest kind piece left ⊎ IsFaultAt IsMarker group kind piece left → IsFaultAt IsMarker text kind piece left
 fault_of_either r o (inl h) = fault_of_suffix r h
 fault_of_either r o (inr h) = fault_of_suffix o h
 
@@ -229,15 +240,22 @@ follows_at t r v w e h = subst (λ x. Follows t x r) e h
 pub follows_step : (t : List ℕ) (r s : Reader) (v w : Wanted) → Follows t v r → ((f : Option Formula) (k : List MarkerWarningKind) → MayRead v r f k ↔ MayRead w s f k) → Follows t w s
 follows_step t r s v w h step f k = (λ x. (step f k).0 ((h f k).0 x), λ y. (h f k).1 ((step f k).1 y))
 
-pub refuses_by : (t : List ℕ) (r : Reader) (w : Wanted) (e : ComparisonError) → t ≡ r.text.now → Follows t w r → IsRefused w r e → Refuses t e
-refuses_by t r w OutOfMemory same h refused = tt
-refuses_by t r w (Fault e) same h refused = (subst (λ x. IsFault x e) (sym same) refused.0, λ f k x. refused.1 f k ((h f k).0 x))
+pub refuses_by : (t : List ℕ) (r : Reader) (w : Wanted) (e : ComparisonError) → t ≡ r.text.now → Follows t w r → IsOpened w r → IsRefused w r e → Refuses t e
+refuses_by t r w OutOfMemory same h opened refused = tt
+refuses_by t r w (Fault e) same h opened refused = (subst (λ x. IsTextFault x e) (sym same) (refused.0 opened), λ f k x. refused.1 f k ((h f k).0 x))
 
 -- a reader at the start of its text
 pub start_sound : (r : Reader) → IsUtf8 r.text.now → r.rest.now ≡ r.text.now → r.groups.items ≡ [] → r.tokens.items ≡ [] → r.has_or ≡ false → r.has_and ≡ false → IsSound r
 start_sound r utf8 rest_is no_groups no_tokens no_or no_and = record {
   full = ap (λ x. length (stack_of x)) no_tokens ∙ sym (λ i. count (no_and i) + (count (no_or i) + total (reverse (no_groups i))));
   postfix = subst IsPostfix (sym no_tokens) refl;
+  valid = subst IsValid (sym no_tokens) refl;
   rest = subst (IsSuffix r.text.now) (sym rest_is) (suffix_self _ utf8);
   groups = subst (All (λ (g : Group). IsSuffix r.text.now g.text.now)) (sym no_groups) (λ k d h. absurd (omega (arith, h)));
 }
+
+pub start_opened : (May : List Held → Type 0) (gs : List Group) (low : List Formula) → gs ≡ [] → AllOpen May (reverse gs) low
+start_opened May gs low none = subst (λ (x : List Group). AllOpen May (reverse x) low) (sym none) tt
+
+pub opened_at : (r : Reader) (v w : Wanted) → v ≡ w → IsOpened v r → IsOpened w r
+opened_at r v w e h = subst (λ x. IsOpened x r) e h

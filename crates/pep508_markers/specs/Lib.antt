@@ -10,3 +10,4 @@ pub mod End
 pub mod Cell
 pub mod Refused
 pub mod Truths
+pub mod Valid

@@ -5,7 +5,6 @@ use Rattle.pep508_text.specs.Suffix.{IsSuffix}
 use Rattle.marker_warnings.specs.declared.warning.MarkerWarningKind.{MarkerWarningKind}
 use Rattle.marker_parts.specs.declared.comparison.ComparisonError.{ComparisonError}
 use Rattle.marker_parts.specs.declared.comparison.ComparisonError.TheVariants.{OutOfMemory, Fault}
-use Rattle.marker_words.specs.Fault.{IsFault}
 use Rattle.pep508_markers.specs.declared.reader.Group.{Group}
 use Rattle.pep508_markers.specs.declared.reader.Reader.{Reader}
 use Rattle.pep508_markers.specs.declared.reader.Wanted.{Wanted}
@@ -13,6 +12,8 @@ use Rattle.pep508_markers.specs.declared.reader.Wanted.TheVariants as wanted
 use Rattle.pep508_markers.specs.Formula.{Formula}
 use Rattle.pep508_markers.specs.Reading.{Held, Before, After}
 use Rattle.pep508_markers.specs.Postfix.{stack_of, top_of, IsPostfix}
+use Rattle.pep508_markers.specs.Valid.{IsValid}
+use Rattle.pep508_markers.specs.Refused.{OpensMarker, IsTextFault}
 use Rattle.pep508_markers.specs.Stack.{held, below, count}
 
 -- what an `or` and its last `and` have so far, and the stack below both
@@ -49,10 +50,12 @@ module _ (r : Reader) where
   abbrev pub formula_in : Option Formula
   formula_in = top_of stack_in
 
-  -- as many formulas stand on the stack as the lists have, none was lost, and what is left and each open parenthesis stand in the text
+  -- as many formulas stand on the stack as the lists have, none was lost, no test compares texts by `~=`, and what is left and
+  -- each open parenthesis stand in the text
   pub record IsSound : Type 0 where
     pub full : length stack_in ≡ count r.has_and + (count r.has_or + total (reverse r.groups.items))
     pub postfix : IsPostfix r.tokens.items
+    pub valid : IsValid r.tokens.items
     pub rest : IsSuffix r.text.now r.rest.now
     pub groups : All (λ g. IsSuffix r.text.now g.text.now) r.groups.items
 
@@ -61,7 +64,27 @@ abbrev pub MayRead : Wanted → Reader → Option Formula → List MarkerWarning
 MayRead wanted.Atom r f k = Before (outer_in r) (ors_in r) (ands_in r) (chars r.rest.now) r.kinds.items f k
 MayRead wanted.Rest r f k = After (outer_in r) (ors_in r) (ands_in r) (chars r.rest.now) r.kinds.items f k
 
+-- what is left of a text may end it, where these lists are open
+abbrev pub EndsAtom : Option Formula → Option Formula → List ℕ → List MarkerWarningKind → List Held → Type 0
+EndsAtom ors ands input kinds outer = (f : Option Formula) × ((k : List MarkerWarningKind) × Before outer ors ands input kinds f k)
+
+abbrev pub EndsRest : Option Formula → Option Formula → List ℕ → List MarkerWarningKind → List Held → Type 0
+EndsRest ors ands input kinds outer = (f : Option Formula) × ((k : List MarkerWarningKind) × After outer ors ands input kinds f k)
+
+abbrev pub MayEnd : Wanted → Reader → List Held → Type 0
+MayEnd wanted.Atom r = EndsAtom (ors_in r) (ands_in r) (chars r.rest.now) r.kinds.items
+MayEnd wanted.Rest r = EndsRest (ors_in r) (ands_in r) (chars r.rest.now) r.kinds.items
+
+-- Each parenthesis, the innermost first, opens a marker where what is left may end the text with no other parenthesis open but
+-- those inside it.
+abbrev pub AllOpen : (List Held → Type 0) → List Group → List Formula → Type 0
+AllOpen May [] stack = Unit {0}
+AllOpen May (g ∷ groups) stack = (May [] → OpensMarker g.text.now) × AllOpen (λ outer. May (level g.has_or g.has_and stack ∷ outer)) groups (under g.has_or g.has_and stack)
+
+abbrev pub IsOpened : Wanted → Reader → Type 0
+IsOpened w r = AllOpen (MayEnd w r) (reverse r.groups.items) (under r.has_or r.has_and (stack_in r))
+
 -- why the reader stopped: a fault of the text, and then no reading is left
 abbrev pub IsRefused : Wanted → Reader → ComparisonError → Type 0
 IsRefused w r OutOfMemory = Unit {0}
-IsRefused w r (Fault e) = IsFault r.text.now e × ((f : Option Formula) (k : List MarkerWarningKind) → MayRead w r f k → ⊥)
+IsRefused w r (Fault e) = (IsOpened w r → IsTextFault r.text.now e) × ((f : Option Formula) (k : List MarkerWarningKind) → MayRead w r f k → ⊥)

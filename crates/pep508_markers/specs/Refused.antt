@@ -1,17 +1,30 @@
 -- Why a text was not read.
-use Rattle.std.specs.Prelude.{List, ℕ, Option}
+use Rattle.std.specs.Prelude.{◌≡◌, ℕ, List, ◌++◌, Option, encode_utf8}
+use Rattle.marker_words.specs.declared.fault.Fault.{Fault}
 use Rattle.marker_words.specs.Fault.{IsFault}
 use Rattle.marker_warnings.specs.declared.warning.MarkerWarningKind.{MarkerWarningKind}
 use Rattle.marker_parts.specs.declared.comparison.ComparisonError.{ComparisonError}
-use Rattle.marker_parts.specs.declared.comparison.ComparisonError.TheVariants.{OutOfMemory, Fault}
+use Rattle.marker_parts.specs.declared.comparison.ComparisonError.TheVariants as errors
 use Rattle.pep508_markers.specs.Formula.{Formula}
 use Rattle.pep508_markers.specs.Grammar.{Reads}
+
+-- the grammar has the text
+abbrev pub IsMarker : List ℕ → Type 0
+IsMarker text = (f : Option Formula) × ((k : List MarkerWarningKind) × Reads text f k)
+
+-- a text that begins with a parenthesis, and behind it a marker stands, to its end
+abbrev pub OpensMarker : List ℕ → Type 0
+OpensMarker text = (back : List ℕ) → text ≡ encode_utf8 40 ++ back → IsMarker back
 
 -- the grammar does not have the text
 abbrev pub IsUnread : List ℕ → Type 0
 IsUnread text = (f : Option Formula) (k : List MarkerWarningKind) → Reads text f k → ⊥
 
--- memory ran out, or the fault is one of the text and the grammar does not have it
+-- a fault that is true of the text: a parenthesis is not closed where a marker stands behind it, to the end of the text
+abbrev pub IsTextFault : List ℕ → Fault → Type 0
+IsTextFault = IsFault IsMarker
+
+-- memory ran out, or the fault is true of the text and the grammar does not have it
 abbrev pub Refuses : List ℕ → ComparisonError → Type 0
-Refuses text OutOfMemory = Unit {0}
-Refuses text (Fault e) = IsFault text e × IsUnread text
+Refuses text errors.OutOfMemory = Unit {0}
+Refuses text (errors.Fault e) = IsTextFault text e × IsUnread text

@@ -16,9 +16,9 @@ use std::alloc::Global;
 use std::convert::Infallible;
 use version_ranges::Ranges;
 
-/// One comparison. Where it is with versions, it has the set of its variable's points at which it holds.
+// One comparison. Where it is with versions, it has the set of its variable's points at which it holds.
 #[derive(Drop)]
-pub struct Comparison {
+pub(crate) struct Comparison {
     expression: MarkerExpression,
     range: Option<(VersionVariable, Ranges<Version>)>,
     ghost set: { ForSome range (λ r. (v : Valuation) → holds (test_of expression) v ≡ contains_point version_cmp r.1 (v.version r.0)) },
@@ -49,14 +49,14 @@ impl Comparison {
     }
 }
 
-/// One step of a cell in postfix order.
+// One step of a cell in postfix order.
 #[derive(Drop)]
-pub enum Step {
-    /// A comparison.
+pub(crate) enum Step {
+    // A comparison.
     Comparison(Comparison),
-    /// Both of the two formulas before it.
+    // Both of the two formulas before it.
     And,
-    /// One of the two formulas before it, or both.
+    // One of the two formulas before it, or both.
     Or,
 }
 

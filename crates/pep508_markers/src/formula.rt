@@ -1,10 +1,11 @@
 //! A formula as one flat list, so that neither its drop nor any walk over it calls itself.
 
-ghost use Rattle.std.specs.Prelude.{◌≡◌, ◌≤◌, ◌++◌, ◌∷◌, [], ◌&&◌, ◌||◌, if◌then◌else◌, length, option_map, IfOk, OnOk};
+ghost use Rattle.std.specs.Prelude.{◌≡◌, ◌≤◌, ◌++◌, ◌∷◌, [], ◌&&◌, ◌||◌, if◌then◌else◌, length, option_map, true, IfOk, IfSome, OnOk};
 ghost use Rattle.marker_parts.specs.Expression.{test_of};
 ghost use Rattle.pep508_markers.specs.Formula.{of_test};
 ghost use Rattle.pep508_markers.specs.Postfix.{stack_of, IsPostfix, IsWhole};
 ghost use Rattle.pep508_markers.specs.Stack.{count, Appends};
+ghost use Rattle.pep508_markers.specs.Valid.{is_valid, IsValid};
 
 use marker_parts::MarkerExpression;
 use std::alloc::AllocError;
@@ -20,11 +21,13 @@ pub enum Token {
     Or,
 }
 
-/// A formula in postfix order. A formula of which nothing is left has no tokens.
+/// A formula in postfix order. A formula of which nothing is left has no tokens. None of its comparisons is one of texts by
+/// `~=`: a reader drops those.
 #[derive(Debug, Drop)]
 pub struct FlatFormula {
     pub(crate) tokens: Vec<Token>,
     ghost whole: { IsWhole tokens.items },
+    ghost valid: { IsValid tokens.items },
 }
 
 impl FlatFormula {
@@ -33,6 +36,9 @@ impl FlatFormula {
     pub fn into_tokens(self) -> Vec<Token>
         ensures tokens { result ≡ self.tokens }
         ensures whole { IsWhole result.items }
+
+        // None of them compares texts by `~=`.
+        ensures valid { IsValid result.items }
     {
         self.tokens
     }
@@ -64,6 +70,8 @@ pub(crate) fn append(
     requires { count has_and ≤ length (stack_of tokens.old.items) }
     ensures stack { IfOk result (λ any. Appends has_and any (of_test (option_map test_of expression)) (stack_of tokens.old.items) (stack_of tokens.new.items)) }
     ensures postfix { OnOk result (IsPostfix tokens.old.items → IsPostfix tokens.new.items) }
+    ensures valid { OnOk result (IfSome expression (λ e. is_valid (test_of e) ≡ true)
+        → IsValid tokens.old.items → IsValid tokens.new.items) }
 {
     match expression {
         None => Ok(has_and),

@@ -7,6 +7,6 @@ mod formula;
 pub mod laws;
 mod reader;
 
-pub use cell::{Cell, Comparison, Step};
+pub use cell::Cell;
 pub use formula::{FlatFormula, Token};
 pub use reader::{Reading, read};

@@ -4,8 +4,10 @@
 ghost use Rattle.std.specs.Prelude.{◌≡◌, ◌↔◌, ◌<◌, List, ℕ, Some, slice_get, [], Option, IfOk, IfSome, IfNone, IfErr, OnOk, length};
 ghost use Rattle.std.specs.Prelude.{◌⊎◌, ◌≢◌, ◌++◌, ◌∷◌};
 ghost use Rattle.std.specs.Str.{chars};
-ghost use Rattle.marker_words.specs.Fault.{IsFault};
+ghost use Rattle.marker_words.specs.Fault.{HasNoSpace};
+ghost use Rattle.marker_words.specs.Keyword.{NoKeyword};
 ghost use Rattle.pep508_markers.specs.First.{BeginsWith};
+ghost use Rattle.pep508_markers.specs.Refused.{IsTextFault, OpensMarker};
 ghost use Rattle.marker_warnings.specs.declared.warning.MarkerWarningKind.{MarkerWarningKind};
 ghost use Rattle.pep508_markers.specs.Formula.{Formula};
 
@@ -50,7 +52,7 @@ pub struct Reader<'a> {
 fn unexpected(text: &str, found: char) -> Fault<'_>
     requires begins { BeginsWith found text.now }
     requires some { chars text.now ≢ [] }
-    ensures { IsFault text.now result }
+    ensures { HasNoSpace text.now → NoKeyword (chars text.now) → IsTextFault text.now result }
 {
     match last(text) {
         Some((piece, _)) => Fault {
@@ -66,7 +68,9 @@ fn unexpected(text: &str, found: char) -> Fault<'_>
 // parenthesis.
 fn unclosed<'a>(text: &'a str, group: &'a str) -> Fault<'a>
     requires { slice_get (chars group.now) 0 ≡ Some 40 }
-    ensures { IsFault text.now result ⊎ IsFault group.now result }
+    ensures { ((others : List ℕ) → chars text.now ≢ 41 ∷ others)
+        → (chars text.now ≡ [] → OpensMarker group.now)
+        → IsTextFault text.now result ⊎ IsTextFault group.now result }
 {
     if let Some((_, rest)) = first(text) {
         return Fault::before(FaultKind::Missing(')'), text, rest);
@@ -87,7 +91,8 @@ fn open<'a>(groups: &mut Vec<Group<'a>>, group: Group<'a>) -> Result<(), AllocEr
 
 impl<'a> Reader<'a> {
     ghost use Rattle.pep508_markers.specs.Postfix.{IsWhole};
-    ghost use Rattle.pep508_markers.specs.Reader.{MayRead, IsSound, IsRefused, formula_in};
+    ghost use Rattle.pep508_markers.specs.Valid.{IsValid};
+    ghost use Rattle.pep508_markers.specs.Reader.{MayRead, IsSound, IsOpened, IsRefused, formula_in};
 
     // An open parenthesis, or a comparison.
     fn atom(&mut self, alloc: Global) -> Result<Wanted, ComparisonError<'a>>
@@ -95,6 +100,7 @@ impl<'a> Reader<'a> {
         ensures sound { OnOk result (IsSound self.new) }
         ensures text { OnOk result (self.new.text.now ≡ self.old.text.now) }
         ensures same { IfOk result (λ next. (f : Option Formula) (k : List MarkerWarningKind) → MayRead Wanted.Atom self.old f k ↔ MayRead next self.new f k) }
+        ensures opened { IfOk result (λ next. IsOpened Wanted.Atom self.old → IsOpened next self.new) }
         ensures shorter { OnOk result (length self.new.rest.now < length self.old.rest.now) }
         ensures err { IfErr result (IsRefused Wanted.Atom self.old) }
     {
@@ -123,9 +129,11 @@ impl<'a> Reader<'a> {
         ensures sound { IfOk result (λ next. IfSome next (λ _. IsSound self.new)) }
         ensures text { OnOk result (self.new.text.now ≡ self.old.text.now) }
         ensures same { IfOk result (λ next. IfSome next (λ wanted. (f : Option Formula) (k : List MarkerWarningKind) → MayRead Wanted.Rest self.old f k ↔ MayRead wanted self.new f k)) }
+        ensures opened { IfOk result (λ next. IfSome next (λ wanted. IsOpened Wanted.Rest self.old → IsOpened wanted self.new)) }
         ensures shorter { IfOk result (λ next. IfSome next (λ _. length self.new.rest.now < length self.old.rest.now)) }
         ensures ended { IfOk result (λ next. IfNone next ((f : Option Formula) (k : List MarkerWarningKind) → MayRead Wanted.Rest self.old f k ↔ ((formula_in self.new ≡ f) × (self.new.kinds.items ≡ k)))) }
         ensures whole { IfOk result (λ next. IfNone next (IsWhole self.new.tokens.items)) }
+        ensures valid { IfOk result (λ next. IfNone next (IsValid self.new.tokens.items)) }
         ensures err { IfErr result (IsRefused Wanted.Rest self.old) }
     {
         let text = skip_space(self.rest);

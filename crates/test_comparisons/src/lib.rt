@@ -18,6 +18,8 @@ mod hostile;
 #[cfg(test)]
 mod orders;
 #[cfg(test)]
+mod ranges;
+#[cfg(test)]
 mod serialized;
 #[cfg(test)]
 mod table;

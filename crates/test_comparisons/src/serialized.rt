@@ -1,7 +1,7 @@
 //! Names, versions and environments as JSON.
 
 use crate::environments::given;
-use marker_parts::{ExtraName, MarkerEnvironment, PackageName, StringVersion};
+use marker_parts::{ExtraName, MarkerEnvironment, PackageName, StringVersion, Version};
 use std::alloc::Global;
 use std::test::Fail;
 
@@ -101,14 +101,43 @@ fn versions_are_read_and_written(rt: HostRuntime) -> Result<(), Fail> {
     Ok(())
 }
 
+// A JSON text of a version, and the JSON text of its normal form (PEP 440, "Normalization").
+const NORMALIZED: [(&str, &str); 3] = [
+    ("\" V1.0-ALPHA \"", "\"1.0a0\""),
+    ("\"1\\u002e5\\n\"", "\"1.5\""),
+    ("\"1!2.0.post1+Ubuntu_7\"", "\"1!2.0.post1+ubuntu.7\""),
+];
+
+fn normal_version_is_written(alloc: Global, given: &str, written: &str) -> Result<bool, Fail> {
+    let version = serde_json::from_str::<Version>(alloc, given)?;
+    let text = serde_json::to_string(alloc, &version)?;
+    Ok(text.as_str() == written)
+}
+
+#[test]
+fn normal_versions_are_read_and_written(rt: HostRuntime) -> Result<(), Fail> {
+    for (given, written) in NORMALIZED {
+        assert!(rt;
+            normal_version_is_written(rt.alloc(), given, written)?,
+            "{given}"
+        );
+    }
+    Ok(())
+}
+
 fn is_no_version(alloc: Global, given: &str) -> bool {
     serde_json::from_str::<StringVersion>(alloc, given).is_err()
+}
+
+fn is_no_normal_version(alloc: Global, given: &str) -> bool {
+    serde_json::from_str::<Version>(alloc, given).is_err()
 }
 
 #[test]
 fn texts_that_are_no_versions(rt: HostRuntime) {
     for given in NO_VERSIONS {
         assert!(rt; is_no_version(rt.alloc(), given), "{given}");
+        assert!(rt; is_no_normal_version(rt.alloc(), given), "{given}");
     }
 }
 

@@ -3,6 +3,7 @@ use Rattle.std.specs.Str.{chars}
 use Rattle.std.proofs.lemmas.Result.{err_from_is_err_and}
 use Rattle.pep508_text.proofs.SuffixLaws.{suffix_then}
 use Rattle.marker_words.specs.declared.fault.FaultKind.TheVariants.{NotAtEnd, NoSpaceAfterNot}
+use Rattle.marker_words.specs.Fault.{first_letter, last_letter}
 use Rattle.marker_words.specs.Part.{IsBehindNot}
 use Rattle.marker_words.proofs.FaultLaws.{fault_at_end, fault_at_first, fault_of_suffix, on_err}
 use Rattle.marker_words.proofs.OperatorLaws.{tail_same, behind_at_end, not_behind, is_behind}
@@ -22,7 +23,7 @@ returns-then-not-holds-clause-none c output s = not_behind c.in-Some.c c.in-Some
 
 pub returns-then-not-holds-clause-fault : goal.returns-then-not-holds-clause-fault
 returns-then-not-holds-clause-fault c =
-    fault_at_first c.in-Some.c NoSpaceAfterNot c.utf8.text c.in-Some.ensures.suffix c.in-Some.ensures.bytes c.before-then-not-holds.ensures.kind c.before-then-not-holds.ensures.piece c.before-then-not-holds.ensures.left (λ e. (c.in-Some.c, e))
+    fault_at_first c.in-Some.c NoSpaceAfterNot c.utf8.text c.in-Some.ensures.suffix c.in-Some.ensures.bytes c.before-then-not-holds.ensures.kind c.before-then-not-holds.ensures.piece c.before-then-not-holds.ensures.left (λ e. (c.in-Some.c, e, sym c.if-not-holds.ensures))
 
 pub returns-in_err-rest-clause-none : goal.returns-in_err-rest-clause-none
 returns-in_err-rest-clause-none c =
@@ -32,7 +33,7 @@ returns-in_err-rest-clause-none c =
 pub returns-in_err-rest-clause-fault : goal.returns-in_err-rest-clause-fault
 returns-in_err-rest-clause-fault c =
     let p = err_from_is_err_and c.from_residual.result c.from_residual.ensures.1 in
-    rw (p.1, p.2) (fault_of_suffix (suffix_then c.in-Some.ensures.suffix c.skip_space.ensures.suffix) c.in_err-rest.ensures.fault)
+    rw (p.1, p.2) (fault_of_suffix (suffix_then c.in-Some.ensures.suffix c.skip_space.ensures.suffix) (c.in_err-rest.ensures.fault first_letter))
 
 pub returns-in_err-end-clause-none : goal.returns-in_err-end-clause-none
 returns-in_err-end-clause-none c =
@@ -42,7 +43,7 @@ returns-in_err-end-clause-none c =
 pub returns-in_err-end-clause-fault : goal.returns-in_err-end-clause-fault
 returns-in_err-end-clause-fault c =
     let p = err_from_is_err_and c.from_residual-in_err-end.result c.from_residual-in_err-end.ensures.1 in
-    rw (p.1, p.2) (fault_of_suffix (suffix_then c.in-Some.ensures.suffix (suffix_then c.skip_space.ensures.suffix c.in_ok-rest.ensures.suffix)) c.in_err-end.ensures.fault)
+    rw (p.1, p.2) (fault_of_suffix (suffix_then c.in-Some.ensures.suffix (suffix_then c.skip_space.ensures.suffix c.in_ok-rest.ensures.suffix)) (c.in_err-end.ensures.fault last_letter))
 
 pub returns-clause-found : goal.returns-clause-found
 returns-clause-found c =

@@ -1,9 +1,10 @@
-use Rattle.std.proofs.Common.{sym, ◌∙◌}
+use Rattle.std.proofs.Common.{sym, subst, ◌∙◌}
 use Rattle.std.specs.Str.{chars}
 use Rattle.pep508_text.specs.declared.classes.Class.TheVariants.{WordPart, Comparison}
 use Rattle.pep508_text.proofs.RunLaws.{run_from_bytes}
 use Rattle.pep508_text.proofs.SuffixLaws.{suffix_then}
 use Rattle.marker_words.specs.declared.fault.FaultKind.TheVariants.{NoOperator}
+use Rattle.marker_words.specs.Fault.{HasNoOperator}
 use Rattle.marker_words.specs.Lexical.{is_in}
 use Rattle.marker_words.proofs.FaultLaws.{fault_at_run, fault_of_suffix, longest_operator}
 use Rattle.marker_words.proofs.OperatorLaws.{ascii_in, ascii_not, not_in_operator, no_word_operator, no_symbol_operator, symbol_found, word_class, symbol_class}
@@ -32,7 +33,7 @@ returns-in_default-clause-none c output operator s =
 pub returns-in_default-clause-fault : goal.returns-in_default-clause-fault
 returns-in_default-clause-fault c =
     let class_is = word_class (chars c.args.text.now) (sym c.begins_word.ensures ∙ c.if-begins_word.true) in
-    fault_at_run NoOperator c.utf8.text c.split_run.ensures.suffix c.split_run.ensures.joined c.at_run.ensures.kind c.at_run.ensures.piece c.at_run.ensures.left (longest_operator _ _ _ WordPart class_is c.split_run.ensures.joined c.split_run.ensures.bytes)
+    fault_at_run NoOperator c.utf8.text c.split_run.ensures.suffix c.split_run.ensures.joined c.at_run.ensures.kind c.at_run.ensures.piece c.at_run.ensures.left (longest_operator _ _ _ WordPart class_is c.split_run.ensures.joined c.split_run.ensures.bytes, subst HasNoOperator c.split_run.ensures.joined (returns-in_default-clause-none c))
 
 pub returns-in-Some-clause-found : goal.returns-in-Some-clause-found
 returns-in-Some-clause-found c = symbol_found c.in-Some.operator c.in-Some.ensures.found c.split_run-else-begins_word.ensures.bytes c.split_run-else-begins_word.ensures.rest
@@ -44,4 +45,4 @@ returns-in-None-clause-none c output operator s =
 pub returns-in-None-clause-fault : goal.returns-in-None-clause-fault
 returns-in-None-clause-fault c =
     let class_is = symbol_class (chars c.args.text.now) (sym c.begins_word.ensures ∙ c.if-begins_word.false) in
-    fault_at_run NoOperator c.utf8.text c.split_run-else-begins_word.ensures.suffix c.split_run-else-begins_word.ensures.joined c.at_run-in-None.ensures.kind c.at_run-in-None.ensures.piece c.at_run-in-None.ensures.left (longest_operator _ _ _ Comparison class_is c.split_run-else-begins_word.ensures.joined c.split_run-else-begins_word.ensures.bytes)
+    fault_at_run NoOperator c.utf8.text c.split_run-else-begins_word.ensures.suffix c.split_run-else-begins_word.ensures.joined c.at_run-in-None.ensures.kind c.at_run-in-None.ensures.piece c.at_run-in-None.ensures.left (longest_operator _ _ _ Comparison class_is c.split_run-else-begins_word.ensures.joined c.split_run-else-begins_word.ensures.bytes, subst HasNoOperator c.split_run-else-begins_word.ensures.joined (returns-in-None-clause-none c))

@@ -1,8 +1,8 @@
-use Rattle.std.proofs.Common.{sym, rules, refl, ◌∙◌}
+use Rattle.std.proofs.Common.{sym, subst, rules, refl, ◌∙◌}
 use Rattle.pep508_text.proofs.SuffixLaws.{suffix_then}
 use Rattle.pep508_text.specs.declared.classes.Class.TheVariants.{KeyPart}
 use Rattle.marker_words.specs.declared.fault.FaultKind.TheVariants.{ValueAtEnd, Unclosed, NoValue}
-use Rattle.marker_words.specs.Fault.{quotes}
+use Rattle.marker_words.specs.Fault.{HasNoValue, quotes}
 use Rattle.marker_words.specs.Lexical.{IsQuote}
 use Rattle.marker_words.proofs.FaultLaws.{fault_at_end, fault_at_first, fault_at_run, run_longest}
 use Rattle.marker_words.proofs.ValueLaws.{quoted_value, no_value_at_end, no_value_unclosed, no_value_named, named_found, named_shorter}
@@ -30,7 +30,7 @@ returns-in-None-clause-none c output value v =
 pub returns-in-None-clause-fault : goal.returns-in-None-clause-fault
 returns-in-None-clause-fault c =
     let is_quote : IsQuote c.in-Some.c = search rules in
-    fault_at_first c.in-Some.c (Unclosed c.in-Some.c) c.utf8.text c.in-Some.ensures.suffix c.in-Some.ensures.bytes c.before-in-None.ensures.kind c.before-in-None.ensures.piece c.before-in-None.ensures.left (λ e. (c.in-Some.c, quotes is_quote, e))
+    fault_at_first c.in-Some.c (Unclosed c.in-Some.c) c.utf8.text c.in-Some.ensures.suffix c.in-Some.ensures.bytes c.before-in-None.ensures.kind c.before-in-None.ensures.piece c.before-in-None.ensures.left (λ e. (c.in-Some.c, quotes is_quote (sym c.split_run.ensures.rest ∙ c.in-None.ensures.characters), e))
 
 pub returns-in-Some-named-clause-found : goal.returns-in-Some-named-clause-found
 returns-in-Some-named-clause-found c = named_found _ _ _ _ c.split_run-else-is_quote.ensures.bytes c.split_run-else-is_quote.ensures.rest c.in-Some-named.ensures.found
@@ -45,4 +45,4 @@ returns-in-None-named-clause-none c output value v =
 
 pub returns-in-None-named-clause-fault : goal.returns-in-None-named-clause-fault
 returns-in-None-named-clause-fault c =
-    fault_at_run NoValue c.utf8.text c.split_run-else-is_quote.ensures.suffix c.split_run-else-is_quote.ensures.joined c.at_run.ensures.kind c.at_run.ensures.piece c.at_run.ensures.left (run_longest _ _ _ KeyPart c.split_run-else-is_quote.ensures.joined c.split_run-else-is_quote.ensures.bytes)
+    fault_at_run NoValue c.utf8.text c.split_run-else-is_quote.ensures.suffix c.split_run-else-is_quote.ensures.joined c.at_run.ensures.kind c.at_run.ensures.piece c.at_run.ensures.left (run_longest _ _ _ KeyPart c.split_run-else-is_quote.ensures.joined c.split_run-else-is_quote.ensures.bytes, subst HasNoValue c.split_run-else-is_quote.ensures.joined (returns-in-None-named-clause-none c))

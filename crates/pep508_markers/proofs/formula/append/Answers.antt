@@ -6,6 +6,8 @@ use Rattle.pep508_markers.specs.Postfix.{stack_of, IsPostfix}
 use Rattle.std.proofs.Common.{subst, sym}
 use Rattle.pep508_markers.proofs.StackLaws.{stack_of-push, joined_tokens, append_some}
 use Rattle.pep508_markers.proofs.EndLaws.{postfix_put, postfix_join}
+use Rattle.pep508_markers.specs.Valid.{is_valid, IsValid}
+use Rattle.pep508_markers.proofs.ValidLaws.{valid_put, valid_join}
 use Rattle.pep508_markers.proofs.formula.append.Goals as goal
 
 pub returns-in_ok-any-in-Some-clause-stack : goal.returns-in_ok-any-in-Some-clause-stack
@@ -13,6 +15,12 @@ returns-in_ok-any-in-Some-clause-stack c =
     let put = ap stack_of c.in_ok-push-in-Some.ensures.items ∙ stack_of-push c.args.tokens.now.items (Expression c.in-Some.expression) in
     let joined = joined_tokens (c.args.has_and && true) And c.push.new.self.items c.join.new.tokens.items c.in_ok-any-in-Some.ensures.tokens in
     rw c.in-Some.is (append_some c.args.has_and _ (test_of c.in-Some.expression) _ _ _ c.requires put joined c.in_ok-any-in-Some.ensures.any)
+
+pub returns-in_ok-any-in-Some-clause-valid : goal.returns-in_ok-any-in-Some-clause-valid
+returns-in_ok-any-in-Some-clause-valid c one valid =
+    let here : is_valid (test_of c.in-Some.expression) ≡ true = rw c.in-Some.is at one in
+    valid_join (c.args.has_and && true) And c.push.new.self.items c.in_ok-any-in-Some.ensures.tokens refl
+    (subst IsValid (sym c.in_ok-push-in-Some.ensures.items) (valid_put c.args.tokens.now.items (Expression c.in-Some.expression) valid here))
 
 pub returns-in_ok-any-in-Some-clause-postfix : goal.returns-in_ok-any-in-Some-clause-postfix
 returns-in_ok-any-in-Some-clause-postfix c postfix =

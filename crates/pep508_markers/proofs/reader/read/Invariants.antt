@@ -1,5 +1,5 @@
 use Rattle.std.proofs.Common.{◌≡◌, length}
-use Rattle.pep508_markers.specs.Reader.{IsSound}
+use Rattle.pep508_markers.specs.Reader.{IsSound, IsOpened}
 use Rattle.pep508_markers.proofs.ReaderLaws.{Follows}
 use Rattle.pep508_markers.proofs.reader.read.Given as goal
 
@@ -8,6 +8,7 @@ invariant-loop-wanted l = record {
   text : l.text ≡ l.reader.text.now;
   sound : IsSound l.reader;
   follows : Follows l.text l.wanted l.reader;
+  opened : IsOpened l.wanted l.reader;
 }
 
 abbrev pub decreases-loop-wanted : goal.decreases-loop-wanted

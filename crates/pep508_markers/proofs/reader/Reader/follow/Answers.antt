@@ -1,17 +1,20 @@
-use Rattle.std.proofs.Common.{◌≡◌, [], ◌++◌, ◌-◌, take, ap, ◌∙◌, subst}
+use Rattle.std.proofs.Common.{◌≡◌, [], ◌++◌, ◌-◌, take, sym, ap, ◌∙◌, subst}
 use Rattle.std.specs.Str.{chars}
+use Rattle.pep508_text.specs.Run.{after_space}
+use Rattle.pep508_text.proofs.RunLaws.{trimmed_after_space}
 use Rattle.pep508_text.proofs.SuffixLaws.{suffix_then}
 use Rattle.pep508_text.specs.Suffix.{IsSuffix}
 use Rattle.pep508_markers.specs.declared.reader.Group.{Group}
 use Rattle.marker_words.specs.Keyword.{IsKeyword}
 use Rattle.marker_words.proofs.FaultLaws.{fault_of_suffix}
 use Rattle.pep508_markers.proofs.ReadingLaws.{and_on, and_back}
-use Rattle.pep508_markers.proofs.ReaderLaws.{ored, anded, or_same, or_full, close_same, close_full, ored_postfix, anded_postfix, one_left, end_same, fault_end, fault_close, all_before, all_last, not_nil, other_word, fault_of_either}
+use Rattle.pep508_markers.proofs.ReaderLaws.{ored, anded, or_same, or_full, close_same, close_full, ored_postfix, anded_postfix, one_left, end_same, fault_end, fault_close, all_before, all_last, ored_valid, anded_valid, not_nil, other_word, fault_of_either}
+use Rattle.pep508_markers.proofs.OpenLaws.{opened_and, opened_or, opened_close, opened_end}
 use Rattle.pep508_markers.proofs.reader.Reader.follow.Goals as goal
 
 pub returns-in-And-clause-sound : goal.returns-in-And-clause-sound
 returns-in-And-clause-sound c =
-    record { full = c.requires.full; postfix = c.requires.postfix; rest = suffix_then c.requires.rest (suffix_then c.skip_space-text.ensures.suffix c.keyword-word.ensures.suffix); groups = c.requires.groups }
+    record { full = c.requires.full; postfix = c.requires.postfix; valid = c.requires.valid; rest = suffix_then c.requires.rest (suffix_then c.skip_space-text.ensures.suffix c.keyword-word.ensures.suffix); groups = c.requires.groups }
 
 pub returns-in-And-clause-same : goal.returns-in-And-clause-same
 returns-in-And-clause-same c f k =
@@ -21,7 +24,7 @@ returns-in-And-clause-same c f k =
 pub returns-in-Or-clause-sound : goal.returns-in-Or-clause-sound
 returns-in-Or-clause-sound c =
     let joined = ored c.args.self.now c.requires _ _ c.in_ok-whole.ensures.tokens c.in_ok-whole.ensures.any in
-    record { full = or_full _ joined c.requires.full; postfix = ored_postfix c.args.self.now c.requires _ c.in_ok-whole.ensures.tokens; rest = suffix_then c.requires.rest (suffix_then c.skip_space-text.ensures.suffix c.keyword-word.ensures.suffix); groups = c.requires.groups }
+    record { full = or_full _ joined c.requires.full; postfix = ored_postfix c.args.self.now c.requires _ c.in_ok-whole.ensures.tokens; valid = ored_valid c.args.self.now c.requires _ c.in_ok-whole.ensures.tokens; rest = suffix_then c.requires.rest (suffix_then c.skip_space-text.ensures.suffix c.keyword-word.ensures.suffix); groups = c.requires.groups }
 
 pub returns-in-Or-clause-same : goal.returns-in-Or-clause-same
 returns-in-Or-clause-same c =
@@ -34,7 +37,7 @@ returns-in-Some-first-clause-err c =
     let items = c.args.self.now.groups.items in
     let none : items ≡ [] = c.in_default-pop.ensures.items ∙ ap (λ x. x ++ []) (c.in_default-pop.ensures.rest ∙ ap (λ n. take (n - 1) items) c.in_default-pop.ensures.cases.0) in
     let wordless = other_word _ _ c.in_default.not-And c.in_default-word.not-Or c.keyword-word.ensures.which in (
-      fault_of_suffix (suffix_then c.requires.rest c.skip_space-text.ensures.suffix) c.unexpected.ensures,
+      λ opened. fault_of_suffix (suffix_then c.requires.rest c.skip_space-text.ensures.suffix) (c.unexpected.ensures (ap after_space c.skip_space-text.ensures.rest ∙ trimmed_after_space (chars c.args.self.now.rest.now) ∙ sym c.skip_space-text.ensures.rest) wordless),
       fault_end items _ none c.skip_space-text.ensures.rest wordless (not_nil _ c.in-Some-first.ensures.characters),
     )
 
@@ -56,7 +59,7 @@ pub returns-in_default-strip-clause-err : goal.returns-in_default-strip-clause-e
 returns-in_default-strip-clause-err c =
     let popped = c.in-Some.ensures.items in
     let wordless = other_word _ _ c.in_default.not-And c.in_default-word.not-Or c.keyword-word.ensures.which in (
-      fault_of_either (suffix_then c.requires.rest c.skip_space-text.ensures.suffix) (all_last (λ (g : Group). IsSuffix c.args.self.now.text.now g.text.now) _ _ popped c.requires.groups) c.unclosed.ensures,
+      λ opened. fault_of_either (suffix_then c.requires.rest c.skip_space-text.ensures.suffix) (all_last (λ (g : Group). IsSuffix c.args.self.now.text.now g.text.now) _ _ popped c.requires.groups) (c.unclosed.ensures c.in_default-strip.ensures.none (opened_end _ _ _ popped _ _ _ _ _ _ c.skip_space-text.ensures.rest opened)),
       fault_close _ _ _ popped c.skip_space-text.ensures.rest wordless c.in_default-strip.ensures.none,
     )
 
@@ -68,6 +71,7 @@ returns-clause-sound c =
     record {
       full = close_full _ c.in-Some.group popped or_joined and_joined c.requires.full;
       postfix = anded_postfix c.args.self.now c.requires _ c.in-Some.group popped _ _ _ or_joined (ored_postfix c.args.self.now c.requires _ c.in_ok-whole.ensures.tokens) c.in_ok-self.ensures.tokens;
+      valid = anded_valid c.args.self.now c.requires _ c.in-Some.group popped _ _ _ or_joined (ored_valid c.args.self.now c.requires _ c.in_ok-whole.ensures.tokens) c.in_ok-self.ensures.tokens;
       rest = suffix_then c.requires.rest (suffix_then c.skip_space-text.ensures.suffix c.in-Some-strip.ensures.suffix);
       groups = all_before (λ (g : Group). IsSuffix c.args.self.now.text.now g.text.now) _ _ popped c.requires.groups;
     }
@@ -78,3 +82,24 @@ returns-clause-same c =
     let or_joined = ored c.args.self.now c.requires _ _ c.in_ok-whole.ensures.tokens c.in_ok-whole.ensures.any in
     let and_joined = anded c.args.self.now c.requires _ c.in-Some.group popped _ _ _ _ or_joined c.in_ok-self.ensures.tokens c.in_ok-self.ensures.any in
     close_same _ c.in-Some.group popped or_joined and_joined c.skip_space-text.ensures.rest c.in-Some-strip.ensures.found
+
+pub returns-in-And-clause-opened : goal.returns-in-And-clause-opened
+returns-in-And-clause-opened c =
+    let word = subst (λ w. IsKeyword w (chars c.skip_space-text.result.now) (chars c.keyword-word.result.1.now)) c.in-And.is c.keyword-word.ensures.which in
+    opened_and _ _ _ _ _ _ c.skip_space-text.ensures.rest word
+
+pub returns-in-Or-clause-opened : goal.returns-in-Or-clause-opened
+returns-in-Or-clause-opened c =
+    let joined = ored c.args.self.now c.requires _ _ c.in_ok-whole.ensures.tokens c.in_ok-whole.ensures.any in
+    let word = subst (λ w. IsKeyword w (chars c.skip_space-text.result.now) (chars c.keyword-word.result.1.now)) c.in-Or.is c.keyword-word.ensures.which in
+    opened_or _ _ _ joined c.skip_space-text.ensures.rest word
+
+pub returns-in_default-pop-clause-valid : goal.returns-in_default-pop-clause-valid
+returns-in_default-pop-clause-valid c = ored_valid c.args.self.now c.requires _ c.in_ok-whole.ensures.tokens
+
+pub returns-clause-opened : goal.returns-clause-opened
+returns-clause-opened c =
+    let popped = c.in-Some.ensures.items in
+    let or_joined = ored c.args.self.now c.requires _ _ c.in_ok-whole.ensures.tokens c.in_ok-whole.ensures.any in
+    let and_joined = anded c.args.self.now c.requires _ c.in-Some.group popped _ _ _ _ or_joined c.in_ok-self.ensures.tokens c.in_ok-self.ensures.any in
+    opened_close _ c.in-Some.group _ popped _ _ _ _ or_joined and_joined c.skip_space-text.ensures.rest c.in-Some-strip.ensures.found
