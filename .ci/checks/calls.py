@@ -12,6 +12,8 @@ from pathlib import Path
 
 # Comments, texts and characters, in which no brace and no name counts.
 SKIPPED = re.compile(r'//[^\n]*|"(?:\\.|[^"\\])*"|\'(?:\\[^\n\']+|[^\'\\\n])\'')
+# The length of an array, in its type or its value, whose semicolon ends nothing.
+LENGTH = re.compile(r";(?=[^\[\]{};]*\])")
 ITEM = re.compile(r"\b(?:fn\s+(?P<fn>\w+)|impl\b(?P<impl>[^{;]*)\{|trait\s+(?P<trait>\w+)[^{;]*\{)")
 CLAUSE = re.compile(r"\b(?:requires|ensures|ghost)\b")
 CYCLE = re.compile(r"#\[cycle\((\w+)\)\]")
@@ -52,8 +54,9 @@ def is_named(path: str, name: str) -> bool:
 
 
 def blank(text: str) -> str:
-    """The text with its comments, texts and characters replaced by as many spaces."""
-    return SKIPPED.sub(lambda found: re.sub(r"[^\n]", " ", found[0]), text)
+    """The text with its comments, texts and characters replaced by as many spaces, and with no
+    semicolon before the length of an array."""
+    return LENGTH.sub(",", SKIPPED.sub(lambda found: re.sub(r"[^\n]", " ", found[0]), text))
 
 
 def closing(text: str, start: int) -> int:
