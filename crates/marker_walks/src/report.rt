@@ -6,7 +6,7 @@ ghost use Rattle.version_ranges.specs.Clamp.{bound_of};
 ghost use Rattle.version_ranges.specs.Point.{at, is_until};
 ghost use Rattle.marker_environment.specs.Environment.{valuation_of, values_of};
 ghost use Rattle.marker_diagrams.specs.Diagram as diagram;
-ghost use Rattle.marker_nodes.specs.Branches.{text_cmp};
+ghost use Rattle.marker_words.specs.Compare.{text_cmp};
 ghost use Rattle.marker_nodes.specs.Node.{markers};
 ghost use Rattle.marker_walks.specs.Report.{AddsComparisons, is_single};
 

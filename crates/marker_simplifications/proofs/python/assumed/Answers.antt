@@ -26,7 +26,7 @@ place-requires-clause-children c =
     made_children c.args.nodes.now c.requires.rules lower upper c.requires.point.0 c.requires.point.1 c.args.id c.requires.held c.in-Some.edges.now c.in-Some.ensures.found mid c.in_ok-children-2.ensures.kept
     (λ q. child_at made (piece_of version_cmp c.in_ok-edges.edges q))
     (made_at mid lower upper c.in-Some.edges.now c.in_ok-edges.edges c.in_ok-children.children.items made c.in_ok-edges.ensures.cases.1 (λ q. c.in_ok-children.ensures.value (at_version q))
-    (sym c.in_ok-children-2.children.ok.0 ∙ c.in_ok-children-2.ensures.count ∙ ap length c.deref.ensures.value) (subst (λ l. AreAssumed mid lower upper l made) c.deref.ensures.value c.in_ok-children-2.ensures.assumed))
+    (c.in_ok-children-2.ensures.count ∙ ap length c.deref.ensures.value) (subst (λ l. AreAssumed mid lower upper l made) c.deref.ensures.value c.in_ok-children-2.ensures.assumed))
 
 pub returns-clause-assumed : goal.returns-clause-assumed
 returns-clause-assumed c =
@@ -38,5 +38,5 @@ returns-clause-assumed c =
     (made_is c.args.nodes.now c.requires.rules lower upper c.requires.point.0 c.requires.point.1 c.args.id c.requires.held c.in-Some.edges.now c.in-Some.ensures.found mid c.in_ok-children-2.ensures.kept
     (λ q. child_at made (piece_of version_cmp c.in_ok-edges.edges q))
     (made_at mid lower upper c.in-Some.edges.now c.in_ok-edges.edges c.in_ok-children.children.items made c.in_ok-edges.ensures.cases.1 (λ q. c.in_ok-children.ensures.value (at_version q))
-    (sym c.in_ok-children-2.children.ok.0 ∙ c.in_ok-children-2.ensures.count ∙ ap length c.deref.ensures.value) (subst (λ l. AreAssumed mid lower upper l made) c.deref.ensures.value c.in_ok-children-2.ensures.assumed))
+    (c.in_ok-children-2.ensures.count ∙ ap length c.deref.ensures.value) (subst (λ l. AreAssumed mid lower upper l made) c.deref.ensures.value c.in_ok-children-2.ensures.assumed))
     c.place.new.self c.in_ok-placed.ensures.kept c.in_ok-placed.placed c.in_ok-placed.ensures.id)
