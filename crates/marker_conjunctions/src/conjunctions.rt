@@ -47,12 +47,7 @@ impl Conjunctions {
     /// as there are pairs of a subtree of each. None is, and no memory is taken, where one of the ids is `TRUE` or
     /// `FALSE`, where both are the same, and where one is the negation of the other.
     #[cycle(and)]
-    pub fn and(
-        &mut self,
-        nodes: &mut NodeTable,
-        a: NodeId,
-        b: NodeId,
-    ) -> Result<NodeId, AllocError>
+    pub fn and(&mut self, nodes: &mut NodeTable, a: NodeId, b: NodeId) -> Result<NodeId, AllocError>
         requires rules { IsWellKept (contents nodes.old self.old) }
         requires a { IsHeld nodes.old a }
         requires b { IsHeld nodes.old b }

@@ -1,4 +1,4 @@
-use Rattle.std.proofs.Common.{sym, ap, ◌∙◌, arith}
+use Rattle.std.proofs.Common.{sym, ◌∙◌, arith}
 use Rattle.marker_diagrams.proofs.NodeLaws.{keeps_both}
 use Rattle.marker_nodes.specs.Node.{markers}
 use Rattle.marker_nodes.specs.Branches.{piece, value_at, variable}
