@@ -169,10 +169,10 @@ module _ {N X V : Type 0} (kind : NodeKind N X V) (nodes : List N) (descends : D
       by_node (Some n) e rest =
           let children = lists n in
           with_below t n e children.0 children.1 (below t children.0 (λ u i.
-              let p = children.1.each i.0 u i.1 in
-              let l : place_of (kind.pick n p.0) < place_of t = descends (place_of t) n e p.0 in
-              let q : place_of (kind.pick n p.0) ≡ place_of u = ap place_of p.1 in
-              rest (signed_id (is_negated t) u) (omega arith)))
+          let p = children.1.each i.0 u i.1 in
+          let l : place_of (kind.pick n p.0) < place_of t = descends (place_of t) n e p.0 in
+          let q : place_of (kind.pick n p.0) ≡ place_of u = ap place_of p.1 in
+          rest (signed_id (is_negated t) u) (omega arith)))
 
   pub listed : (t : NodeId) → (ids : List NodeId) × AreExactly (IsSubtree kind nodes t) ids
   listed t = listed_to (place_of t) t (omega arith)

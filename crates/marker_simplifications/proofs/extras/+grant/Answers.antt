@@ -50,9 +50,11 @@ granted_node-granted_all-requires g t c =
       (
         inside,
         (
-          c.requires.rules, (
-          are_under c.args.nodes.now c.requires.rules c.args.id c.requires.held c.requires.plain (variable c.in_ok-branches-in-Some.branches) (value_at c.in_ok-branches-in-Some.branches) (has_clone c.args.nodes.now c.requires.rules c.args.id c.requires.held c.requires.plain c.in-Some.node.now c.in-Some.ensures c.in_ok-branches-in-Some.branches c.in_ok-branches-in-Some.ensures.cases) c.in_ok-children-in-Some.children.items c.deref.result.now c.deref.ensures c.in_ok-children-in-Some.ensures.inhabited,
-          (c.requires.callable, c.requires.known)),
+          c.requires.rules,
+          (
+            are_under c.args.nodes.now c.requires.rules c.args.id c.requires.held c.requires.plain (variable c.in_ok-branches-in-Some.branches) (value_at c.in_ok-branches-in-Some.branches) (has_clone c.args.nodes.now c.requires.rules c.args.id c.requires.held c.requires.plain c.in-Some.node.now c.in-Some.ensures c.in_ok-branches-in-Some.branches c.in_ok-branches-in-Some.ensures.cases) c.in_ok-children-in-Some.children.items c.deref.result.now c.deref.ensures c.in_ok-children-in-Some.ensures.inhabited,
+            (c.requires.callable, c.requires.known),
+          ),
         ),
       ),
     )
