@@ -10,6 +10,7 @@ ghost use Rattle.marker_conjunctions.specs.Contents.{contents, nothing, IsWellKe
 ghost use Rattle.marker_conjunctions.specs.Count.{IsCounted, Spends};
 
 use marker_nodes::{NodeId, NodeTable, short_cut};
+use smallvec::SmallVec;
 use std::alloc::{AllocError, Global};
 use std::collections::HashMap;
 
@@ -94,7 +95,7 @@ impl Conjunctions {
         let branches = nodes.side_by_side(nodes.allocator(), a, b)?;
         let pairs = branches.values(nodes.allocator())?;
         let children = self.and_all(nodes, a, b, &pairs)?;
-        nodes.place(branches, children)
+        nodes.place(branches, SmallVec::from_vec(children))
     }
 
     // The conjunctions of pairs of children of two ids, under the signs of the ids.

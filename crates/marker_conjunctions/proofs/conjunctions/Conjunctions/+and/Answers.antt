@@ -64,15 +64,15 @@ expanded-and_all-requires t c = (
   (
     c.requires.rules,
     step_below c.args.nodes.now c.requires.rules.nodes c.args.a c.args.b c.requires.a c.requires.b (variable c.in_ok-branches.branches) c.in_ok-branches.ensures.first
-        (value_at c.in_ok-branches.branches) c.in_ok-branches.ensures.children c.in_ok-pairs.pairs.items c.deref.result.now c.deref.ensures.value c.in_ok-pairs.ensures.inhabited,
+        (value_at c.in_ok-branches.branches) c.in_ok-branches.ensures.children c.in_ok-pairs.pairs.items c.deref.result.now c.deref.ensures c.in_ok-pairs.ensures.inhabited,
   ),
 )
 
 pub expanded-place-requires-clause-children : goal.expanded-place-requires-clause-children
-expanded-place-requires-clause-children t c =
+expanded-place-requires-clause-children t c = rw c.from_vec.ensures.items (
     step_children c.args.nodes.now c.requires.rules.nodes c.args.a c.args.b c.requires.a c.requires.b (variable c.in_ok-branches.branches) c.in_ok-branches.ensures.first
-    (value_at c.in_ok-branches.branches) c.in_ok-branches.ensures.children c.in_ok-pairs.pairs.items c.deref.result.now c.deref.ensures.value
-    c.and_all.new.nodes c.in_ok-children.ensures.kept c.in_ok-children.children.items (sym c.in_ok-children.children.ok.0 ∙ c.in_ok-children.ensures.count) c.in_ok-children.ensures.ands (piece c.in_ok-branches.branches) c.in_ok-pairs.ensures.value
+    (value_at c.in_ok-branches.branches) c.in_ok-branches.ensures.children c.in_ok-pairs.pairs.items c.deref.result.now c.deref.ensures
+    c.and_all.new.nodes c.in_ok-children.ensures.kept c.in_ok-children.children.items (sym c.in_ok-children.children.ok.0 ∙ c.in_ok-children.ensures.count) c.in_ok-children.ensures.ands (piece c.in_ok-branches.branches) c.in_ok-pairs.ensures.value)
 
 pub expanded-returns-clause-rules : goal.expanded-returns-clause-rules
 expanded-returns-clause-rules t c =
@@ -86,5 +86,5 @@ expanded-returns-clause-spends t c =
 pub expanded-returns-clause-and : goal.expanded-returns-clause-and
 expanded-returns-clause-and t c =
     step_placed c.args.nodes.now c.requires.rules.nodes c.args.a c.args.b c.requires.a c.requires.b (variable c.in_ok-branches.branches) c.in_ok-branches.ensures.first
-    (value_at c.in_ok-branches.branches) c.in_ok-branches.ensures.children c.in_ok-pairs.pairs.items c.deref.result.now c.deref.ensures.value
-    c.and_all.new.nodes c.in_ok-children.ensures.kept c.in_ok-children.children.items (sym c.in_ok-children.children.ok.0 ∙ c.in_ok-children.ensures.count) c.in_ok-children.ensures.ands (piece c.in_ok-branches.branches) c.in_ok-pairs.ensures.value c.place.new.self c.place.ensures.kept c.place.result c.place.ensures.id
+    (value_at c.in_ok-branches.branches) c.in_ok-branches.ensures.children c.in_ok-pairs.pairs.items c.deref.result.now c.deref.ensures
+    c.and_all.new.nodes c.in_ok-children.ensures.kept c.in_ok-children.children.items (sym c.in_ok-children.children.ok.0 ∙ c.in_ok-children.ensures.count) c.in_ok-children.ensures.ands (piece c.in_ok-branches.branches) c.in_ok-pairs.ensures.value c.place.new.self c.place.ensures.kept c.place.result (rw c.from_vec.ensures.items at c.place.ensures.id)
