@@ -1,15 +1,4 @@
-pub mod AndLaws
-pub mod Assumptions
-pub mod Branches
 pub mod CountLaws
-pub mod Descents
-pub mod Disjoints
-pub mod Firsts
-pub mod Grants
-pub mod PossibleLaws
-pub mod RangeLaws
-pub mod ReportLaws
 pub mod SubtreeLaws
 pub mod TreeLaws
-pub mod TrimLaws
-pub mod TruthLaws
+pub use Rattle.marker_nodes.proofs.Firsts

@@ -1,12 +1,9 @@
 pub mod Contents
-pub mod Branch
-pub mod Count
 pub mod Tree
-pub mod Expression
-pub mod Disjoint
-pub mod Python
 pub mod Extras
-pub mod Possible
 pub mod Report
-pub mod Simplified
 pub mod Ranged
+-- what the crates below say of truths over valuations
+pub use Rattle.marker_comparisons.specs.Expression
+pub use Rattle.marker_walks.specs.Possible
+pub use Rattle.marker_simplifications.specs.Python

@@ -1,49 +1,55 @@
 //! The nodes of many markers.
 
-ghost use Rattle.std.specs.Prelude.{◌≡◌, ◌↔◌, ◌<◌, ◌+◌, false, length, IfOk, IsOk, IsTrue, vec_len};
-ghost use Rattle.marker_environment.specs.Valuation.{Valuation};
-ghost use Rattle.marker_environment.specs.Environment.{valuation_of, values_of};
+ghost use Rattle.std.specs.Prelude.{◌≡◌, ◌↔◌, ◌<◌, ◌+◌, false, IfErr, IfOk, IsOk, IsTrue, OnOk};
+ghost use Rattle.std.specs.Fn.{FnReturnsAt};
+ghost use Rattle.version_ranges.specs.Point.{Point};
+ghost use Rattle.version_ranges.specs.Clamp.{IsBetween, bound_of};
+ghost use Rattle.pep440_version.specs.Parts.{Parts};
+ghost use Rattle.pep440_version.specs.Order.{version_cmp};
+ghost use Rattle.marker_parts.specs.Expression.{IsAtEnd, holds, test_of};
 ghost use Rattle.marker_diagrams.specs.Diagram as diagram;
 ghost use Rattle.marker_diagrams.specs.Diagram.{IsStore};
 ghost use Rattle.marker_diagrams.specs.Id.{place_of};
+ghost use Rattle.marker_nodes.specs.And.{IsAnd, IsShort};
 ghost use Rattle.marker_nodes.specs.Variable.{answer};
 ghost use Rattle.marker_nodes.specs.Node.{markers};
-ghost use Rattle.marker_graph.specs.Contents.{nothing, IsAnd, IsHeld, IsKept, IsWellKept, Separated};
-ghost use Rattle.marker_graph.specs.Branch.{AreAnds, AreBelow};
-ghost use Rattle.marker_graph.specs.Count.{IsCounted, IsShort, Spends};
+ghost use Rattle.marker_conjunctions.specs.Contents.{nothing, IsKept, IsWellKept};
+ghost use Rattle.marker_conjunctions.specs.Count.{IsCounted, Spends};
+ghost use Rattle.marker_comparisons.specs.Expression.{IsInvalid, IsTruthOf, IsUnmade};
+ghost use Rattle.marker_simplifications.specs.Python.{is_python_in};
+ghost use Rattle.marker_simplifications.specs.Simplified.{IsAssumed, IsGranted};
+ghost use Rattle.marker_graph.specs.Contents.{IsHeld, Separated};
 
-use crate::child::child_in;
-use crate::disjoint::are_disjoint;
-use crate::first::short_cut;
 use crate::tree::MarkerTree;
-use marker_environment::MarkerEnvironment;
-use marker_nodes::{Branches, Node, NodeId, NodeTable, TruthVariable};
+use marker_comparisons::{InvalidExpression, asks, expression};
+use marker_conjunctions::Conjunctions;
+use marker_nodes::{NodeId, NodeTable, TruthVariable};
+use marker_parts::MarkerExpression;
+use marker_simplifications::{assumed, grant_extras, python_range};
+use pep440_version::Version;
 use pep508_names::ExtraName;
+use refusal::Refusal;
 use std::alloc::{AllocError, Global};
-use std::collections::HashMap;
 use std::marker::Model;
+use std::ops::Bound;
 
 /// The nodes of many markers, and the conjunctions that were computed.
 ///
 /// An interner only grows: what a marker means stays, also where a call is refused for want of memory.
 #[derive(Drop)]
 pub struct Interner {
-    nodes: NodeTable,
-    // The conjunctions that are known.
-    memo: HashMap<(NodeId, NodeId), NodeId>,
-    // How many conjunctions of nodes were computed.
-    expansions: u64,
-    alloc: Global,
+    pub(crate) nodes: NodeTable,
+    conjunctions: Conjunctions,
 }
 
 impl Model for Interner {
-    ghost use Rattle.marker_graph.specs.Contents.{Contents, IsWellKept};
+    ghost use Rattle.marker_conjunctions.specs.Contents.{contents, Contents, IsWellKept};
 
     ghost Value = { Contents };
 
-    ghost view = { λ s. record { nodes = s.nodes; memo = s.memo.entries; expansions = s.expansions } };
+    ghost view = { λ s. contents s.nodes s.conjunctions };
 
-    ghost invariant = { λ s. IsWellKept record { nodes = s.nodes; memo = s.memo.entries; expansions = s.expansions } };
+    ghost invariant = { λ s. IsWellKept (contents s.nodes s.conjunctions) };
 }
 
 impl Interner {
@@ -53,15 +59,13 @@ impl Interner {
     {
         Interner {
             nodes: NodeTable::new(alloc),
-            memo: HashMap::new(alloc),
-            expansions: 0,
-            alloc,
+            conjunctions: Conjunctions::new(alloc),
         }
     }
 
     /// Where the memory of the nodes is taken from.
     pub fn allocator(&self) -> Global {
-        self.alloc
+        self.nodes.allocator()
     }
 
     /// Whether the marker stands here. `TRUE` and `FALSE` stand in every interner.
@@ -85,7 +89,7 @@ impl Interner {
     pub fn expansions(&self) -> u64
         ensures { result ≡ self.now.expansions }
     {
-        self.expansions
+        self.conjunctions.expansions()
     }
 
     /// The nodes keep the rules of diagrams, and each conjunction that is known is one of nodes that stand here. This is a
@@ -96,28 +100,10 @@ impl Interner {
     {
         let _nodes = &self.nodes;
     }
-
-    // Whether an id is true in the environment with these extras.
-    pub(crate) fn evaluate(
-        &self,
-        id: NodeId,
-        environment: &MarkerEnvironment,
-        extras: &[ExtraName],
-    ) -> bool
-        requires { diagram.IsHeld self.now.nodes id }
-        ensures { result ≡ diagram.truth markers self.now.nodes id (valuation_of (values_of environment.now) extras.now) }
-    {
-        let mut at = id;
-        while let Some(node) = self.nodes.node(at) {
-            at = child_in(node, environment, extras).negate(at);
-        }
-        !at.is_complement()
-    }
 }
 
 impl Interner {
     // The conjunction of two ids.
-    #[cycle(and)]
     pub(crate) fn and(&mut self, a: NodeId, b: NodeId) -> Result<NodeId, AllocError>
         requires a { diagram.IsHeld self.old.nodes a }
         requires b { diagram.IsHeld self.old.nodes b }
@@ -127,120 +113,72 @@ impl Interner {
         ensures counted { IfOk result (IsCounted self.old self.new) }
         ensures short { IsShort a b → IsOk result × (self.new ≡ self.old) }
     {
-        if let Some(id) = short_cut(a, b) {
-            return Ok(id);
-        }
-        if let Some(id) = self.memo.get(&(a, b)) {
-            return Ok(*id);
-        }
-        let id = self.expanded(a, b)?;
-        self.memo.insert((a, b), id)?;
-        self.expansions = self.expansions.saturating_add(1);
-        Ok(id)
+        self.conjunctions.and(&mut self.nodes, a, b)
     }
-
-    // The conjunction of two ids, each of a node.
-    #[cycle(and)]
-    fn expanded(&mut self, a: NodeId, b: NodeId) -> Result<NodeId, AllocError>
-        requires a { diagram.IsHeld self.old.nodes a }
-        requires b { diagram.IsHeld self.old.nodes b }
-        requires a_node { 0 < place_of a }
-        requires b_node { 0 < place_of b }
-        ensures kept { IsKept self.old self.new }
-        ensures and { IfOk result (IsAnd self.new.nodes a b) }
-        ensures spends { Spends self.old self.new (place_of a + place_of b) a b }
-    {
-        let branches = self.nodes.side_by_side(self.alloc, a, b)?;
-        let pairs = branches.values(self.alloc)?;
-        let children = self.and_all(a, b, &pairs)?;
-        self.nodes.place(branches, children)
-    }
-
-    // The conjunctions of pairs of children of two ids, under the signs of the ids.
-    #[cycle(and)]
-    fn and_all(
-        &mut self,
-        a: NodeId,
-        b: NodeId,
-        pairs: &[(NodeId, NodeId)],
-    ) -> Result<Vec<NodeId>, AllocError>
-        requires { AreBelow self.old.nodes a b pairs.now }
-        ensures kept { IsKept self.old self.new }
-        ensures count { IfOk result (λ r. vec_len r ≡ length pairs.now) }
-        ensures ands { IfOk result (λ r. AreAnds self.new.nodes a b pairs.now r.items) }
-        ensures spends { Spends self.old self.new (place_of a + place_of b) a b }
-    {
-        let mut children = Vec::with_capacity(self.alloc, pairs.len())?;
-        for i in 0..pairs.len() {
-            let pair = pairs[i];
-            let left = pair.0.negate(a);
-            let right = pair.1.negate(b);
-            let child = self.and(left, right)?;
-            children.push(child)?;
-        }
-        Ok(children)
-    }
-}
-
-impl Interner {
-    ghost use Rattle.marker_graph.specs.Disjoint.{TellsDisjoint};
-
-    // Whether no valuation satisfies both ids.
-    pub(crate) fn is_disjoint(&self, a: NodeId, b: NodeId) -> bool
-        requires a { diagram.IsHeld self.now.nodes a }
-        requires b { diagram.IsHeld self.now.nodes b }
-        ensures { TellsDisjoint self.now.nodes a b result }
-    {
-        are_disjoint(self.alloc, &self.nodes, a, b)
-    }
-}
-
-impl Interner {
-    ghost use Rattle.marker_nodes.specs.Branches.{count, value_at, variable};
-    ghost use Rattle.marker_nodes.specs.Node.{listed_child};
 
     // The id that is true where it is so.
     pub(crate) fn asks(&mut self, variable: TruthVariable) -> Result<NodeId, AllocError>
         ensures kept { IsKept self.old self.new }
-        ensures held { IfOk result (diagram.IsHeld self.new.nodes) }
-        ensures means { IfOk result (λ id. (v : Valuation) → diagram.truth markers self.new.nodes id v ≡ answer variable v) }
+        ensures asks { IfOk result (IsTruthOf self.new.nodes (answer variable)) }
     {
-        self.place_node(Branches::Truth(variable, NodeId::TRUE, NodeId::FALSE))
+        asks(&mut self.nodes, variable)
     }
 
-    // The id that means what the node does.
-    pub(crate) fn place_node(&mut self, node: Node) -> Result<NodeId, AllocError>
-        requires { diagram.AreChildren markers self.old.nodes (variable node) (value_at node) }
-        ensures kept { IsKept self.old self.new }
-        ensures rules { IsStore markers self.new.nodes }
-        ensures id { IfOk result
-            (diagram.IsChoice markers self.new.nodes (variable node) (value_at node)) }
-    {
-        self.nodes.place_node(node)
-    }
-
-    // The id of the node that has these children on the pieces.
-    pub(crate) fn place<V: Drop>(
+    // The id that is true where the comparison holds.
+    pub(crate) fn expression(
         &mut self,
-        branches: Branches<V>,
-        children: Vec<NodeId>,
-    ) -> Result<NodeId, AllocError>
-        requires count { vec_len children ≡ count branches }
-        requires children { diagram.AreChildren markers self.old.nodes (variable branches)
-            (listed_child branches children.items) }
+        comparison: MarkerExpression,
+    ) -> Result<NodeId, Refusal<InvalidExpression>>
         ensures kept { IsKept self.old self.new }
-        ensures rules { IsStore markers self.new.nodes }
-        ensures id { IfOk result (diagram.IsChoice markers self.new.nodes (variable branches)
-            (listed_child branches children.items)) }
+        ensures asks { IfOk result (IsTruthOf self.new.nodes (holds (test_of comparison))) }
+        ensures not_at_end { OnOk result (¬ IsAtEnd (test_of comparison)) }
+        ensures not_invalid { OnOk result (¬ IsInvalid (test_of comparison)) }
+        ensures err { IfErr result (IsUnmade (test_of comparison)) }
     {
-        self.nodes.place(branches, children)
+        expression(&mut self.nodes, comparison)
     }
 
-    // The nodes.
-    pub(crate) fn table(&self) -> &NodeTable
-        ensures table { result.now ≡ self.now.nodes }
-        ensures rules { IsStore markers self.now.nodes }
+    // The id that is true where the Python version lies between two bounds.
+    pub(crate) fn python_range(
+        &mut self,
+        lower: Bound<&Version>,
+        upper: Bound<&Version>,
+    ) -> Result<NodeId, AllocError>
+        ensures kept { IsKept self.old self.new }
+        ensures asks { IfOk result (IsTruthOf self.new.nodes
+            (is_python_in (bound_of lower.entry) (bound_of upper.entry))) }
     {
-        &self.nodes
+        python_range(&mut self.nodes, lower, upper)
+    }
+
+    // The id where the Python version is taken to lie in a range that has a point.
+    pub(crate) fn assumed(
+        &mut self,
+        id: NodeId,
+        lower: Bound<&Version>,
+        upper: Bound<&Version>,
+    ) -> Result<NodeId, AllocError>
+        requires held { diagram.IsHeld self.old.nodes id }
+        requires point { (p : Point Parts)
+            × IsBetween version_cmp (bound_of lower) (bound_of upper) p }
+        ensures kept { IsKept self.old self.new }
+        ensures assumed { IfOk result
+            (IsAssumed self.new.nodes (bound_of lower.entry) (bound_of upper.entry) id) }
+    {
+        assumed(&mut self.nodes, id, lower, upper)
+    }
+
+    // The id with the extras set true for which the closure answers so.
+    pub(crate) fn grant_extras<F: Fn(&ExtraName) -> bool>(
+        &mut self,
+        is_extra: &F,
+        id: NodeId,
+    ) -> Result<NodeId, AllocError>
+        requires held { diagram.IsHeld self.old.nodes id }
+        requires callable { F.IsAlwaysCallable is_extra.now }
+        ensures kept { IsKept self.old self.new }
+        ensures granted { IfOk result (IsGranted self.new.nodes (FnReturnsAt F.Fn is_extra.now) id) }
+    {
+        grant_extras(&mut self.nodes, is_extra, id)
     }
 }

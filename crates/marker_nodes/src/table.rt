@@ -47,6 +47,11 @@ impl NodeTable {
         }
     }
 
+    /// Where the memory of the nodes is taken from.
+    pub fn allocator(&self) -> Global {
+        self.alloc
+    }
+
     /// How many nodes there are.
     pub fn len(&self) -> usize
         ensures { result ≡ length self.now }

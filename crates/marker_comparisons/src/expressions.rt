@@ -1,0 +1,173 @@
+//! Comparisons as ids.
+
+ghost use Rattle.std.specs.Prelude.{◌≡◌, IfErr, IfNone, IfOk, IfSome, None, OnOk, Some, string_bytes};
+ghost use Rattle.std.specs.Set.{ClonesAreEqual};
+ghost use Rattle.version_ranges.specs.Point.{Point};
+ghost use Rattle.version_ranges.specs.Ranges.{contains_point};
+ghost use Rattle.pep440_version.specs.Order.{version_cmp};
+ghost use Rattle.marker_words.specs.Compare.{beside, holds_beside};
+ghost use Rattle.marker_environment.specs.Valuation.{Valuation};
+ghost use Rattle.marker_parts.specs.Expression as asked;
+ghost use Rattle.marker_parts.specs.Expression.{IsAtEnd, asked_version, extra_of, holds, holds_extra, test_of};
+ghost use Rattle.marker_nodes.specs.Variable.{answer};
+ghost use Rattle.marker_diagrams.specs.Diagram.{IsStore, Keeps};
+ghost use Rattle.marker_nodes.specs.Node.{markers};
+ghost use Rattle.marker_comparisons.specs.Expression.{IsInvalid, IsTruthOf, IsUnmade};
+
+use crate::questions::{asks, asks_text, asks_version};
+use marker_nodes::{NodeId, NodeTable, TruthVariable};
+use marker_parts::{
+    ExtraOperator, MarkerExpression, MarkerOperator, MarkerValueExtra, MarkerValueString,
+    VersionVariable,
+};
+use pep440_version::Version;
+use refusal::Refusal;
+use std::alloc::{AllocError, Global};
+use thiserror::Error;
+use version_ranges::Ranges;
+
+/// A comparison that no marker stands for: a text key beside `~=`.
+#[derive(Clone, Copy, Debug, Drop, PartialEq, Eq, Error)]
+#[error("`~=` compares versions, and does not compare texts")]
+pub struct InvalidExpression;
+
+/// The id that is true where the comparison holds. A deprecated key asks what the modern one asks, and `python_version`
+/// asks about the full version.
+///
+/// It is refused as `SegmentAtEnd` where a bound of a set of versions would raise 18446744073709551615, as a fault where
+/// `~=` compares texts, and else for want of memory alone. What the ids of the table mean stays, also then.
+pub fn expression(
+    nodes: &mut NodeTable,
+    expression: MarkerExpression,
+) -> Result<NodeId, Refusal<InvalidExpression>>
+    ensures kept { Keeps markers nodes.old nodes.new }
+    ensures rules { IsStore markers nodes.old → IsStore markers nodes.new }
+    ensures asks { IfOk result (IsTruthOf nodes.new (holds (test_of expression))) }
+    ensures not_at_end { OnOk result (¬ IsAtEnd (test_of expression)) }
+    ensures not_invalid { OnOk result (¬ IsInvalid (test_of expression)) }
+    ensures err { IfErr result (IsUnmade (test_of expression)) }
+{
+    if let Some((variable, range)) = version_range(nodes.allocator(), &expression)? {
+        return Ok(asks_version(nodes, variable, &range)?);
+    }
+    match expression {
+        MarkerExpression::Version {
+            key: _key,
+            specifier: _specifier,
+        } => unreachable!(),
+        MarkerExpression::VersionIn {
+            key: _key,
+            versions: _versions,
+            negated: _negated,
+        } => unreachable!(),
+        MarkerExpression::String {
+            key,
+            operator,
+            value,
+        } => compares_text(nodes, key, operator, value),
+        MarkerExpression::Extra { operator, name } => Ok(compares_extra(nodes, operator, name)?),
+    }
+}
+
+// The id that is true where the key's text compares so with the value.
+fn compares_text(
+    nodes: &mut NodeTable,
+    key: MarkerValueString,
+    operator: MarkerOperator,
+    value: String,
+) -> Result<NodeId, Refusal<InvalidExpression>>
+    ensures kept { Keeps markers nodes.old nodes.new }
+    ensures rules { IsStore markers nodes.old → IsStore markers nodes.new }
+    ensures asks { IfOk result (IsTruthOf nodes.new (holds (asked.text key operator (string_bytes value)))) }
+    ensures not_invalid { OnOk result (¬ IsInvalid (asked.text key operator (string_bytes value))) }
+    ensures err { IfErr result (IsUnmade (asked.text key operator (string_bytes value))) }
+{
+    let variable = key.variable();
+    match operator {
+        MarkerOperator::Equal
+        | MarkerOperator::NotEqual
+        | MarkerOperator::GreaterThan
+        | MarkerOperator::GreaterEqual
+        | MarkerOperator::LessThan
+        | MarkerOperator::LessEqual => {
+            let range = range_beside(nodes.allocator(), operator, value)?;
+            Ok(asks_text(nodes, variable, &range)?)
+        }
+        MarkerOperator::TildeEqual => Err(Refusal::Fault(InvalidExpression)),
+        MarkerOperator::In => Ok(asks(nodes, TruthVariable::In(variable, value))?),
+        MarkerOperator::NotIn => Ok(asks(nodes, TruthVariable::In(variable, value))?.not()),
+        MarkerOperator::Contains => Ok(asks(nodes, TruthVariable::Contains(variable, value))?),
+        MarkerOperator::NotContains => {
+            Ok(asks(nodes, TruthVariable::Contains(variable, value))?.not())
+        }
+    }
+}
+
+// The id that is true where the extra is asked for, or where it is not.
+fn compares_extra(
+    nodes: &mut NodeTable,
+    operator: ExtraOperator,
+    name: MarkerValueExtra,
+) -> Result<NodeId, AllocError>
+    ensures kept { Keeps markers nodes.old nodes.new }
+    ensures rules { IsStore markers nodes.old → IsStore markers nodes.new }
+    ensures asks { IfOk result (IsTruthOf nodes.new (holds (asked.extra operator (extra_of name)))) }
+{
+    let id = asks(nodes, extra_variable(name))?;
+    match operator {
+        ExtraOperator::Equal => Ok(id),
+        ExtraOperator::NotEqual => Ok(id.not()),
+    }
+}
+
+// The variable of a comparison with versions, and the points at which it holds.
+fn version_range(
+    alloc: Global,
+    expression: &MarkerExpression,
+) -> Result<Option<(VersionVariable, Ranges<Version>)>, Refusal<InvalidExpression>>
+    ensures variable { IfOk result (λ found. IfSome found (λ range. asked_version (test_of expression.now) ≡ Some range.0)) }
+    ensures set { IfOk result (λ found. IfSome found (λ range. (v : Valuation) → holds (test_of expression.now) v ≡ contains_point version_cmp range.1 (v.version range.0))) }
+    ensures none { IfOk result (λ found. IfNone found (asked_version (test_of expression.now) ≡ None)) }
+    ensures not_at_end { OnOk result (¬ IsAtEnd (test_of expression.now)) }
+    ensures err { IfErr result (IsUnmade (test_of expression.now)) }
+{
+    match expression.version_range(alloc) {
+        Ok(range) => Ok(range),
+        Err(Refusal::OutOfMemory) => Err(Refusal::OutOfMemory),
+        Err(Refusal::SegmentAtEnd) => Err(Refusal::SegmentAtEnd),
+    }
+}
+
+// What stands so beside the value. Nothing does where the operator asks for more than an order.
+fn range_beside<T: Ord + Clone>(
+    alloc: Global,
+    operator: MarkerOperator,
+    value: T,
+) -> Result<Ranges<T>, AllocError>
+    requires clones { ClonesAreEqual T.eq T.is_clone }
+    ensures { IfOk result (λ r. (p : Point T) → contains_point T.cmp r p ≡ holds_beside operator (beside T.cmp p value)) }
+{
+    match operator {
+        MarkerOperator::Equal => Ranges::singleton(alloc, value),
+        MarkerOperator::NotEqual => Ranges::singleton(alloc, value)?.complement(alloc),
+        MarkerOperator::GreaterThan => Ranges::strictly_higher_than(alloc, value),
+        MarkerOperator::GreaterEqual => Ranges::higher_than(alloc, value),
+        MarkerOperator::LessThan => Ranges::strictly_lower_than(alloc, value),
+        MarkerOperator::LessEqual => Ranges::lower_than(alloc, value),
+        MarkerOperator::TildeEqual
+        | MarkerOperator::In
+        | MarkerOperator::NotIn
+        | MarkerOperator::Contains
+        | MarkerOperator::NotContains => Ok(Ranges::empty(alloc)),
+    }
+}
+
+// The question that asks for an extra.
+fn extra_variable(name: MarkerValueExtra) -> TruthVariable
+    ensures { (v : Valuation) → answer result v ≡ holds_extra (extra_of name) v }
+{
+    match name {
+        MarkerValueExtra::Extra(name) => TruthVariable::Extra(name),
+        MarkerValueExtra::Arbitrary(text) => TruthVariable::Arbitrary(text),
+    }
+}

@@ -1,0 +1,55 @@
+//! Questions about one variable.
+
+ghost use Rattle.std.specs.Prelude.{◌≡◌, IfOk, string_bytes};
+ghost use Rattle.version_ranges.specs.Ranges.{contains_by, contains_point};
+ghost use Rattle.pep440_version.specs.Order.{version_cmp};
+ghost use Rattle.marker_words.specs.Compare.{text_cmp};
+ghost use Rattle.marker_diagrams.specs.Diagram.{IsStore, Keeps};
+ghost use Rattle.marker_nodes.specs.Node.{markers};
+ghost use Rattle.marker_nodes.specs.Variable.{answer};
+ghost use Rattle.marker_comparisons.specs.Expression.{IsTruthOf};
+
+use marker_nodes::{Branches, NodeId, NodeTable, TruthVariable};
+use marker_words::{TextVariable, VersionVariable};
+use pep440_version::Version;
+use std::alloc::AllocError;
+use version_ranges::{Cuts, Ranges};
+
+/// The id that is true where it is so.
+pub fn asks(nodes: &mut NodeTable, variable: TruthVariable) -> Result<NodeId, AllocError>
+    ensures kept { Keeps markers nodes.old nodes.new }
+    ensures rules { IsStore markers nodes.old → IsStore markers nodes.new }
+    ensures asks { IfOk result (IsTruthOf nodes.new (answer variable)) }
+{
+    nodes.place_node(Branches::Truth(variable, NodeId::TRUE, NodeId::FALSE))
+}
+
+/// The id that is true where the variable's version is in the set.
+pub fn asks_version(
+    nodes: &mut NodeTable,
+    variable: VersionVariable,
+    range: &Ranges<Version>,
+) -> Result<NodeId, AllocError>
+    ensures kept { Keeps markers nodes.old nodes.new }
+    ensures rules { IsStore markers nodes.old → IsStore markers nodes.new }
+    ensures asks { IfOk result
+        (IsTruthOf nodes.new (λ v. contains_point version_cmp range.now (v.version variable))) }
+{
+    let edges = Cuts::from_ranges(nodes.allocator(), range, NodeId::TRUE, NodeId::FALSE)?;
+    nodes.place_node(Branches::Version(variable, edges))
+}
+
+/// The id that is true where the variable's text is in the set.
+pub fn asks_text(
+    nodes: &mut NodeTable,
+    variable: TextVariable,
+    range: &Ranges<String>,
+) -> Result<NodeId, AllocError>
+    ensures kept { Keeps markers nodes.old nodes.new }
+    ensures rules { IsStore markers nodes.old → IsStore markers nodes.new }
+    ensures asks { IfOk result
+        (IsTruthOf nodes.new (λ v. contains_by string_bytes text_cmp range.now (v.text variable))) }
+{
+    let edges = Cuts::from_ranges(nodes.allocator(), range, NodeId::TRUE, NodeId::FALSE)?;
+    nodes.place_node(Branches::Text(variable, edges))
+}

@@ -1,0 +1,2 @@
+pub mod AndLaws
+pub mod CountLaws

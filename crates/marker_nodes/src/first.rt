@@ -1,0 +1,38 @@
+//! Where the conjunction of two ids begins.
+
+ghost use Rattle.std.specs.Prelude.{◌<◌, IfNone, IfSome, List};
+ghost use Rattle.marker_diagrams.specs.Diagram.{IsHeld};
+ghost use Rattle.marker_diagrams.specs.Id.{place_of};
+ghost use Rattle.marker_nodes.specs.Node.{Node};
+ghost use Rattle.marker_nodes.specs.And.{IsAnd, IsShort};
+
+use marker_diagrams::NodeId;
+
+/// The conjunction of two ids where it needs no node: where one is a constant, both are the same, or one is the negation
+/// of the other.
+pub fn short_cut(a: NodeId, b: NodeId) -> Option<NodeId>
+    ensures short { IfSome result (λ t. (nodes : List Node) → IsHeld nodes a → IsHeld nodes b
+        → IsAnd nodes a b t) }
+    ensures nodes { IfNone result ((0 < place_of a) × (0 < place_of b)) }
+    ensures other { IfNone result (IsShort a b → ⊥) }
+{
+    if a == NodeId::FALSE {
+        return Some(a);
+    }
+    if b == NodeId::FALSE {
+        return Some(b);
+    }
+    if a == b.not() {
+        return Some(NodeId::FALSE);
+    }
+    if a == NodeId::TRUE {
+        return Some(b);
+    }
+    if b == NodeId::TRUE {
+        return Some(a);
+    }
+    if a == b {
+        return Some(b);
+    }
+    None
+}

@@ -1,0 +1,241 @@
+-- Ids with extras set true.
+use Rattle.std.proofs.Common.{◌≡◌, ℕ, ◌<◌, Bool, true, false, cond, ◌||◌, List, [], ◌∷◌, ◌++◌, length, get_or, Some, None, Result, Ok, Err, refl, sym, ap, ◌∙◌, subst, arith}
+use Rattle.std.specs.Prelude.{slice_get, IfOk, String}
+use Rattle.std.specs.Global.{Global}
+use Rattle.std.specs.Map.{lookup}
+use Rattle.std.specs.declared.alloc.AllocError.{AllocError}
+use Rattle.std.specs.declared.cmp.Ordering.TheVariants.{Less}
+use lib.Dec.{eqb}
+use Rattle.std.proofs.lemmas.Bool.{false≢true, eqb-true}
+use Rattle.std.proofs.lemmas.Option.{slice_get-get_or, slice_get_within}
+use Rattle.version_ranges.specs.declared.cuts.Cuts.{Cuts}
+use Rattle.marker_environment.specs.Valuation.{Valuation}
+use Rattle.marker_diagrams.specs.declared.node_id.NodeId.{NodeId}
+use Rattle.marker_diagrams.specs.declared.node_id.TheConstants.NodeId.{TRUE, FALSE}
+use Rattle.marker_diagrams.specs.Id.{place_of, is_negated, signed, signed_id, same_id}
+use Rattle.marker_diagrams.specs.Diagram.{node_of, IsHeld, IsStore, Keeps, IsAfter, IsChoice, AreChildren, truth}
+use Rattle.marker_diagrams.proofs.IdLaws.{same_id_is, signed_id_undone}
+use Rattle.marker_diagrams.proofs.KeyLaws.{get_last}
+use Rattle.marker_diagrams.proofs.NodeLaws.{none_some, same_some, truth_child, truth_signed, truth_still, after_still, after_before}
+use Rattle.marker_nodes.specs.declared.variable.TruthVariable.{TruthVariable}
+use Rattle.marker_nodes.specs.declared.variable.TruthVariable.TheVariants.{In, Contains, Extra, Arbitrary}
+use Rattle.marker_nodes.specs.declared.node.Branches.TheVariants.{Version, Text, Truth}
+use Rattle.marker_nodes.specs.Variable.{Variable, answer, variable_cmp}
+use Rattle.marker_nodes.specs.Branches.{variable, value_at as pick}
+use Rattle.marker_nodes.specs.Node.{Node, markers, child_at, lowest}
+use Rattle.marker_nodes.proofs.NodeLaws.{high_picked}
+use Rattle.marker_nodes.proofs.VariableLaws.{variable_total}
+use Rattle.pep440_version.specs.Parts.{Parts}
+use Rattle.marker_words.specs.declared.key.TextVariable.{TextVariable}
+use Rattle.marker_words.specs.declared.key.VersionVariable.{VersionVariable}
+use Rattle.marker_simplifications.specs.Extras.{AnswersBy, with_extras}
+use Rattle.marker_simplifications.specs.Simplified.{AreGranted, AreKnown, AreUnder, Grants, HasChildren, IsGranted, IsUntouched, IsTouched}
+use Rattle.marker_nodes.proofs.Descents.{held_kept}
+use Rattle.marker_nodes.proofs.Descents.{end_means}
+use Rattle.marker_nodes.proofs.Firsts.{first_none}
+
+module _ (Answers : List ℕ → Bool → Type 0) where
+  -- what is so stays so
+  pub granted_kept : (old new : List Node) (a t : NodeId) → Keeps markers old new → IsHeld old a → IsGranted old Answers a t → IsGranted new Answers a t
+  granted_kept old new a t k i h = record {
+    held = held_kept old new t k h.held;
+    means = λ granted fixed v. truth_still markers old new t v k h.held ∙ h.means granted fixed v ∙ sym (truth_still markers old new a (with_extras granted v) k i);
+    after = λ x p. after_still markers old new x t k h.held (h.after x (after_before markers old new x a k i p));
+  }
+
+  pub known_kept : (old new : List Node) (known : List (NodeId × NodeId)) → Keeps markers old new → AreKnown old Answers known → AreKnown new Answers known
+  known_kept old new known k w a t e = let h = w a t e in (held_kept old new a k h.0, granted_kept old new a t k h.0 h.1)
+
+  -- one id more is known
+  pub known_more : (nodes : List Node) (known more : List (NodeId × NodeId)) (a t : NodeId) → AreKnown nodes Answers known → IsHeld nodes a → IsGranted nodes Answers a t →
+      ((q : NodeId) → lookup (same_id q) more ≡ cond (same_id a q) (Some t) (lookup (same_id q) known)) → AreKnown nodes Answers more
+  known_more nodes known more a t w i h u b s e = by_test (same_id a b) refl (sym (u b) ∙ e)
+    where
+      by_test : (z : Bool) → same_id a b ≡ z → cond z (Some t) (lookup (same_id b) known) ≡ Some s → IsHeld nodes b × IsGranted nodes Answers b s
+      by_test true p f = subst (λ x. IsHeld nodes x × IsGranted nodes Answers x s) (same_id_is a b p) (i, subst (IsGranted nodes Answers a) (same_some t s f) h)
+      by_test false p f = w b s f
+
+  -- under a sign
+  pub granted_signed : (nodes : List Node) (s : Bool) (a t : NodeId) → IsGranted nodes Answers a t → IsGranted nodes Answers (signed_id s a) (signed_id s t)
+  granted_signed nodes s a t h = record {
+    held = h.held;
+    means = λ granted fixed v. truth_signed markers nodes s t v ∙ ap (signed s) (h.means granted fixed v) ∙ sym (truth_signed markers nodes s a (with_extras granted v));
+    after = h.after;
+  }
+
+  -- of an id, from that without its sign
+  pub granted_under : (nodes : List Node) (id plain t u : NodeId) → plain ≡ signed_id (is_negated id) id → u ≡ signed_id (is_negated id) t → IsGranted nodes Answers plain t → IsGranted nodes Answers id u
+  granted_under nodes id plain t u e f h =
+      subst (IsGranted nodes Answers id) (sym f)
+      (subst (λ x. IsGranted nodes Answers x (signed_id (is_negated id) t)) (ap (signed_id (is_negated id)) e ∙ signed_id_undone (is_negated id) id) (granted_signed nodes (is_negated id) plain t h))
+
+  -- an id without a node is what it is
+  pub granted_itself : (nodes : List Node) (t : NodeId) → IsHeld nodes t → None ≡ node_of nodes t → IsGranted nodes Answers t t
+  granted_itself nodes t i e = record { held = i; means = λ granted fixed v. end_means nodes t v e ∙ sym (end_means nodes t (with_extras granted v) e); after = λ x h. h }
+
+  pub granted_true : (nodes : List Node) (t : NodeId) → IsHeld nodes t → t ≡ TRUE → IsGranted nodes Answers t t
+  granted_true nodes t i e = granted_itself nodes t i (first_none nodes ∙ ap (node_of nodes) (sym e))
+
+  pub granted_false : (nodes : List Node) (t : NodeId) → IsHeld nodes t → t ≡ FALSE → IsGranted nodes Answers t t
+  granted_false nodes t i e = granted_itself nodes t i (first_none nodes ∙ ap (node_of nodes) (sym e))
+
+  pub nothing_known : (nodes : List Node) → AreKnown nodes Answers []
+  nothing_known nodes a t e = none_some t e
+
+  -- ---- answers to what a node asks
+  untouched_truth : (x : TruthVariable) (b : Bool) → Grants Answers x b → b ≡ false → (granted : List ℕ → Bool) → AnswersBy Answers granted → (v : Valuation) → answer x (with_extras granted v) ≡ answer x v
+  untouched_truth (In x s) b h e granted fixed v = refl
+  untouched_truth (Contains x s) b h e granted fixed v = refl
+  untouched_truth (Extra name) b h e granted fixed v = ap (λ z. z || v.extra name) (sym (fixed name b h) ∙ e)
+  untouched_truth (Arbitrary s) b h e granted fixed v = refl
+
+  high_answer : (x : TruthVariable) (high low : NodeId) (b : Bool) → Grants Answers x b → b ≡ true → (granted : List ℕ → Bool) → AnswersBy Answers granted → (v : Valuation) → pick (Truth x high low) (with_extras granted v) ≡ high
+  high_answer (In x s) high low b h e granted fixed v = absurd (false≢true (sym h ∙ e))
+  high_answer (Contains x s) high low b h e granted fixed v = absurd (false≢true (sym h ∙ e))
+  high_answer (Extra name) high low b h e granted fixed v = ap (λ z. cond (z || v.extra name) high low) (sym (fixed name b h) ∙ e)
+  high_answer (Arbitrary s) high low b h e granted fixed v = absurd (false≢true (sym h ∙ e))
+
+  pub version_untouched : (n : Node) (x : VersionVariable) (e : Cuts Parts NodeId _ _ _) → n ≡ Version x e → IsUntouched Answers n
+  version_untouched n x e is = subst (IsUntouched Answers) (sym is) (λ granted fixed v. refl)
+
+  pub text_untouched : (n : Node) (x : TextVariable) (e : Cuts (String Global) NodeId _ _ _) → n ≡ Text x e → IsUntouched Answers n
+  text_untouched n x e is = subst (IsUntouched Answers) (sym is) (λ granted fixed v. refl)
+
+  pub truth_untouched : (n : Node) (x : TruthVariable) (high low : NodeId) → n ≡ Truth x high low → (b : Bool) → Grants Answers x b → b ≡ false → IsUntouched Answers n
+  truth_untouched n x high low is b h e = subst (IsUntouched Answers) (sym is) (λ granted fixed v. ap (λ z. cond z high low) (untouched_truth x b h e granted fixed v))
+
+  pub truth_touched : (n : Node) (x : TruthVariable) (high low : NodeId) → n ≡ Truth x high low → (b : Bool) → Grants Answers x b → b ≡ true → IsTouched Answers n high
+  truth_touched n x high low is b h e = subst (λ m. IsTouched Answers m high) (sym is) (record { picks = high_answer x high low b h e; some = (lowest, high_picked x high low) })
+
+  -- ---- a list that grows
+  pub granted_more : (old new : List Node) (ids : List NodeId) (j : ℕ) (a t : NodeId) (made more : List NodeId) → Keeps markers old new → ((k : ℕ) (b : NodeId) → slice_get ids k ≡ Some b → IsHeld old b) → length made ≡ j →
+      slice_get ids j ≡ Some a → AreGranted old Answers ids made → IsGranted new Answers a t → more ≡ made ++ t ∷ [] → AreGranted new Answers ids more
+  granted_more old new ids j a t made more keeps held len at_j done last more_is k b s e h =
+      by_test (eqb k (length made)) refl (sym (get_last made t k) ∙ ap (λ xs. slice_get xs k) (sym more_is) ∙ h)
+    where
+      by_test : (z : Bool) → eqb k (length made) ≡ z → cond z (Some t) (slice_get made k) ≡ Some s → IsGranted new Answers b s
+      by_test true u w =
+          let same : a ≡ b = same_some a b (sym at_j ∙ ap (slice_get ids) (sym (eqb-true k (length made) u ∙ len)) ∙ e) in
+          subst (IsGranted new Answers b) (same_some t s w) (subst (λ x. IsGranted new Answers x t) same last)
+      by_test false u w = granted_kept old new b s keeps (held k b e) (done k b s e w)
+
+-- ---- a node, whose id has no sign
+module _ (old : List Node) (store : IsStore markers old) (t : NodeId) (held : IsHeld old t) (plain : is_negated t ≡ false) (x : Variable) (child : Valuation → NodeId) (has : HasChildren old t x child) where
+  pub child_below : (v : Valuation) → place_of (child v) < place_of t
+  child_below v = subst (λ s. place_of s < place_of t) (has.3 v) ((store.node (place_of t) has.0 has.1).below v)
+
+  pub child_held : (v : Valuation) → IsHeld old (child v)
+  child_held v = let h = child_below v in omega arith
+
+  child_after : (v : Valuation) → IsAfter markers old x (child v)
+  child_after v = subst (λ s. IsAfter markers old x s) (has.3 v) (subst (λ y. IsAfter markers old y (pick has.0 v)) has.2 ((store.node (place_of t) has.0 has.1).after v))
+
+  -- children stand below
+  pub are_under : (ids given : List NodeId) → given ≡ ids → ((i : ℕ) (u : NodeId) → slice_get ids i ≡ Some u → (v : Valuation) × (child v ≡ u)) → AreUnder old t given
+  are_under ids given e found i u f =
+      let q = found i u (ap (λ l. slice_get l i) (sym e) ∙ f) in
+      (subst (IsHeld old) q.1 (child_held q.0), subst (λ s. place_of s < place_of t) q.1 (child_below q.0))
+
+  -- a variable that stands before those of the id
+  before : (y : Variable) → IsAfter markers old y t → variable_cmp y x ≡ Less
+  before y p = subst (λ z. variable_cmp y z ≡ Less) has.2 (p has.0 has.1)
+
+  -- the id means what the child means that its node picks
+  plain_means : (v : Valuation) → truth markers old t v ≡ truth markers old (child v) v
+  plain_means v =
+      truth_child markers old t has.0 v (λ j m e. (store.node j m e).below) has.1 ∙ truth_signed markers old (is_negated t) (pick has.0 v) v ∙ ap (λ s. signed s (truth markers old (pick has.0 v) v)) plain
+      ∙ ap (λ c. truth markers old c v) (has.3 v)
+
+  module _ (Answers : List ℕ → Bool → Type 0) (new : List Node) (k : Keeps markers old new) where
+    -- where an extra is set true, what was made of the child where it is so
+    pub granted_high : (high : NodeId) → ((granted : List ℕ → Bool) → AnswersBy Answers granted → (v : Valuation) → child (with_extras granted v) ≡ high) → (w : Valuation) → child w ≡ high →
+        (r : Result NodeId AllocError) → IfOk r (IsGranted new Answers high) → IfOk r (IsGranted new Answers t)
+    granted_high high picks w is_high (Ok s) h = record {
+      held = h.held;
+      means = λ granted fixed v.
+          let u = with_extras granted v in
+          h.means granted fixed v ∙ truth_still markers old new high u k (subst (IsHeld old) is_high (child_held w)) ∙ ap (λ c. truth markers old c u) (sym (picks granted fixed v)) ∙ sym (plain_means u)
+          ∙ sym (truth_still markers old new t u k held);
+      after = λ y p. h.after y (after_still markers old new y high k (subst (IsHeld old) is_high (child_held w)) (λ m e.
+          variable_total.trans y x (variable m) (before y (after_before markers old new y t k held p)) (subst (IsAfter markers old x) is_high (child_after w) m e)));
+    }
+    granted_high high picks w is_high (Err z) h = h
+
+    module _ (made : Valuation → NodeId) (each : (v : Valuation) → IsGranted new Answers (child v) (made v)) where
+      -- what was made of the children may be the children of a node
+      pub granted_children : AreChildren markers new x made
+      granted_children = record {
+        held = λ v. (each v).held;
+        after = λ v. (each v).after x (after_still markers old new x (child v) k (child_held v) (child_after v));
+      }
+
+      -- and the choice among them is the id with extras set true
+      pub granted_placed : (last : List Node) → Keeps markers new last → ((granted : List ℕ → Bool) → AnswersBy Answers granted → (v : Valuation) → child (with_extras granted v) ≡ child v) →
+          (r : Result NodeId AllocError) → IfOk r (IsChoice markers last x made) → IfOk r (IsGranted last Answers t)
+      granted_placed last l same (Ok s) choice = record {
+        held = choice.held;
+        means = λ granted fixed v.
+            let u = with_extras granted v in
+            choice.means v ∙ truth_still markers new last (made v) v l ((each v).held) ∙ (each v).means granted fixed v ∙ truth_still markers old new (child v) u k (child_held v)
+            ∙ ap (λ c. truth markers old c u) (sym (same granted fixed v)) ∙ sym (plain_means u) ∙ sym (truth_still markers old new t u k held) ∙ sym (truth_still markers new last t u l (held_kept old new t k held));
+        after = λ y p. choice.after y (before y (after_before markers old new y t k held (after_before markers new last y t l (held_kept old new t k held) p)));
+      }
+      granted_placed last l same (Err z) choice = choice
+
+    -- the same where the children are listed, by an index
+    module _ (ids given made : List NodeId) (given_is : given ≡ ids) (len : length made ≡ length given) (done : AreGranted new Answers given made) (index : Valuation → ℕ)
+        (listed : (v : Valuation) → slice_get ids (index v) ≡ Some (child v)) where
+      each_granted : (v : Valuation) → IsGranted new Answers (child v) (child_at made (index v))
+      each_granted v =
+          let here : slice_get given (index v) ≡ Some (child v) = ap (λ l. slice_get l (index v)) given_is ∙ listed v in
+          let within : index v < length given = slice_get_within given (index v) (child v) here in
+          done (index v) (child v) (child_at made (index v)) here (slice_get-get_or made (index v) TRUE (omega arith))
+
+      pub listed_children : AreChildren markers new x (λ v. child_at made (index v))
+      listed_children = granted_children (λ v. child_at made (index v)) each_granted
+
+      pub listed_placed : (last : List Node) → Keeps markers new last → ((granted : List ℕ → Bool) → AnswersBy Answers granted → (v : Valuation) → child (with_extras granted v) ≡ child v) →
+          (r : Result NodeId AllocError) → IfOk r (IsChoice markers last x (λ v. child_at made (index v))) → IfOk r (IsGranted last Answers t)
+      listed_placed = granted_placed (λ v. child_at made (index v)) each_granted
+
+-- ---- ids below a parent, one after another
+pub next_under : (first now : List Node) (parent : NodeId) (ids : List NodeId) → AreUnder first parent ids → Keeps markers first now → (i : ℕ) → i < length ids → (d : NodeId) →
+    (place_of (get_or ids i d) < place_of parent) × IsHeld now (get_or ids i d)
+next_under first now parent ids under k i within d =
+    let h = under i (get_or ids i d) (slice_get-get_or ids i d within) in
+    (h.1, held_kept first now (get_or ids i d) k h.0)
+
+pub next_granted : (Answers : List ℕ → Bool → Type 0) (first now : List Node) (parent : NodeId) (ids : List NodeId) → AreUnder first parent ids → Keeps markers first now → (i : ℕ) → i < length ids → (d : NodeId) →
+    (new : List Node) (t : NodeId) (made more : List NodeId) → Keeps markers now new → length made ≡ i → AreGranted now Answers ids made → IsGranted new Answers (get_or ids i d) t → more ≡ made ++ t ∷ [] → AreGranted new Answers ids more
+next_granted Answers first now parent ids under k i within d new t made more keeps len done last more_is =
+    granted_more Answers now new ids i (get_or ids i d) t made more keeps (λ n b e. held_kept first now b k ((under n b e).0)) len (slice_get-get_or ids i d within) done last more_is
+
+-- a sign undoes itself
+pub without_sign : (id plain : NodeId) → plain ≡ signed_id (is_negated id) id → is_negated plain ≡ false
+without_sign id plain e = ap is_negated e ∙ by_sign (is_negated id)
+  where
+    by_sign : (s : Bool) → signed s s ≡ false
+    by_sign true = refl
+    by_sign false = refl
+
+-- ---- a clone of the id's node
+module _ (old : List Node) (store : IsStore markers old) (t : NodeId) (held : IsHeld old t) (plain : is_negated t ≡ false) (n : Node) (stands : Some n ≡ node_of old t) where
+  itself : HasChildren old t (variable n) (pick n)
+  itself = (n, sym stands, refl, λ v. refl)
+
+  pub touched_below : (Answers : List ℕ → Bool → Type 0) (child : NodeId) → IsTouched Answers n child → (place_of child < place_of t) × IsHeld old child
+  touched_below Answers child k =
+      let s = k.some in (
+        subst (λ u. place_of u < place_of t) s.1 (child_below old store t held plain (variable n) (pick n) itself s.0),
+        subst (IsHeld old) s.1 (child_held old store t held plain (variable n) (pick n) itself s.0),
+      )
+
+  pub touched_granted : (Answers : List ℕ → Bool → Type 0) (child : NodeId) → IsTouched Answers n child → (new : List Node) → Keeps markers old new → (r : Result NodeId AllocError) → IfOk r (IsGranted new Answers child) → IfOk r (IsGranted new Answers t)
+  touched_granted Answers child k new keeps = granted_high old store t held plain (variable n) (pick n) itself Answers new keeps child k.picks k.some.0 k.some.1
+
+  module _ (copy : Node) (cloned : (variable copy ≡ variable n) × ((v : Valuation) → pick copy v ≡ pick n v)) where
+    pub has_clone : HasChildren old t (variable copy) (pick copy)
+    has_clone = (n, sym stands, sym cloned.0, λ v. sym (cloned.1 v))
+
+    pub clone_untouched : (Answers : List ℕ → Bool → Type 0) → IsUntouched Answers n → IsUntouched Answers copy
+    clone_untouched Answers h granted fixed v = cloned.1 (with_extras granted v) ∙ h granted fixed v ∙ sym (cloned.1 v)

@@ -1,0 +1,4 @@
+pub mod RangeLaws
+pub mod TrimLaws
+pub mod Assumptions
+pub mod Grants

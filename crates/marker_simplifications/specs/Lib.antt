@@ -1,0 +1,3 @@
+pub mod Python
+pub mod Extras
+pub mod Simplified

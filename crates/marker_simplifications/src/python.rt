@@ -1,0 +1,197 @@
+//! Ids under a range of Python versions, which is taken for granted or asked for.
+
+ghost use Rattle.std.specs.Prelude.{◌≡◌, false, length, IfNone, IfOk, IfSome, Some, vec_len};
+ghost use Rattle.std.specs.Ordering.{is_eq};
+ghost use Rattle.std.specs.Range.Bound.{bound_map};
+ghost use Rattle.version_ranges.specs.Point.{Point};
+ghost use Rattle.version_ranges.specs.Clamp.{IsBetween, bound_of};
+ghost use Rattle.pep440_version.specs.Parts.{Parts};
+ghost use Rattle.pep440_version.specs.Order.{trimmed_parts, version_cmp};
+ghost use Rattle.marker_words.specs.declared.key.VersionVariable.TheVariants as versions;
+ghost use Rattle.marker_diagrams.specs.Diagram as diagram;
+ghost use Rattle.marker_diagrams.specs.Diagram.{node_of, Keeps};
+ghost use Rattle.marker_nodes.specs.Branches.{variable as asked_by};
+ghost use Rattle.marker_nodes.specs.declared.node.Branches.TheVariants as kinds;
+ghost use Rattle.marker_nodes.specs.Node.{Node, markers};
+ghost use Rattle.marker_nodes.specs.Variable.{of_version, variable_cmp};
+ghost use Rattle.marker_comparisons.specs.Expression.{IsTruthOf};
+ghost use Rattle.marker_simplifications.specs.Python.{is_python_in, is_whole};
+ghost use Rattle.marker_simplifications.specs.Simplified.{AreAssumed, AreFound, AreLater, IsAssumed};
+
+use marker_comparisons::asks_version;
+use marker_nodes::{Branches, NodeId, NodeTable};
+use marker_words::VersionVariable;
+use pep440_version::Version;
+use std::alloc::AllocError;
+use std::collections::HashMap;
+use std::ops::Bound;
+use version_ranges::{Cuts, Ranges};
+
+/// Whether a range leaves nothing out.
+pub fn is_unbounded(lower: Bound<&Version>, upper: Bound<&Version>) -> bool
+    ensures { result ≡ is_whole (bound_of lower.entry) (bound_of upper.entry) }
+{
+    match (lower, upper) {
+        (Bound::Unbounded, Bound::Unbounded) => true,
+        (Bound::Unbounded, Bound::Included(_)) => false,
+        (Bound::Unbounded, Bound::Excluded(_)) => false,
+        (Bound::Included(_), _) => false,
+        (Bound::Excluded(_), _) => false,
+    }
+}
+
+// The bound at the same version, without zeros at the end of its release.
+fn trimmed_bound(bound: Bound<&Version>) -> Result<Bound<Version>, AllocError>
+    ensures { IfOk result (λ r. r ≡ bound_map trimmed_parts (bound_of bound.entry)) }
+{
+    match bound {
+        Bound::Included(version) => Ok(Bound::Included(version.trimmed()?)),
+        Bound::Excluded(version) => Ok(Bound::Excluded(version.trimmed()?)),
+        Bound::Unbounded => Ok(Bound::Unbounded),
+    }
+}
+
+// The children of an id on the values of a version variable, before the id's sign, where its node asks about that.
+fn edges_at(
+    nodes: &NodeTable,
+    variable: VersionVariable,
+    id: NodeId,
+) -> Option<&Cuts<Version, NodeId>>
+    ensures found { IfSome result (λ edges. node_of nodes.now id
+        ≡ Some (kinds.Version variable edges.now)) }
+    ensures other { IfNone result ((n : Node) → node_of nodes.now id ≡ Some n
+        → is_eq (variable_cmp (of_version variable) (asked_by n)) ≡ false) }
+{
+    match nodes.node(id) {
+        Some(Branches::Version(asked, edges)) => {
+            if *asked == variable {
+                Some(edges)
+            } else {
+                None
+            }
+        }
+        Some(Branches::Text(_, _)) => None,
+        Some(Branches::Truth(_, _, _)) => None,
+        None => None,
+    }
+}
+
+/// The id that is true where the Python version lies between two bounds.
+///
+/// Only memory can run out. What the ids of the table mean stays, also then.
+pub fn python_range(
+    nodes: &mut NodeTable,
+    lower: Bound<&Version>,
+    upper: Bound<&Version>,
+) -> Result<NodeId, AllocError>
+    ensures kept { Keeps markers nodes.old nodes.new }
+    ensures rules { diagram.IsStore markers nodes.old → diagram.IsStore markers nodes.new }
+    ensures asks { IfOk result (IsTruthOf nodes.new (is_python_in (bound_of lower.entry) (bound_of upper.entry))) }
+{
+    let lower = trimmed_bound(lower)?;
+    let upper = trimmed_bound(upper)?;
+    let range = Ranges::from_range_bounds(nodes.allocator(), (lower, upper))?;
+    asks_version(nodes, VersionVariable::PythonFullVersion, &range)
+}
+
+/// The id where the Python version is taken to lie in a range that has a point.
+///
+/// Only memory can run out. What the ids of the table mean stays, also then.
+pub fn assumed(
+    nodes: &mut NodeTable,
+    id: NodeId,
+    lower: Bound<&Version>,
+    upper: Bound<&Version>,
+) -> Result<NodeId, AllocError>
+    requires rules { diagram.IsStore markers nodes.old }
+    requires held { diagram.IsHeld nodes.old id }
+    requires point { (p : Point Parts) × IsBetween version_cmp (bound_of lower) (bound_of upper) p }
+    ensures kept { Keeps markers nodes.old nodes.new }
+    ensures rules { diagram.IsStore markers nodes.new }
+    ensures assumed { IfOk result (IsAssumed nodes.new (bound_of lower.entry) (bound_of upper.entry) id) }
+{
+    let variable = VersionVariable::ImplementationVersion;
+    let Some(edges) = edges_at(nodes, variable, id) else {
+        return assumed_at_python(nodes, id, lower, upper);
+    };
+    let edges = edges.clone()?;
+    let branches = Branches::Version(variable, edges);
+    let children = branches.values(nodes.allocator())?;
+    let children = assumed_all(nodes, &children, lower, upper)?;
+    let placed = nodes.place(branches, children)?;
+    Ok(placed.negate(id))
+}
+
+// The same of an id that asks about no variable before the Python version.
+fn assumed_at_python(
+    nodes: &mut NodeTable,
+    id: NodeId,
+    lower: Bound<&Version>,
+    upper: Bound<&Version>,
+) -> Result<NodeId, AllocError>
+    requires rules { diagram.IsStore markers nodes.old }
+    requires held { diagram.IsHeld nodes.old id }
+    requires after { diagram.IsAfter markers nodes.old (of_version versions.ImplementationVersion) id }
+    requires point { (p : Point Parts) × IsBetween version_cmp (bound_of lower) (bound_of upper) p }
+    ensures kept { Keeps markers nodes.old nodes.new }
+    ensures rules { diagram.IsStore markers nodes.new }
+    ensures assumed { IfOk result (IsAssumed nodes.new (bound_of lower.entry) (bound_of upper.entry) id) }
+{
+    let variable = VersionVariable::PythonFullVersion;
+    let Some(edges) = edges_at(nodes, variable, id) else {
+        return Ok(id);
+    };
+    let edges = edges.clamped(nodes.allocator(), lower, upper)?;
+    let placed = nodes.place_node(Branches::Version(variable, edges))?;
+    Ok(placed.negate(id))
+}
+
+// The same of each child of an id on the implementation's versions, each once.
+fn assumed_all(
+    nodes: &mut NodeTable,
+    children: &[NodeId],
+    lower: Bound<&Version>,
+    upper: Bound<&Version>,
+) -> Result<Vec<NodeId>, AllocError>
+    requires rules { diagram.IsStore markers nodes.old }
+    requires children { AreLater nodes.old (of_version versions.ImplementationVersion) children.now }
+    requires point { (p : Point Parts) × IsBetween version_cmp (bound_of lower) (bound_of upper) p }
+    ensures kept { Keeps markers nodes.old nodes.new }
+    ensures rules { diagram.IsStore markers nodes.new }
+    ensures count { IfOk result (λ r. vec_len r ≡ length children.now) }
+    ensures assumed { IfOk result (λ r. AreAssumed nodes.new (bound_of lower.entry) (bound_of upper.entry) children.now r.items) }
+{
+    let mut known = HashMap::new(nodes.allocator());
+    let mut made = Vec::with_capacity(nodes.allocator(), children.len())?;
+    for child in children {
+        let id = assumed_once(nodes, &mut known, *child, lower, upper)?;
+        made.push(id)?;
+    }
+    Ok(made)
+}
+
+// The same of one id, which is known then.
+fn assumed_once(
+    nodes: &mut NodeTable,
+    known: &mut HashMap<NodeId, NodeId>,
+    id: NodeId,
+    lower: Bound<&Version>,
+    upper: Bound<&Version>,
+) -> Result<NodeId, AllocError>
+    requires rules { diagram.IsStore markers nodes.old }
+    requires held { diagram.IsHeld nodes.old id }
+    requires after { diagram.IsAfter markers nodes.old (of_version versions.ImplementationVersion) id }
+    requires point { (p : Point Parts) × IsBetween version_cmp (bound_of lower) (bound_of upper) p }
+    requires known { AreFound nodes.old (bound_of lower) (bound_of upper) known.old.entries }
+    ensures kept { Keeps markers nodes.old nodes.new }
+    ensures rules { diagram.IsStore markers nodes.new }
+    ensures assumed { IfOk result (IsAssumed nodes.new (bound_of lower.entry) (bound_of upper.entry) id) }
+    ensures known { AreFound nodes.new (bound_of lower.entry) (bound_of upper.entry) known.new.entries }
+{
+    if let Some(found) = known.get(&id) {
+        return Ok(*found);
+    }
+    let made = assumed_at_python(nodes, id, lower, upper)?;
+    known.insert(id, made)?;
+    Ok(made)
+}

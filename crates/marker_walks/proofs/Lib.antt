@@ -1,0 +1,3 @@
+pub mod Disjoints
+pub mod PossibleLaws
+pub mod ReportLaws

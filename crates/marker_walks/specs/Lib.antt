@@ -1,0 +1,3 @@
+pub mod Disjoint
+pub mod Possible
+pub mod Report

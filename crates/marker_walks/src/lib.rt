@@ -1,0 +1,15 @@
+//! Walks over the nodes of a table that only read: evaluation, with reports and without, what is possible, and whether
+//! two ids are true together.
+#![tactic(auto)]
+
+mod child;
+mod disjoint;
+mod evaluation;
+mod possible;
+mod report;
+
+pub use child::is_listed;
+pub use disjoint::are_disjoint;
+pub use evaluation::evaluate;
+pub use possible::is_possible;
+pub use report::evaluate_and_report;

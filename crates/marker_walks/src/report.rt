@@ -1,0 +1,150 @@
+//! Evaluation that tells of comparisons of texts by their order.
+
+ghost use Rattle.std.specs.Prelude.{◌≡◌, [], IfOk, OnErr, OnOk, string_bytes};
+ghost use Rattle.std.specs.Range.Bound.{bound_map};
+ghost use Rattle.version_ranges.specs.Clamp.{bound_of};
+ghost use Rattle.version_ranges.specs.Parts.{part_of};
+ghost use Rattle.version_ranges.specs.Point.{at, is_until};
+ghost use Rattle.marker_environment.specs.Environment.{valuation_of, values_of};
+ghost use Rattle.marker_diagrams.specs.Id.{place_of};
+ghost use Rattle.marker_diagrams.specs.Diagram as diagram;
+ghost use Rattle.marker_nodes.specs.Branches.{text_cmp};
+ghost use Rattle.marker_nodes.specs.Node.{markers};
+ghost use Rattle.marker_walks.specs.Report.{AddsComparisons, AddsComparisonsUpTo, bound_count, is_single, node_comparisons, order_comparisons, path_comparisons, piece_comparisons};
+
+use crate::child::child_in;
+use marker_environment::MarkerEnvironment;
+use marker_nodes::{Branches, Node, NodeId, NodeTable};
+use marker_warnings::{MarkerWarningKind, Reporter};
+use pep508_names::ExtraName;
+use std::alloc::{AllocError, Global};
+use std::ops::Bound;
+use version_ranges::{Cuts, Piece};
+
+/// Answers as `evaluate` does, and tells the reporter of each bound by whose order the value of a text key was compared.
+///
+/// Only memory can run out, here or at the reporter. What was told until then stays told.
+pub fn evaluate_and_report<R: Reporter>(
+    nodes: &NodeTable,
+    id: NodeId,
+    environment: &MarkerEnvironment,
+    extras: &[ExtraName],
+    reporter: &mut R,
+) -> Result<bool, AllocError>
+    requires rules { diagram.IsStore markers nodes.now }
+    requires this { diagram.IsHeld nodes.now id }
+    requires can_report { R.can_report reporter.old }
+    ensures answer { IfOk result (λ b. b ≡ diagram.truth markers nodes.now id (valuation_of (values_of environment.now) extras.now)) }
+    ensures told { OnOk result (AddsComparisons (path_comparisons nodes.now (place_of id) (valuation_of (values_of environment.now) extras.now)) (R.kinds reporter.old) (R.kinds reporter.new)) }
+    ensures refused { OnErr result (AddsComparisonsUpTo (path_comparisons nodes.now (place_of id) (valuation_of (values_of environment.now) extras.now)) (R.kinds reporter.old) (R.kinds reporter.new)) }
+    ensures again { R.can_report reporter.new }
+{
+    let mut at = id;
+    while let Some(node) = nodes.node(at) {
+        report_node(nodes.allocator(), node, environment, reporter)?;
+        at = child_in(node, environment, extras).negate(at);
+    }
+    Ok(!at.is_complement())
+}
+
+// Tells of the comparisons of a node that asks for a text.
+fn report_node<R: Reporter>(
+    alloc: Global,
+    node: &Node,
+    environment: &MarkerEnvironment,
+    reporter: &mut R,
+) -> Result<(), AllocError>
+    requires { R.can_report reporter.old }
+    ensures told { OnOk result (AddsComparisons (node_comparisons node.now (valuation_of (values_of environment.now) []).text) (R.kinds reporter.old) (R.kinds reporter.new)) }
+    ensures refused { OnErr result (AddsComparisonsUpTo (node_comparisons node.now (valuation_of (values_of environment.now) []).text) (R.kinds reporter.old) (R.kinds reporter.new)) }
+    ensures again { R.can_report reporter.new }
+{
+    match node {
+        Branches::Text(variable, edges) => {
+            report_order(alloc, environment.text(*variable), edges, reporter)
+        }
+        Branches::Version(_, _) | Branches::Truth(_, _, _) => Ok(()),
+    }
+}
+
+// Tells of the bounds of the pieces up to that of the text.
+fn report_order<R: Reporter>(
+    alloc: Global,
+    text: &str,
+    edges: &Cuts<String, NodeId>,
+    reporter: &mut R,
+) -> Result<(), AllocError>
+    requires { R.can_report reporter.old }
+    ensures told { OnOk result (AddsComparisons (order_comparisons edges.now (at text.now)) (R.kinds reporter.old) (R.kinds reporter.new)) }
+    ensures refused { OnErr result (AddsComparisonsUpTo (order_comparisons edges.now (at text.now)) (R.kinds reporter.old) (R.kinds reporter.new)) }
+    ensures again { R.can_report reporter.new }
+{
+    for piece in edges.pieces() {
+        report_piece(alloc, text, &piece, reporter)?;
+        if is_up_to(text, piece.upper) {
+            return Ok(());
+        }
+    }
+    Ok(())
+}
+
+// Tells of the bounds of a piece, but not of those of a single value.
+fn report_piece<R: Reporter>(
+    alloc: Global,
+    text: &str,
+    piece: &Piece<'_, String, NodeId>,
+    reporter: &mut R,
+) -> Result<(), AllocError>
+    requires { R.can_report reporter.old }
+    ensures told { OnOk result (AddsComparisons (piece_comparisons (part_of piece.now)) (R.kinds reporter.old) (R.kinds reporter.new)) }
+    ensures refused { OnErr result (AddsComparisonsUpTo (piece_comparisons (part_of piece.now)) (R.kinds reporter.old) (R.kinds reporter.new)) }
+    ensures again { R.can_report reporter.new }
+{
+    if is_single(piece) {
+        return Ok(());
+    }
+    report_bound(alloc, text, piece.lower, reporter)?;
+    report_bound(alloc, text, piece.upper, reporter)
+}
+
+// Tells that a text was compared with a bound.
+fn report_bound<R: Reporter>(
+    alloc: Global,
+    text: &str,
+    bound: Bound<&String>,
+    reporter: &mut R,
+) -> Result<(), AllocError>
+    requires { R.can_report reporter.old }
+    ensures told { OnOk result (AddsComparisons (bound_count (bound_of bound.entry)) (R.kinds reporter.old) (R.kinds reporter.new)) }
+    ensures refused { OnErr result (AddsComparisonsUpTo (bound_count (bound_of bound.entry)) (R.kinds reporter.old) (R.kinds reporter.new)) }
+    ensures again { R.can_report reporter.new }
+{
+    match bound {
+        Bound::Included(value) | Bound::Excluded(value) => {
+            let warning = format!(in alloc; "Comparing {text} and {value} lexicographically")?;
+            reporter.report(MarkerWarningKind::LexicographicComparison, warning)
+        }
+        Bound::Unbounded => Ok(()),
+    }
+}
+
+// Whether the piece is one text alone.
+fn is_single(piece: &Piece<'_, String, NodeId>) -> bool
+    ensures { result ≡ is_single (bound_of piece.now.lower) (bound_of piece.now.upper) }
+{
+    match (piece.lower, piece.upper) {
+        (Bound::Included(first), Bound::Included(last)) => *first == *last,
+        _ => false,
+    }
+}
+
+// Whether a text is not past an upper bound.
+fn is_up_to(text: &str, upper: Bound<&String>) -> bool
+    ensures { result ≡ is_until text_cmp (bound_map string_bytes (bound_of upper.entry)) (at text.now) }
+{
+    match upper {
+        Bound::Included(bound) => text <= bound.as_str(),
+        Bound::Excluded(bound) => text < bound.as_str(),
+        Bound::Unbounded => true,
+    }
+}
