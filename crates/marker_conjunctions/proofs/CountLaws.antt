@@ -107,7 +107,7 @@ fewer_at old new at k ks h n y ih false f g =
     let b : cond (is_some (lookup (same_pair k) new)) 0 1 ≤ cond (is_some (lookup (same_pair k) old)) 0 1 = one_less (is_some (lookup (same_pair k) old)) (is_some (lookup (same_pair k) new)) (h k) in
     omega arith
 
-fewer_by : (old new : Memo) (at : NodeId × NodeId) (pairs : List (NodeId × NodeId)) → Grows old new → is_some (lookup (same_pair at) old) ≡ false → is_some (lookup (same_pair at) new) ≡ true →
+pub fewer_by : (old new : Memo) (at : NodeId × NodeId) (pairs : List (NodeId × NodeId)) → Grows old new → is_some (lookup (same_pair at) old) ≡ false → is_some (lookup (same_pair at) new) ≡ true →
     list_any (same_pair at) pairs ≡ true → unknown pairs new + 1 ≤ unknown pairs old
 fewer_by old new at [] h n y e = absurd (false≢true e)
 fewer_by old new at (k ∷ ks) h n y e = fewer_at old new at k ks h n y (fewer_by old new at ks h n y) (same_pair at k) refl e
@@ -147,7 +147,7 @@ spends_more c d e a b t s n u x y = record {
 cross : NodeId → List NodeId → List (NodeId × NodeId)
 cross a bs = map (λ b. (a, b)) bs
 
-all_pairs : List NodeId → List NodeId → List (NodeId × NodeId)
+pub all_pairs : List NodeId → List NodeId → List (NodeId × NodeId)
 all_pairs [] bs = []
 all_pairs (a ∷ rest) bs = cross a bs ++ all_pairs rest bs
 
@@ -174,7 +174,7 @@ cross_has x y (b ∷ bs) e = by_test (same_id y b) (list_any (same_id y) bs) e (
 any_both : {X : Type 0} (p : X → Bool) (xs ys : List X) → (list_any p xs || list_any p ys) ≡ true → list_any p (xs ++ ys) ≡ true
 any_both p xs ys e = list_any-append p xs ys ∙ e
 
-pairs_have : (x y : NodeId) (xs bs : List NodeId) → list_any (same_id x) xs ≡ true → list_any (same_id y) bs ≡ true → list_any (same_pair (x, y)) (all_pairs xs bs) ≡ true
+pub pairs_have : (x y : NodeId) (xs bs : List NodeId) → list_any (same_id x) xs ≡ true → list_any (same_id y) bs ≡ true → list_any (same_pair (x, y)) (all_pairs xs bs) ≡ true
 unfolding all_pairs
 pairs_have x y [] bs e f = absurd (false≢true e)
 pairs_have x y (a ∷ rest) bs e f = any_both (same_pair (x, y)) (cross a bs) (all_pairs rest bs) (by_test (same_id x a) refl e (λ g. pairs_have x y rest bs g f))
