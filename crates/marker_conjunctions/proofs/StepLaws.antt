@@ -341,3 +341,14 @@ pub not_open : (memo : Memo) (a b : NodeId) (pairs : List (NodeId × NodeId)) �
     l ≡ signed_id (is_negated a) (get_or pairs i d).0 → r ≡ signed_id (is_negated b) (get_or pairs i d).1 → IsOpen memo (l, r) → ⊥
 not_open memo a b pairs settled i within d l r l_is r_is h =
     h.unsettled (subst (λ (x : NodeId). IsSettled memo (x, r)) (sym l_is) (subst (λ (y : NodeId). IsSettled memo (signed_id (is_negated a) (get_or pairs i d).0, y)) (sym r_is) (settled i (get_or pairs i d) (slice_get-get_or pairs i d within))))
+
+-- ---- one round: down to a pair that waits for nothing, whose conjunction is then computed
+module _ (c d e : Contents) (k : IsKept c d) (w : IsWellKept c) (a b : NodeId) (next p : NodeId × NodeId) (h : IsPair c.nodes a b next) (g : IsPair d.nodes next.0 next.1 p) where
+  lowest : IsPair c.nodes a b p
+  lowest = below_pair c d k w a b next h p g
+
+  pub round_spends : Spends c d (place_of a + place_of b + 1) a b → Spends d e (place_of p.0 + place_of p.1 + 1) p.0 p.1 → Spends c e (place_of a + place_of b + 1) a b
+  round_spends = step_spends c d k w a b p lowest e
+
+  pub round_fewer : Remembers d.memo e.memo → IsOpen d.memo p → IsKnown e.memo p → open_pairs c.nodes e.memo < open_pairs c.nodes d.memo
+  round_fewer = fewer_open c.nodes d.memo e.memo p lowest.left_held lowest.right_held

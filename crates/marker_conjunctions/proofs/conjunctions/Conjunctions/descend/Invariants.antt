@@ -5,9 +5,9 @@ use Rattle.marker_conjunctions.proofs.conjunctions.Conjunctions.descend.Given as
 
 abbrev pub invariant-loop-wanted : goal.invariant-loop-wanted
 invariant-loop-wanted l = record {
-  pair : IsPair l.nodes l.first.0 l.first.1 l.pair;
+  pair : IsPair l.nodes l.fn.first.0 l.fn.first.1 l.pair;
   unsettled : IsOpen l.self.memo.entries l.pair;
-  waits : Waits l.nodes l.first.0 l.first.1 l.initial.pending.items l.pending.items;
+  waits : Waits l.nodes l.fn.first.0 l.fn.first.1 l.initial.pending.items l.pending.items;
 }
 
 abbrev pub decreases-loop-wanted : goal.decreases-loop-wanted
