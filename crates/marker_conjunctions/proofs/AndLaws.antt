@@ -12,7 +12,6 @@ use Rattle.marker_diagrams.specs.declared.node_id.NodeId.{NodeId}
 use Rattle.marker_diagrams.specs.declared.node_id.TheConstants.NodeId.{TRUE}
 use Rattle.marker_diagrams.specs.Id.{place_of, is_negated, signed_id, same_id}
 use Rattle.marker_diagrams.specs.Diagram.{IsAfter, IsHeld, IsStore, Keeps, IsChoice, AreChildren, truth}
-use Rattle.marker_diagrams.specs.Residue.{IsSubtree}
 use Rattle.marker_diagrams.proofs.IdLaws.{same_id_is}
 use Rattle.marker_diagrams.proofs.KeyLaws.{get_last}
 use Rattle.marker_diagrams.proofs.NodeLaws.{same_some, keeps_both, truth_still, after_still, after_before}

@@ -1,22 +1,18 @@
 -- How many conjunctions a conjunction makes known.
-use Rattle.std.proofs.Common.{◌≡◌, ℕ, zero, suc, ◌+◌, ◌*◌, ◌<◌, ◌≤◌, Bool, true, false, cond, ◌==◌, ◌&&◌, ◌||◌, inl, inr, List, [], ◌∷◌, ◌++◌, length, map, get_or, Option, Some, None, is_some, refl, sym, ap, ◌∙◌, subst, arith}
-use Rattle.std.specs.Prelude.{slice_get}
+use Rattle.std.proofs.Common.{◌≡◌, ℕ, suc, ◌+◌, ◌*◌, ◌<◌, ◌≤◌, Bool, true, false, cond, ◌&&◌, ◌||◌, List, [], ◌∷◌, ◌++◌, length, map, get_or, Option, Some, None, is_some, refl, sym, ap, ◌∙◌, subst, arith}
 use Rattle.std.specs.List.{list_any}
 use Rattle.std.specs.Map.{lookup}
-use Rattle.std.specs.Option.{option_map}
-use Rattle.std.proofs.lemmas.Bool.{true≢false, false≢true, and_parts, and_from, eqb-true, eqb-false}
-use Rattle.std.proofs.lemmas.List.{length-append, length-map}
+use Rattle.std.proofs.lemmas.Bool.{true≢false, false≢true, and_parts, and_from}
+use Rattle.std.proofs.lemmas.List.{length-append}
 use Rattle.std.proofs.lemmas.List.Folds.{list_any-append}
-use Rattle.std.proofs.lemmas.Option.{slice_get-get_or, slice_get-map}
+use Rattle.std.proofs.lemmas.Option.{slice_get-get_or}
 use Rattle.marker_diagrams.specs.declared.node_id.NodeId.{NodeId}
-use Rattle.marker_diagrams.specs.declared.node_id.TheConstants.NodeId.{TRUE, FALSE}
-use Rattle.marker_diagrams.specs.Id.{place_of, is_negated, opposite, signed_id, same_id}
+use Rattle.marker_diagrams.specs.Id.{place_of, is_negated, signed_id, same_id}
 use Rattle.marker_diagrams.specs.Diagram.{IsHeld}
-use Rattle.marker_diagrams.specs.Residue.{IsSubtree, itself, child}
-use Rattle.marker_diagrams.proofs.IdLaws.{same_id_is, same_id_itself, not_same_id, one_id, signed_id_undone, signed_id_twice}
-use Rattle.marker_diagrams.proofs.NodeLaws.{Descends, same_some, none_some, keeps_itself}
+use Rattle.marker_diagrams.specs.Residue.{IsSubtree, itself}
+use Rattle.marker_diagrams.proofs.IdLaws.{same_id_is, same_id_itself}
+use Rattle.marker_diagrams.proofs.NodeLaws.{Descends}
 use Rattle.marker_diagrams.proofs.ResidueLaws.{subtree_both, subtree_kept}
-use Rattle.marker_nodes.specs.Branches.{value_at as pick}
 use Rattle.marker_nodes.specs.Node.{Node, markers}
 use Rattle.marker_conjunctions.specs.Contents.{Contents, IsKept, IsWellKept, same_pair}
 use Rattle.marker_conjunctions.specs.Branch.{AreBelow}

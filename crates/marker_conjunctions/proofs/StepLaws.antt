@@ -1,5 +1,5 @@
 -- Steps of a conjunction: which pairs are still to be computed, and which wait for which.
-use Rattle.std.proofs.Common.{◌≡◌, ℕ, zero, suc, ◌+◌, ◌<◌, ◌≤◌, Bool, true, false, cond, ◌==◌, ◌&&◌, ◌||◌, List, [], ◌∷◌, ◌++◌, length, get_or, Option, Some, None, is_some, ◌⊎◌, inl, inr, refl, sym, ap, ◌∙◌, subst, arith, append_assoc}
+use Rattle.std.proofs.Common.{◌≡◌, ℕ, zero, suc, ◌+◌, ◌<◌, ◌≤◌, Bool, true, false, cond, ◌==◌, List, [], ◌∷◌, ◌++◌, length, get_or, Option, Some, None, is_some, inl, inr, refl, sym, ap, ◌∙◌, subst, arith, append_assoc}
 use Rattle.std.specs.Prelude.{slice_get, IfNone, IfSome}
 use Rattle.std.specs.List.{list_any}
 use Rattle.std.specs.Map.{lookup}
@@ -11,13 +11,13 @@ use Rattle.std.proofs.lemmas.List.{length-append, append-nil}
 use Rattle.marker_environment.specs.Valuation.{Valuation}
 use Rattle.marker_diagrams.specs.declared.node_id.NodeId.{NodeId}
 use Rattle.marker_diagrams.specs.Id.{place_of, is_negated, signed_id, same_id}
-use Rattle.marker_diagrams.specs.Diagram.{node_of, IsHeld, IsStore, Keeps}
+use Rattle.marker_diagrams.specs.Diagram.{IsHeld, IsStore, Keeps}
 use Rattle.marker_diagrams.specs.Residue.{IsSubtree, itself, child}
 use Rattle.marker_diagrams.proofs.IdLaws.{same_id_itself, one_id}
 use Rattle.marker_diagrams.proofs.NodeLaws.{Descends, same_some, none_some, keeps_itself}
 use Rattle.marker_diagrams.proofs.ResidueLaws.{subtree_both, subtree_kept}
 use Rattle.marker_nodes.specs.Variable.{Variable, variable_cmp}
-use Rattle.marker_nodes.specs.Branches.{variable, value_at as pick}
+use Rattle.marker_nodes.specs.Branches.{value_at as pick}
 use Rattle.marker_nodes.specs.Node.{Node, markers}
 use Rattle.marker_nodes.specs.And.{IsAnd, IsShort}
 use Rattle.marker_nodes.specs.Pairs.{AreSideBySide}
@@ -27,10 +27,10 @@ use Rattle.marker_nodes.proofs.Descents.{held_kept}
 use Rattle.marker_nodes.proofs.VariableLaws.{variable_total, one_variable}
 use Rattle.marker_conjunctions.specs.Contents.{Contents, IsKept, IsWellKept, same_pair}
 use Rattle.marker_conjunctions.specs.Count.{Spends, unknown}
-use Rattle.marker_conjunctions.specs.Step.{Memo, IsKnown, IsSettled, Remembers, IsOpen, IsPair, ArePairs, IsWanted, AreWanted, HasChildren, IsDue, Waits, AreSettled}
+use Rattle.marker_conjunctions.specs.Step.{Memo, IsKnown, IsSettled, Remembers, IsOpen, IsPair, ArePairs, IsWanted, AreWanted, HasChildren, Waits, AreSettled}
 use Rattle.std.proofs.lemmas.Option.{slice_get-get_or}
 use Rattle.marker_conjunctions.proofs.AndLaws.{known_is}
-use Rattle.marker_conjunctions.proofs.CountLaws.{or_left, or_right, descends_of, spends_both, spends_more, all_pairs, pairs_have, fewer_by}
+use Rattle.marker_conjunctions.proofs.CountLaws.{or_left, or_right, descends_of, spends_both, all_pairs, pairs_have, fewer_by}
 
 -- ---- what is known
 pub open_none : (memo : Memo) (p : NodeId × NodeId) → IsOpen memo p → lookup (same_pair p) memo ≡ None
@@ -295,7 +295,7 @@ pub fewer_open : (nodes : List Node) (old new : Memo) (p : NodeId × NodeId) →
 unfolding open_pairs
 fewer_open nodes old new p i j r h g =
     let f = fewer_by old new p (all_pairs (all_ids (length nodes)) (all_ids (length nodes))) r (ap is_some (open_none old p h)) g
-        (pairs_have p.0 p.1 (all_ids (length nodes)) (all_ids (length nodes)) (id_listed (length nodes) p.0 i) (id_listed (length nodes) p.1 j)) in
+    (pairs_have p.0 p.1 (all_ids (length nodes)) (all_ids (length nodes)) (id_listed (length nodes) p.0 i) (id_listed (length nodes) p.1 j)) in
     omega arith
 
 -- ---- one step of many

@@ -49,12 +49,7 @@ impl Conjunctions {
     /// negation of the other.
     ///
     /// Pairs that wait for those of their children stand in a list, so that depth costs memory and no stack.
-    pub fn and(
-        &mut self,
-        nodes: &mut NodeTable,
-        a: NodeId,
-        b: NodeId,
-    ) -> Result<NodeId, AllocError>
+    pub fn and(&mut self, nodes: &mut NodeTable, a: NodeId, b: NodeId) -> Result<NodeId, AllocError>
         requires rules { IsWellKept (contents nodes.old self.old) }
         requires a { IsHeld nodes.old a }
         requires b { IsHeld nodes.old b }
@@ -176,12 +171,7 @@ impl Conjunctions {
     }
 
     // Makes the conjunction of two ids known. Those of their children are.
-    fn compute(
-        &mut self,
-        nodes: &mut NodeTable,
-        a: NodeId,
-        b: NodeId,
-    ) -> Result<(), AllocError>
+    fn compute(&mut self, nodes: &mut NodeTable, a: NodeId, b: NodeId) -> Result<(), AllocError>
         requires rules { IsWellKept (contents nodes.old self.old) }
         requires a { IsHeld nodes.old a }
         requires b { IsHeld nodes.old b }

@@ -30,8 +30,8 @@ loop-pending-smaller-in-Some-next_open c =
 pub loop-pending-preserved-in-Some-next_open : goal.loop-pending-preserved-in-Some-next_open
 loop-pending-preserved-in-Some-next_open c =
     let waiting =
-        waiting_pairs (contents c.args.nodes.now c.args.self.now) (contents c.loop-pending.nodes c.loop-pending.self) c.loop-pending.invariant.kept c.requires.rules c.args.a c.args.b c.loop-pending.next c.loop-pending.invariant.pair
-        c.loop-pending.pending.items c.descend.new.pending.items c.loop-pending.invariant.pairs c.in_ok-left.ensures.waits in
+    waiting_pairs (contents c.args.nodes.now c.args.self.now) (contents c.loop-pending.nodes c.loop-pending.self) c.loop-pending.invariant.kept c.requires.rules c.args.a c.args.b c.loop-pending.next c.loop-pending.invariant.pair
+    c.loop-pending.pending.items c.descend.new.pending.items c.loop-pending.invariant.pairs c.in_ok-left.ensures.waits in
     let left = c.in-Some-next_open.ensures.pairs c.args.nodes.now c.args.a c.args.b waiting in
     record {
       rules = c.in_ok-compute.ensures.rules;
@@ -57,8 +57,8 @@ loop-pending-smaller c =
 pub loop-pending-preserved : goal.loop-pending-preserved
 loop-pending-preserved c =
     let waiting =
-        waiting_pairs (contents c.args.nodes.now c.args.self.now) (contents c.loop-pending.nodes c.loop-pending.self) c.loop-pending.invariant.kept c.requires.rules c.args.a c.args.b c.loop-pending.next c.loop-pending.invariant.pair
-        c.loop-pending.pending.items c.descend.new.pending.items c.loop-pending.invariant.pairs c.in_ok-left.ensures.waits in
+    waiting_pairs (contents c.args.nodes.now c.args.self.now) (contents c.loop-pending.nodes c.loop-pending.self) c.loop-pending.invariant.kept c.requires.rules c.args.a c.args.b c.loop-pending.next c.loop-pending.invariant.pair
+    c.loop-pending.pending.items c.descend.new.pending.items c.loop-pending.invariant.pairs c.in_ok-left.ensures.waits in
     record {
       rules = c.in_ok-compute.ensures.rules;
       kept = keeps_both markers c.args.nodes.now c.loop-pending.nodes c.compute.new.nodes c.loop-pending.invariant.kept c.in_ok-compute.ensures.kept;

@@ -14,7 +14,7 @@ pub loop-i-preserved : goal.loop-i-preserved
 loop-i-preserved c =
     let keeps = keeps_itself markers c.args.nodes.now in
     let held =
-        next_below c.args.nodes.now c.args.nodes.now c.args.a c.args.b c.args.pairs.now c.requires.below keeps c.loop-i.i c.loop-i-test.true _ c.negate.result c.negate-in-loop-i.result c.negate.ensures c.negate-in-loop-i.ensures in
+    next_below c.args.nodes.now c.args.nodes.now c.args.a c.args.b c.args.pairs.now c.requires.below keeps c.loop-i.i c.loop-i-test.true _ c.negate.result c.negate-in-loop-i.result c.negate.ensures c.negate-in-loop-i.ensures in
     record {
       len = omega (arith, c.loop-i.invariant.len, c.in_ok-push-in-Some.ensures.len);
       done = next_ands c.args.nodes.now c.args.nodes.now c.args.a c.args.b c.args.pairs.now c.requires.below keeps c.loop-i.i c.loop-i-test.true _ c.negate.result c.negate-in-loop-i.result c.negate.ensures c.negate-in-loop-i.ensures

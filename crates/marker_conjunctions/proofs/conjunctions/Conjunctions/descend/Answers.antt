@@ -37,8 +37,8 @@ pub loop-wanted-preserved : goal.loop-wanted-preserved
 loop-wanted-preserved c =
     let descends = descends_of (contents c.args.nodes.now c.args.self.now) c.requires.rules in
     let next =
-        next_wanted c.args.nodes.now c.args.self.now.memo.entries descends c.args.first.0 c.args.first.1 c.loop-wanted.pair c.loop-wanted.invariant.pair c.in_ok-wanted.wanted.items c.pop.new.self.items c.in-Some.next
-        c.in_ok-wanted.ensures.wanted c.in-Some.ensures.items in
+    next_wanted c.args.nodes.now c.args.self.now.memo.entries descends c.args.first.0 c.args.first.1 c.loop-wanted.pair c.loop-wanted.invariant.pair c.in_ok-wanted.wanted.items c.pop.new.self.items c.in-Some.next
+    c.in_ok-wanted.ensures.wanted c.in-Some.ensures.items in
     record {
       pair = next.0;
       unsettled = next.1.0;

@@ -1,4 +1,4 @@
-use Rattle.std.proofs.Common.{sym, ◌∙◌}
+use Rattle.std.proofs.Common.{◌∙◌}
 use Rattle.marker_conjunctions.proofs.StepLaws.{looked_up, found_settled, missing_open}
 use Rattle.marker_conjunctions.proofs.conjunctions.Conjunctions.known.Goals as goal
 

@@ -1,4 +1,4 @@
-use Rattle.std.proofs.Common.{List, length}
+use Rattle.std.proofs.Common.{List}
 use Rattle.marker_diagrams.specs.declared.node_id.NodeId.{NodeId}
 use Rattle.marker_nodes.specs.Node.{Node}
 use Rattle.marker_conjunctions.specs.Step.{ArePairs}
