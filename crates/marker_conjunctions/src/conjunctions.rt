@@ -67,8 +67,8 @@ impl Conjunctions {
         ensures settled { OnOk result (IsSettled self.new.memo.entries (a, b)) }
         ensures remembers { Remembers self.old.memo.entries self.new.memo.entries }
     {
-        if let Some(id) = self.known(a, b) {
-            return Ok(id);
+        if let Some(known) = self.known(a, b) {
+            return Ok(known);
         }
         let mut pending = Vec::new(nodes.allocator());
         let mut next = (a, b);
