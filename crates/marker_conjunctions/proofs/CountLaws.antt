@@ -49,20 +49,6 @@ spends_both c d e size less a b x y k descends i j sx sy l p q = record {
     below : (t s u : NodeId) → IsHeld c.nodes s → IsSubtree markers c.nodes t s → IsSubtree markers d.nodes s u → IsSubtree markers c.nodes t u
     below t s u h z su = subtree_both markers c.nodes t s u z ((subtree_kept markers c.nodes d.nodes s u k descends h su).0)
 
--- ---- the pairs one after another
-module _ (first now : Contents) (a b : NodeId) (pairs : List (NodeId × NodeId)) (below : AreBelow first.nodes a b pairs) (k : IsKept first now) (descends : Descends markers first.nodes) (i : ℕ) (within : i < length pairs)
-    (d : NodeId × NodeId) (left right : NodeId) (left_is : left ≡ signed_id (is_negated a) (get_or pairs i d).0) (right_is : right ≡ signed_id (is_negated b) (get_or pairs i d).1) where
-  pub next_spends : (new : Contents) → Spends first now (place_of a + place_of b) a b → Spends now new (place_of left + place_of right + 1) left right → Spends first new (place_of a + place_of b) a b
-  next_spends new s t =
-      let h = below i (get_or pairs i d) (slice_get-get_or pairs i d within) in
-      let h0 = h.0 in
-      let h1 = h.1 in
-      let h2 = h.2 in
-      let e : place_of left ≡ place_of (get_or pairs i d).0 = ap place_of left_is in
-      let f : place_of right ≡ place_of (get_or pairs i d).1 = ap place_of right_is in
-      spends_both first now new (place_of a + place_of b) (place_of left + place_of right + 1) a b left right k descends (omega arith) (omega arith)
-      (subst (IsSubtree markers first.nodes a) (sym left_is) h.3) (subst (IsSubtree markers first.nodes b) (sym right_is) h.4) (omega arith) s t
-
 -- ---- one conjunction more
 abbrev Memo : Type 0
 Memo = List ((NodeId × NodeId) × NodeId)

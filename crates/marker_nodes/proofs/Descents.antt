@@ -1,5 +1,5 @@
 -- A walk down a diagram.
-use Rattle.std.proofs.Common.{◌≡◌, ◌<◌, Bool, true, false, not, List, Some, None, refl, sym, ap, ◌∙◌, subst, arith}
+use Rattle.std.proofs.Common.{◌≡◌, ◌<◌, Bool, true, false, not, List, Some, None, refl, sym, ap, ◌∙◌, arith}
 use Rattle.marker_environment.specs.Valuation.{Valuation}
 use Rattle.marker_diagrams.specs.declared.node_id.NodeId.{NodeId}
 use Rattle.marker_diagrams.specs.Id.{signed, place_of, is_negated, signed_id}

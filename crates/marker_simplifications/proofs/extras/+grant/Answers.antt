@@ -2,7 +2,6 @@ use Rattle.std.proofs.Common.{◌≡◌, ◌<◌, ◌∙◌, get_or, sym, ap, su
 use Rattle.std.specs.Fn.{FnReturnsAt}
 use Rattle.marker_diagrams.specs.declared.node_id.NodeId.{NodeId}
 use Rattle.marker_diagrams.specs.Id.{place_of}
-use Rattle.marker_diagrams.specs.Diagram.{node_of}
 use Rattle.marker_diagrams.proofs.NodeLaws.{keeps_both}
 use Rattle.marker_nodes.specs.Branches.{piece, value_at, variable}
 use Rattle.marker_nodes.specs.Node.{markers}
@@ -50,9 +49,11 @@ granted_node-granted_all-requires g t c =
       (
         inside,
         (
-          c.requires.rules, (
-          are_under c.args.nodes.now c.requires.rules c.args.id c.requires.held c.requires.plain (variable c.in_ok-branches-in-Some.branches) (value_at c.in_ok-branches-in-Some.branches) (has_clone c.args.nodes.now c.requires.rules c.args.id c.requires.held c.requires.plain c.in-Some.node.now c.in-Some.ensures c.in_ok-branches-in-Some.branches c.in_ok-branches-in-Some.ensures.cases) c.in_ok-children-in-Some.children.items c.deref.result.now c.deref.ensures.value c.in_ok-children-in-Some.ensures.inhabited,
-          (c.requires.callable, c.requires.known)),
+          c.requires.rules,
+          (
+            are_under c.args.nodes.now c.requires.rules c.args.id c.requires.held c.requires.plain (variable c.in_ok-branches-in-Some.branches) (value_at c.in_ok-branches-in-Some.branches) (has_clone c.args.nodes.now c.requires.rules c.args.id c.requires.held c.requires.plain c.in-Some.node.now c.in-Some.ensures c.in_ok-branches-in-Some.branches c.in_ok-branches-in-Some.ensures.cases) c.in_ok-children-in-Some.children.items c.deref.result.now c.deref.ensures.value c.in_ok-children-in-Some.ensures.inhabited,
+            (c.requires.callable, c.requires.known),
+          ),
         ),
       ),
     )

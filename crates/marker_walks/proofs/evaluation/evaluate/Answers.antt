@@ -1,7 +1,6 @@
 use Rattle.std.proofs.Common.{◌∙◌, sym, ap, not}
 use Rattle.marker_environment.specs.Environment.{valuation_of, values_of}
 use Rattle.marker_diagrams.specs.Id.{is_negated, signed_id}
-use Rattle.marker_diagrams.specs.Diagram.{node_of}
 use Rattle.marker_nodes.proofs.Descents.{down_held, down_means, end_means}
 use Rattle.marker_walks.proofs.evaluation.evaluate.Goals as goal
 

@@ -1,7 +1,6 @@
 use Rattle.std.proofs.Common.{◌∙◌, sym, ap, not, refl}
 use Rattle.marker_environment.specs.Environment.{valuation_of, values_of}
 use Rattle.marker_diagrams.specs.Id.{is_negated, signed_id}
-use Rattle.marker_diagrams.specs.Diagram.{node_of}
 use Rattle.marker_nodes.proofs.Descents.{down_smaller, down_held, down_means, end_means}
 use Rattle.marker_walks.proofs.ReportLaws.{leaves_all, leaves_less, leaves_nothing, leaves_some, where_refused, path_down, path_some, path_end}
 use Rattle.marker_walks.proofs.report.evaluate_and_report.Goals as goal
