@@ -18,8 +18,8 @@ PASSED_ON = re.compile(r"^\s*\|?\s*Err\(.*=>\s*(return\s+)?Err\(\s*AllocError\s*
 MATCHED = re.compile(r"\bErr\(\s*AllocError\s*\)\s*(\||if\b|=>|=[^=])")
 
 
-# Such an answer is meant here: `Clone` has no law that a clone is equal to its source, so one that is
-# not is refused too.
+# Such an answer is meant here: `Clone` has no law that a clone is equal to its source, so one that
+# is not is refused too.
 MEANT = {"crates/version_ranges/src/equality.rt": 2}
 
 
