@@ -49,20 +49,6 @@ spends_both c d e size less a b x y k descends i j sx sy l p q = record {
     below : (t s u : NodeId) → IsHeld c.nodes s → IsSubtree markers c.nodes t s → IsSubtree markers d.nodes s u → IsSubtree markers c.nodes t u
     below t s u h z su = subtree_both markers c.nodes t s u z ((subtree_kept markers c.nodes d.nodes s u k descends h su).0)
 
--- ---- the pairs one after another
-module _ (first now : Contents) (a b : NodeId) (pairs : List (NodeId × NodeId)) (below : AreBelow first.nodes a b pairs) (k : IsKept first now) (descends : Descends markers first.nodes) (i : ℕ) (within : i < length pairs)
-    (d : NodeId × NodeId) (left right : NodeId) (left_is : left ≡ signed_id (is_negated a) (get_or pairs i d).0) (right_is : right ≡ signed_id (is_negated b) (get_or pairs i d).1) where
-  pub next_spends : (new : Contents) → Spends first now (place_of a + place_of b) a b → Spends now new (place_of left + place_of right + 1) left right → Spends first new (place_of a + place_of b) a b
-  next_spends new s t =
-      let h = below i (get_or pairs i d) (slice_get-get_or pairs i d within) in
-      let h0 = h.0 in
-      let h1 = h.1 in
-      let h2 = h.2 in
-      let e : place_of left ≡ place_of (get_or pairs i d).0 = ap place_of left_is in
-      let f : place_of right ≡ place_of (get_or pairs i d).1 = ap place_of right_is in
-      spends_both first now new (place_of a + place_of b) (place_of left + place_of right + 1) a b left right k descends (omega arith) (omega arith)
-      (subst (IsSubtree markers first.nodes a) (sym left_is) h.3) (subst (IsSubtree markers first.nodes b) (sym right_is) h.4) (omega arith) s t
-
 -- ---- one conjunction more
 abbrev Memo : Type 0
 Memo = List ((NodeId × NodeId) × NodeId)
@@ -103,7 +89,7 @@ fewer_at old new at k ks h n y ih false f g =
     let b : cond (is_some (lookup (same_pair k) new)) 0 1 ≤ cond (is_some (lookup (same_pair k) old)) 0 1 = one_less (is_some (lookup (same_pair k) old)) (is_some (lookup (same_pair k) new)) (h k) in
     omega arith
 
-fewer_by : (old new : Memo) (at : NodeId × NodeId) (pairs : List (NodeId × NodeId)) → Grows old new → is_some (lookup (same_pair at) old) ≡ false → is_some (lookup (same_pair at) new) ≡ true →
+pub fewer_by : (old new : Memo) (at : NodeId × NodeId) (pairs : List (NodeId × NodeId)) → Grows old new → is_some (lookup (same_pair at) old) ≡ false → is_some (lookup (same_pair at) new) ≡ true →
     list_any (same_pair at) pairs ≡ true → unknown pairs new + 1 ≤ unknown pairs old
 fewer_by old new at [] h n y e = absurd (false≢true e)
 fewer_by old new at (k ∷ ks) h n y e = fewer_at old new at k ks h n y (fewer_by old new at ks h n y) (same_pair at k) refl e
@@ -143,7 +129,7 @@ spends_more c d e a b t s n u x y = record {
 cross : NodeId → List NodeId → List (NodeId × NodeId)
 cross a bs = map (λ b. (a, b)) bs
 
-all_pairs : List NodeId → List NodeId → List (NodeId × NodeId)
+pub all_pairs : List NodeId → List NodeId → List (NodeId × NodeId)
 all_pairs [] bs = []
 all_pairs (a ∷ rest) bs = cross a bs ++ all_pairs rest bs
 
@@ -170,7 +156,7 @@ cross_has x y (b ∷ bs) e = by_test (same_id y b) (list_any (same_id y) bs) e (
 any_both : {X : Type 0} (p : X → Bool) (xs ys : List X) → (list_any p xs || list_any p ys) ≡ true → list_any p (xs ++ ys) ≡ true
 any_both p xs ys e = list_any-append p xs ys ∙ e
 
-pairs_have : (x y : NodeId) (xs bs : List NodeId) → list_any (same_id x) xs ≡ true → list_any (same_id y) bs ≡ true → list_any (same_pair (x, y)) (all_pairs xs bs) ≡ true
+pub pairs_have : (x y : NodeId) (xs bs : List NodeId) → list_any (same_id x) xs ≡ true → list_any (same_id y) bs ≡ true → list_any (same_pair (x, y)) (all_pairs xs bs) ≡ true
 unfolding all_pairs
 pairs_have x y [] bs e f = absurd (false≢true e)
 pairs_have x y (a ∷ rest) bs e f = any_both (same_pair (x, y)) (cross a bs) (all_pairs rest bs) (by_test (same_id x a) refl e (λ g. pairs_have x y rest bs g f))

@@ -1,3 +1,4 @@
 pub mod Contents
 pub mod Branch
 pub mod Count
+pub mod Step

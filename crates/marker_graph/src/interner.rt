@@ -15,10 +15,11 @@ ghost use Rattle.marker_nodes.specs.Variable.{answer};
 ghost use Rattle.marker_nodes.specs.Node.{markers};
 ghost use Rattle.marker_conjunctions.specs.Contents.{nothing, IsKept, IsWellKept};
 ghost use Rattle.marker_conjunctions.specs.Count.{IsCounted, Spends};
+ghost use Rattle.marker_conjunctions.specs.Step.{IsKnown, IsSettled, Remembers};
 ghost use Rattle.marker_comparisons.specs.Expression.{IsInvalid, IsTruthOf, IsUnmade};
 ghost use Rattle.marker_simplifications.specs.Python.{is_python_in};
 ghost use Rattle.marker_simplifications.specs.Simplified.{IsAssumed, IsGranted};
-ghost use Rattle.marker_graph.specs.Contents.{IsHeld, Separated};
+ghost use Rattle.marker_graph.specs.Contents.{HasOnlyNodes, IsHeld, Separated};
 
 use crate::tree::MarkerTree;
 use marker_comparisons::{InvalidExpression, asks, expression};
@@ -112,6 +113,9 @@ impl Interner {
         ensures spends { Spends self.old self.new (place_of a + place_of b + 1) a b }
         ensures counted { IfOk result (IsCounted self.old self.new) }
         ensures short { IsShort a b → IsOk result × (self.new ≡ self.old) }
+        ensures known { IsKnown self.old.memo (a, b) → IsOk result × (self.new ≡ self.old) }
+        ensures settled { OnOk result (IsSettled self.new.memo (a, b)) }
+        ensures remembers { Remembers self.old.memo self.new.memo }
     {
         self.conjunctions.and(&mut self.nodes, a, b)
     }
@@ -119,6 +123,7 @@ impl Interner {
     // The id that is true where it is so.
     pub(crate) fn asks(&mut self, variable: TruthVariable) -> Result<NodeId, AllocError>
         ensures kept { IsKept self.old self.new }
+        ensures conjunctions { HasOnlyNodes self.old self.new }
         ensures asks { IfOk result (IsTruthOf self.new.nodes (answer variable)) }
     {
         asks(&mut self.nodes, variable)
@@ -130,6 +135,7 @@ impl Interner {
         comparison: MarkerExpression,
     ) -> Result<NodeId, Refusal<InvalidExpression>>
         ensures kept { IsKept self.old self.new }
+        ensures conjunctions { HasOnlyNodes self.old self.new }
         ensures asks { IfOk result (IsTruthOf self.new.nodes (holds (test_of comparison))) }
         ensures not_at_end { OnOk result (¬ IsAtEnd (test_of comparison)) }
         ensures not_invalid { OnOk result (¬ IsInvalid (test_of comparison)) }
@@ -145,6 +151,7 @@ impl Interner {
         upper: Bound<&Version>,
     ) -> Result<NodeId, AllocError>
         ensures kept { IsKept self.old self.new }
+        ensures conjunctions { HasOnlyNodes self.old self.new }
         ensures asks { IfOk result (IsTruthOf self.new.nodes
             (is_python_in (bound_of lower.entry) (bound_of upper.entry))) }
     {
@@ -162,6 +169,7 @@ impl Interner {
         requires point { (p : Point Parts)
             × IsBetween version_cmp (bound_of lower) (bound_of upper) p }
         ensures kept { IsKept self.old self.new }
+        ensures conjunctions { HasOnlyNodes self.old self.new }
         ensures assumed { IfOk result
             (IsAssumed self.new.nodes (bound_of lower.entry) (bound_of upper.entry) id) }
     {
@@ -177,6 +185,7 @@ impl Interner {
         requires held { diagram.IsHeld self.old.nodes id }
         requires callable { F.IsAlwaysCallable is_extra.now }
         ensures kept { IsKept self.old self.new }
+        ensures conjunctions { HasOnlyNodes self.old self.new }
         ensures granted { IfOk result (IsGranted self.new.nodes (FnReturnsAt F.Fn is_extra.now) id) }
     {
         grant_extras(&mut self.nodes, is_extra, id)

@@ -13,6 +13,7 @@ use marker_diagrams::NodeId;
 pub fn short_cut(a: NodeId, b: NodeId) -> Option<NodeId>
     ensures short { IfSome result (λ t. (nodes : List Node) → IsHeld nodes a → IsHeld nodes b
         → IsAnd nodes a b t) }
+    ensures needless { IfSome result (λ t. IsShort a b) }
     ensures nodes { IfNone result ((0 < place_of a) × (0 < place_of b)) }
     ensures other { IfNone result (IsShort a b → ⊥) }
 {

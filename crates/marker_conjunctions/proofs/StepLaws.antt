@@ -1,0 +1,354 @@
+-- Steps of a conjunction: which pairs are still to be computed, and which wait for which.
+use Rattle.std.proofs.Common.{◌≡◌, ℕ, zero, suc, ◌+◌, ◌<◌, ◌≤◌, Bool, true, false, cond, ◌==◌, List, [], ◌∷◌, ◌++◌, length, get_or, Option, Some, None, is_some, inl, inr, refl, sym, ap, ◌∙◌, subst, arith, append_assoc}
+use Rattle.std.specs.Prelude.{slice_get, IfNone, IfSome}
+use Rattle.std.specs.List.{list_any}
+use Rattle.std.specs.Map.{lookup}
+use Rattle.std.specs.Ordering.{is_gt, ordering_reverse}
+use Rattle.std.specs.declared.cmp.Ordering.{Ordering}
+use Rattle.std.specs.declared.cmp.Ordering.TheVariants.{Less, Equal, Greater}
+use Rattle.std.proofs.lemmas.Bool.{true≢false, false≢true, and_from, eqb-true, eqb-false}
+use Rattle.std.proofs.lemmas.List.{length-append, append-nil}
+use Rattle.marker_environment.specs.Valuation.{Valuation}
+use Rattle.marker_diagrams.specs.declared.node_id.NodeId.{NodeId}
+use Rattle.marker_diagrams.specs.Id.{place_of, is_negated, signed_id, same_id}
+use Rattle.marker_diagrams.specs.Diagram.{IsHeld, IsStore, Keeps}
+use Rattle.marker_diagrams.specs.Residue.{IsSubtree, itself, child}
+use Rattle.marker_diagrams.proofs.IdLaws.{same_id_itself, one_id}
+use Rattle.marker_diagrams.proofs.NodeLaws.{Descends, same_some, none_some, keeps_itself}
+use Rattle.marker_diagrams.proofs.ResidueLaws.{subtree_both, subtree_kept}
+use Rattle.marker_nodes.specs.Variable.{Variable, variable_cmp}
+use Rattle.marker_nodes.specs.Branches.{value_at as pick}
+use Rattle.marker_nodes.specs.Node.{Node, markers}
+use Rattle.marker_nodes.specs.And.{IsAnd, IsShort}
+use Rattle.marker_nodes.specs.Pairs.{AreSideBySide}
+use Rattle.marker_nodes.specs.Side.{branch, HasBranches, IsFirst}
+use Rattle.marker_nodes.proofs.ChildLaws.{pair_below}
+use Rattle.marker_nodes.proofs.Descents.{held_kept}
+use Rattle.marker_nodes.proofs.VariableLaws.{variable_total, one_variable}
+use Rattle.marker_conjunctions.specs.Contents.{Contents, IsKept, IsWellKept, same_pair}
+use Rattle.marker_conjunctions.specs.Count.{Spends, unknown}
+use Rattle.marker_conjunctions.specs.Step.{Memo, IsKnown, IsSettled, Remembers, IsOpen, IsPair, ArePairs, IsWanted, AreWanted, HasChildren, Waits, AreSettled}
+use Rattle.std.proofs.lemmas.Option.{slice_get-get_or}
+use Rattle.marker_conjunctions.proofs.AndLaws.{known_is}
+use Rattle.marker_conjunctions.proofs.CountLaws.{or_left, or_right, descends_of, spends_both, all_pairs, pairs_have, fewer_by}
+
+-- ---- what is known
+pub open_none : (memo : Memo) (p : NodeId × NodeId) → IsOpen memo p → lookup (same_pair p) memo ≡ None
+open_none memo p h = by_value (lookup (same_pair p) memo) refl
+  where
+    by_value : (o : Option NodeId) → lookup (same_pair p) memo ≡ o → o ≡ None
+    by_value None e = refl
+    by_value (Some t) e = absurd (h.unsettled (inr (ap is_some e)))
+
+pub known_by : (memo : Memo) (p : NodeId × NodeId) (t : NodeId) → Some t ≡ lookup (same_pair p) memo → IsSettled memo p
+known_by memo p t e = inr (sym (ap is_some e))
+
+pub opened : (memo : Memo) (a b : NodeId) → ¬ IsShort a b → None ≡ lookup (same_pair (a, b)) memo → (0 < place_of a) × (0 < place_of b) → IsOpen memo (a, b)
+opened memo a b long none nodes = record {
+  unsettled = λ s. elim s [ inl e ↦ long e | inr e ↦ false≢true (ap is_some none ∙ e) ];
+  left_node = nodes.0;
+  right_node = nodes.1;
+}
+
+-- ---- lists of pairs
+pub pairs_both : (nodes : List Node) (a b : NodeId) (xs ys : List (NodeId × NodeId)) → ArePairs nodes a b xs → ArePairs nodes a b ys → ArePairs nodes a b (xs ++ ys)
+pairs_both nodes a b [] ys h g = g
+pairs_both nodes a b (p ∷ xs) ys h g = (h.0, pairs_both nodes a b xs ys h.1 g)
+
+pairs_parts : (nodes : List Node) (a b : NodeId) (xs ys : List (NodeId × NodeId)) → ArePairs nodes a b (xs ++ ys) → ArePairs nodes a b xs × ArePairs nodes a b ys
+pairs_parts nodes a b [] ys h = (_, h)
+pairs_parts nodes a b (p ∷ xs) ys h = let r = pairs_parts nodes a b xs ys h.1 in ((h.0, r.0), r.1)
+
+pub pairs_popped : (nodes : List Node) (a b : NodeId) (old new : List (NodeId × NodeId)) (p : NodeId × NodeId) → old ≡ new ++ p ∷ [] → ArePairs nodes a b old → ArePairs nodes a b new × IsPair nodes a b p
+pairs_popped nodes a b old new p e h = let r = pairs_parts nodes a b new (p ∷ []) (subst (ArePairs nodes a b) e h) in (r.0, r.1.0)
+
+wanted_parts : (nodes : List Node) (memo : Memo) (a b : NodeId) (xs ys : List (NodeId × NodeId)) → AreWanted nodes memo a b (xs ++ ys) → AreWanted nodes memo a b xs × AreWanted nodes memo a b ys
+wanted_parts nodes memo a b [] ys h = (_, h)
+wanted_parts nodes memo a b (p ∷ xs) ys h = let r = wanted_parts nodes memo a b xs ys h.1 in ((h.0, r.0), r.1)
+
+wanted_both : (nodes : List Node) (memo : Memo) (a b : NodeId) (xs ys : List (NodeId × NodeId)) → AreWanted nodes memo a b xs → AreWanted nodes memo a b ys → AreWanted nodes memo a b (xs ++ ys)
+wanted_both nodes memo a b [] ys h g = g
+wanted_both nodes memo a b (p ∷ xs) ys h g = (h.0, wanted_both nodes memo a b xs ys h.1 g)
+
+wanted_pairs : (nodes : List Node) (memo : Memo) (a b : NodeId) (xs : List (NodeId × NodeId)) → AreWanted nodes memo a b xs → ArePairs nodes a b xs
+wanted_pairs nodes memo a b [] h = _
+wanted_pairs nodes memo a b (p ∷ xs) h = (h.0.pair, wanted_pairs nodes memo a b xs h.1)
+
+pub wanted_popped : (nodes : List Node) (memo : Memo) (a b : NodeId) (old new : List (NodeId × NodeId)) (p : NodeId × NodeId) → old ≡ new ++ p ∷ [] → AreWanted nodes memo a b old → AreWanted nodes memo a b new × IsWanted nodes memo a b p
+wanted_popped nodes memo a b old new p e h = let r = wanted_parts nodes memo a b new (p ∷ []) (subst (AreWanted nodes memo a b) e h) in (r.0, r.1.0)
+
+not_none : {X : Type 0} (xs more : List X) (x : X) → more ≡ xs ++ x ∷ [] → more ≡ [] → ⊥
+not_none xs more x last none =
+    let e : length (xs ++ x ∷ []) ≡ 0 = ap length (sym last ∙ none) in
+    let f : length (xs ++ x ∷ []) ≡ length xs + length (x ∷ []) = length-append xs (x ∷ []) in
+    let g : length (x ∷ []) ≡ 1 = refl in
+    omega (arith, e, f, g)
+
+-- ---- subtrees of subtrees
+pub pair_itself : (nodes : List Node) (a b : NodeId) → IsHeld nodes a → IsHeld nodes b → IsPair nodes a b (a, b)
+pair_itself nodes a b i j = record { left_held = i; right_held = j; left = itself; right = itself }
+
+module _ (old new : List Node) (k : Keeps markers old new) (descends : Descends markers old) (a b : NodeId) (p : NodeId × NodeId) (h : IsPair old a b p) where
+  pub pair_under : (q : NodeId × NodeId) → IsPair new p.0 p.1 q → IsPair old a b q
+  pair_under q g =
+      let l = subtree_kept markers old new p.0 q.0 k descends h.left_held g.left in
+      let r = subtree_kept markers old new p.1 q.1 k descends h.right_held g.right in
+      record { left_held = l.1; right_held = r.1; left = subtree_both markers old a p.0 q.0 h.left l.0; right = subtree_both markers old b p.1 q.1 h.right r.0 }
+
+  pub pairs_under : (qs : List (NodeId × NodeId)) → ArePairs new p.0 p.1 qs → ArePairs old a b qs
+  pairs_under [] g = _
+  pairs_under (q ∷ qs) g = (pair_under q g.0, pairs_under qs g.1)
+
+-- ---- the way down
+pub nothing_waits : (nodes : List Node) (a b : NodeId) (xs : List (NodeId × NodeId)) → Waits nodes a b xs xs
+nothing_waits nodes a b xs = record { more = []; added = sym (append-nil xs); pairs = _ }
+
+module _ (nodes : List Node) (memo : Memo) (descends : Descends markers nodes) (a b : NodeId) (p : NodeId × NodeId) (h : IsPair nodes a b p) where
+  pub more_wait : (old now then_ last wanted less : List (NodeId × NodeId)) (next : NodeId × NodeId) → Waits nodes a b old now → AreWanted nodes memo p.0 p.1 wanted → wanted ≡ less ++ next ∷ [] →
+      then_ ≡ now ++ p ∷ [] → last ≡ then_ ++ less → Waits nodes a b old last
+  more_wait old now then_ last wanted less next w all popped pushed appended = record {
+    more = w.more ++ (p ∷ less);
+    added = appended ∙ ap (λ (x : List (NodeId × NodeId)). x ++ less) (pushed ∙ ap (λ (x : List (NodeId × NodeId)). x ++ p ∷ []) w.added) ∙ append_assoc (old ++ w.more) (p ∷ []) less ∙ append_assoc old w.more (p ∷ less);
+    pairs = pairs_both nodes a b w.more (p ∷ less) w.pairs (h, pairs_under nodes nodes (keeps_itself markers nodes) descends a b p h less (wanted_pairs nodes memo p.0 p.1 less (wanted_popped nodes memo p.0 p.1 wanted less next popped all).0));
+  }
+
+  pub next_wanted : (wanted less : List (NodeId × NodeId)) (next : NodeId × NodeId) → AreWanted nodes memo p.0 p.1 wanted → wanted ≡ less ++ next ∷ [] →
+      IsPair nodes a b next × (IsOpen memo next × (place_of next.0 + place_of next.1 < place_of p.0 + place_of p.1))
+  next_wanted wanted less next all popped =
+      let r = (wanted_popped nodes memo p.0 p.1 wanted less next popped all).1 in
+      (pair_under nodes nodes (keeps_itself markers nodes) descends a b p h next r.pair, (r.unsettled, r.below))
+
+-- ---- one variable is the first
+not_greater : (x y : Variable) → is_gt (variable_cmp x y) ≡ false → is_gt (variable_cmp y x) ≡ false → x ≡ y
+not_greater x y e f = by_order (variable_cmp x y) refl
+  where
+    by_order : (r : Ordering) → variable_cmp x y ≡ r → x ≡ y
+    by_order Less g = absurd (true≢false (sym (ap is_gt (turned g)) ∙ f))
+      where
+        turned : variable_cmp x y ≡ Less → variable_cmp y x ≡ Greater
+        turned d = variable_total.antisymm y x ∙ ap ordering_reverse d
+    by_order Equal g = one_variable x y g
+    by_order Greater g = absurd (true≢false (sym (ap is_gt g) ∙ e))
+
+pub one_first : (nodes : List Node) (x y : Variable) (a b : NodeId) → IsFirst nodes x a b → IsFirst nodes y a b → x ≡ y
+one_first nodes x y a b f g = not_greater x y (below x y f g) (below y x g f)
+  where
+    -- x is no greater than y, at which one of the ids stands
+    below : (x y : Variable) → IsFirst nodes x a b → IsFirst nodes y a b → is_gt (variable_cmp x y) ≡ false
+    below x y f g = elim g.at [
+      | inl n ↦ sym (ap (λ (z : Variable). is_gt (variable_cmp x z)) n.2) ∙ f.from_a n.0 n.1
+      | inr n ↦ sym (ap (λ (z : Variable). is_gt (variable_cmp x z)) n.2) ∙ f.from_b n.0 n.1
+    ]
+
+-- ---- the children of two ids, one pair after another
+abbrev EachPair : (NodeId × NodeId → Type 0) → List (NodeId × NodeId) → Type 0
+EachPair P [] = Unit {0}
+EachPair P (q ∷ qs) = P q × EachPair P qs
+
+module _ (P : NodeId × NodeId → Type 0) where
+  each_from : (qs : List (NodeId × NodeId)) → ((i : ℕ) (q : NodeId × NodeId) → slice_get qs i ≡ Some q → P q) → EachPair P qs
+  each_from [] h = tt
+  each_from (q ∷ qs) h = (h 0 q refl, each_from qs (λ i. h (suc i)))
+
+  each_at : (qs : List (NodeId × NodeId)) → EachPair P qs → (i : ℕ) (q : NodeId × NodeId) → slice_get qs i ≡ Some q → P q
+  each_at [] h i q e = none_some q e
+  each_at (r ∷ qs) h zero q e = subst P (same_some r q e) h.0
+  each_at (r ∷ qs) h (suc i) q e = each_at qs h.1 i q e
+
+module _ (nodes : List Node) (memo : Memo) (a b : NodeId) where
+  -- the pair, under the signs of the ids, is settled
+  abbrev pub IsDone : NodeId × NodeId → Type 0
+  IsDone q = IsSettled memo (signed_id (is_negated a) q.0, signed_id (is_negated b) q.1)
+
+  -- the pairs that are left of a walk, and those that were found open: where none was, and the rest is settled, all are
+  pub record Walk (left found : List (NodeId × NodeId)) : Type 0 where
+    pub variable : Variable
+    pub first : IsFirst nodes variable a b
+    pub branches : EachPair (λ q. (v : Valuation) × HasBranches nodes variable a b v q) left
+    pub rest : found ≡ [] → EachPair IsDone left → (v : Valuation) → IsSettled memo (branch nodes variable a v, branch nodes variable b v)
+    pub wanted : AreWanted nodes memo a b found
+
+  pub walk_from : (pairs : List (NodeId × NodeId)) → AreSideBySide nodes a b pairs → Walk pairs []
+  walk_from pairs s = record {
+    variable = s.variable;
+    first = s.first;
+    branches = each_from (λ q. (v : Valuation) × HasBranches nodes s.variable a b v q) pairs s.found;
+    rest = λ e h v.
+        let c = s.covers v in
+        subst (λ (x : NodeId). IsSettled memo (x, branch nodes s.variable b v)) c.3.0
+        (subst (λ (y : NodeId). IsSettled memo (signed_id (is_negated a) c.1.0, y)) c.3.1 (each_at IsDone pairs h c.0 c.1 c.2));
+    wanted = _;
+  }
+
+  pub walk_end : (now found : List (NodeId × NodeId)) → now ≡ [] → Walk now found → found ≡ [] → HasChildren nodes memo a b
+  walk_end now found e w none x first v =
+      subst (λ (y : Variable). IsSettled memo (branch nodes y a v, branch nodes y b v)) (one_first nodes w.variable x a b w.first first)
+      (w.rest none (subst (EachPair IsDone) (sym e) tt) v)
+
+  module _ (now later found : List (NodeId × NodeId)) (q : NodeId × NodeId) (e : now ≡ q ∷ later) (w : Walk now found) (l r : NodeId) (l_is : l ≡ signed_id (is_negated a) q.0) (r_is : r ≡ signed_id (is_negated b) q.1) where
+    branches_now : ((v : Valuation) × HasBranches nodes w.variable a b v q) × EachPair (λ s. (v : Valuation) × HasBranches nodes w.variable a b v s) later
+    branches_now = subst (EachPair (λ s. (v : Valuation) × HasBranches nodes w.variable a b v s)) e w.branches
+
+    pub walk_known : IsSettled memo (l, r) → Walk later found
+    walk_known h = record {
+      variable = w.variable;
+      first = w.first;
+      branches = branches_now.1;
+      rest = λ none g. w.rest none
+          (subst (EachPair IsDone) (sym e) (subst (λ (x : NodeId). IsSettled memo (x, signed_id (is_negated b) q.1)) l_is (subst (λ (y : NodeId). IsSettled memo (l, y)) r_is h), g));
+      wanted = w.wanted;
+    }
+
+    pub walk_open : IsStore markers nodes → IsHeld nodes a → IsHeld nodes b → (more : List (NodeId × NodeId)) → more ≡ found ++ (l, r) ∷ [] → IsOpen memo (l, r) → Walk later more
+    walk_open store i j more last h = record {
+      variable = w.variable;
+      first = w.first;
+      branches = branches_now.1;
+      rest = λ none. absurd (not_none found more (l, r) last none);
+      wanted = subst (AreWanted nodes memo a b) (sym last) (wanted_both nodes memo a b found ((l, r) ∷ []) w.wanted (one, _));
+    }
+      where
+        one : IsWanted nodes memo a b (l, r)
+        one =
+            let f = branches_now.0 in
+            let s = pair_below nodes store a b i j w.variable w.first f.0 q f.1 in
+            let s0 = s.0 in
+            let s1 = s.1 in
+            let s2 = s.2 in
+            let k : place_of l ≡ place_of q.0 = ap place_of l_is in
+            let n : place_of r ≡ place_of q.1 = ap place_of r_is in
+            record {
+              pair = record {
+                left_held = omega arith;
+                right_held = omega arith;
+                left = subst (IsSubtree markers nodes a) (sym l_is) s.3;
+                right = subst (IsSubtree markers nodes b) (sym r_is) s.4;
+              };
+              below = omega arith;
+              unsettled = h;
+            }
+
+-- ---- the node of two ids is made of settled pairs
+pub settled_values : (nodes : List Node) (memo : Memo) (a b : NodeId) (x : Variable) (first : IsFirst nodes x a b) (pair : Valuation → NodeId × NodeId) (has : (v : Valuation) → HasBranches nodes x a b v (pair v)) (pairs given : List (NodeId × NodeId)) →
+    given ≡ pairs → ((k : ℕ) (p : NodeId × NodeId) → slice_get pairs k ≡ Some p → (v : Valuation) × (pair v ≡ p)) → HasChildren nodes memo a b → AreSettled memo a b given
+settled_values nodes memo a b x first pair has pairs given given_is inhabited h i p e =
+    let f = inhabited i p (sym (ap (λ (l : List (NodeId × NodeId)). slice_get l i) given_is) ∙ e) in
+    let g : HasBranches nodes x a b f.0 p = subst (HasBranches nodes x a b f.0) f.1 (has f.0) in
+    subst (λ (y : NodeId). IsSettled memo (y, signed_id (is_negated b) p.1)) (sym g.0) (subst (λ (y : NodeId). IsSettled memo (branch nodes x a f.0, y)) (sym g.1) (h x first f.0))
+
+-- ---- what is spent
+pub spends_nothing : (c : Contents) (nodes : List Node) (size : ℕ) (a b : NodeId) → Spends c record { nodes = nodes; memo = c.memo; expansions = c.expansions } size a b
+spends_nothing c nodes size a b = record { above = λ k h. refl; spent = λ pairs h. omega arith; rises = omega arith }
+
+-- a subtree stands no higher
+subtree_lower : (nodes : List Node) → Descends markers nodes → (t s : NodeId) → IsSubtree markers nodes t s → place_of s ≤ place_of t
+subtree_lower nodes d t _ itself = omega arith
+subtree_lower nodes d t s (child r _ n v h e f) =
+    let i = subtree_lower nodes d t r h in
+    let l = d (place_of r) n e v in
+    let p : place_of s ≡ place_of (pick n v) = ap place_of f in
+    omega (arith, i, l, p)
+
+-- a conjunction is entered
+module _ (old new : Memo) (a b t : NodeId) (u : (q : NodeId × NodeId) → lookup (same_pair q) new ≡ cond (same_pair (a, b) q) (Some t) (lookup (same_pair q) old)) where
+  itself_same : same_pair (a, b) (a, b) ≡ true
+  itself_same = and_from (same_id a a) (same_id b b) (same_id_itself a) (same_id_itself b)
+
+  pub entered : IsKnown new (a, b)
+  entered = ap is_some (u (a, b) ∙ ap (λ z. cond z (Some t) (lookup (same_pair (a, b)) old)) itself_same)
+
+  stays : (z : Bool) (o : Option NodeId) → is_some o ≡ true → is_some (cond z (Some t) o) ≡ true
+  stays true o g = refl
+  stays false o g = g
+
+  pub remembered : Remembers old new
+  remembered k h = ap is_some (u k) ∙ stays (same_pair (a, b) k) (lookup (same_pair k) old) h
+
+-- ---- fewer pairs are open
+pub all_ids : ℕ → List NodeId
+all_ids zero = record { place = 0; complement = false } ∷ record { place = 0; complement = true } ∷ []
+all_ids (suc n) = record { place = suc n; complement = false } ∷ record { place = suc n; complement = true } ∷ all_ids n
+
+id_here : (n : ℕ) (rest : List NodeId) (t : NodeId) (b : Bool) → is_negated t ≡ b → place_of t ≡ n → list_any (same_id t) (record { place = n; complement = false } ∷ record { place = n; complement = true } ∷ rest) ≡ true
+id_here n rest t false e f = let d : NodeId = record { place = n; complement = false } in or_left (same_id t d) _ (ap (λ (x : NodeId). same_id x d) (one_id t d f e) ∙ same_id_itself d)
+id_here n rest t true e f =
+    let d : NodeId = record { place = n; complement = true } in
+    or_right (same_id t record { place = n; complement = false }) _ (or_left (same_id t d) _ (ap (λ (x : NodeId). same_id x d) (one_id t d f e) ∙ same_id_itself d))
+
+id_in : (n : ℕ) (t : NodeId) → (place_of t ≤ n → list_any (same_id t) (all_ids n) ≡ true) → place_of t ≤ suc n → (z : Bool) → (place_of t == suc n) ≡ z → list_any (same_id t) (all_ids (suc n)) ≡ true
+unfolding all_ids
+id_in n t rest h true e = id_here (suc n) (all_ids n) t (is_negated t) refl (eqb-true (place_of t) (suc n) e)
+id_in n t rest h false e =
+    let k : place_of t ≡ suc n → ⊥ = eqb-false (place_of t) (suc n) e in
+    or_right (same_id t record { place = suc n; complement = false }) _ (or_right (same_id t record { place = suc n; complement = true }) _ (rest (omega arith)))
+
+id_listed : (n : ℕ) (t : NodeId) → place_of t ≤ n → list_any (same_id t) (all_ids n) ≡ true
+unfolding all_ids
+id_listed zero t h = id_here 0 [] t (is_negated t) refl (omega arith)
+id_listed (suc n) t h = id_in n t (id_listed n t) h (place_of t == suc n) refl
+
+-- how many pairs of ids that stand in the list are not known
+pub open_pairs : List Node → Memo → ℕ
+open_pairs nodes memo = unknown (all_pairs (all_ids (length nodes)) (all_ids (length nodes))) memo
+
+pub fewer_open : (nodes : List Node) (old new : Memo) (p : NodeId × NodeId) → IsHeld nodes p.0 → IsHeld nodes p.1 → Remembers old new → IsOpen old p → IsKnown new p → open_pairs nodes new < open_pairs nodes old
+unfolding open_pairs
+fewer_open nodes old new p i j r h g =
+    let f = fewer_by old new p (all_pairs (all_ids (length nodes)) (all_ids (length nodes))) r (ap is_some (open_none old p h)) g
+    (pairs_have p.0 p.1 (all_ids (length nodes)) (all_ids (length nodes)) (id_listed (length nodes) p.0 i) (id_listed (length nodes) p.1 j)) in
+    omega arith
+
+-- ---- one step of many
+module _ (c d : Contents) (k : IsKept c d) (w : IsWellKept c) (a b : NodeId) (p : NodeId × NodeId) (h : IsPair c.nodes a b p) where
+  descends : Descends markers c.nodes
+  descends = descends_of c w
+
+  pub held_left : IsHeld d.nodes p.0
+  held_left = held_kept c.nodes d.nodes p.0 k h.left_held
+
+  pub held_right : IsHeld d.nodes p.1
+  held_right = held_kept c.nodes d.nodes p.1 k h.right_held
+
+  smaller : place_of p.0 ≤ place_of a → place_of p.1 ≤ place_of b → place_of p.0 + place_of p.1 + 1 ≤ place_of a + place_of b + 1
+  smaller l r = omega arith
+
+  pub step_spends : (e : Contents) → Spends c d (place_of a + place_of b + 1) a b → Spends d e (place_of p.0 + place_of p.1 + 1) p.0 p.1 → Spends c e (place_of a + place_of b + 1) a b
+  step_spends e s t =
+      spends_both c d e (place_of a + place_of b + 1) (place_of p.0 + place_of p.1 + 1) a b p.0 p.1 k descends h.left_held h.right_held h.left h.right
+      (smaller (subtree_lower c.nodes descends a p.0 h.left) (subtree_lower c.nodes descends b p.1 h.right)) s t
+
+  pub below_pair : (q : NodeId × NodeId) → IsPair d.nodes p.0 p.1 q → IsPair c.nodes a b q
+  below_pair = pair_under c.nodes d.nodes k descends a b p h
+
+  pub waiting_pairs : (old new : List (NodeId × NodeId)) → ArePairs c.nodes a b old → Waits d.nodes p.0 p.1 old new → ArePairs c.nodes a b new
+  waiting_pairs old new pairs s = subst (ArePairs c.nodes a b) (sym s.added) (pairs_both c.nodes a b old s.more pairs (pairs_under c.nodes d.nodes k descends a b p h s.more s.pairs))
+
+-- ---- what is looked up
+pub looked_up : (memo : Memo) (expansions : ℕ) (a b : NodeId) (o : Option NodeId) → o ≡ lookup (same_pair (a, b)) memo →
+    IfSome o (λ t. (nodes : List Node) → IsWellKept record { nodes = nodes; memo = memo; expansions = expansions } → IsHeld nodes a → IsHeld nodes b → IsAnd nodes a b t)
+looked_up memo expansions a b None e = _
+looked_up memo expansions a b (Some t) e = λ nodes w i j. known_is record { nodes = nodes; memo = memo; expansions = expansions } a b t w e
+
+pub found_settled : (memo : Memo) (a b : NodeId) (o : Option NodeId) → o ≡ lookup (same_pair (a, b)) memo → IfSome o (λ t. IsSettled memo (a, b))
+found_settled memo a b None e = _
+found_settled memo a b (Some t) e = known_by memo (a, b) t e
+
+pub missing_open : (memo : Memo) (a b : NodeId) (o : Option NodeId) → o ≡ lookup (same_pair (a, b)) memo → ¬ IsShort a b → (0 < place_of a) × (0 < place_of b) → IfNone o (IsOpen memo (a, b))
+missing_open memo a b None e long nodes = opened memo a b long e nodes
+missing_open memo a b (Some t) e long nodes = _
+
+pub not_open : (memo : Memo) (a b : NodeId) (pairs : List (NodeId × NodeId)) → AreSettled memo a b pairs → (i : ℕ) → i < length pairs → (d : NodeId × NodeId) (l r : NodeId) →
+    l ≡ signed_id (is_negated a) (get_or pairs i d).0 → r ≡ signed_id (is_negated b) (get_or pairs i d).1 → IsOpen memo (l, r) → ⊥
+not_open memo a b pairs settled i within d l r l_is r_is h =
+    h.unsettled (subst (λ (x : NodeId). IsSettled memo (x, r)) (sym l_is) (subst (λ (y : NodeId). IsSettled memo (signed_id (is_negated a) (get_or pairs i d).0, y)) (sym r_is) (settled i (get_or pairs i d) (slice_get-get_or pairs i d within))))
+
+-- ---- one round: down to a pair that waits for nothing, whose conjunction is then computed
+module _ (c d e : Contents) (k : IsKept c d) (w : IsWellKept c) (a b : NodeId) (next p : NodeId × NodeId) (h : IsPair c.nodes a b next) (g : IsPair d.nodes next.0 next.1 p) where
+  lowest : IsPair c.nodes a b p
+  lowest = below_pair c d k w a b next h p g
+
+  pub round_spends : Spends c d (place_of a + place_of b + 1) a b → Spends d e (place_of p.0 + place_of p.1 + 1) p.0 p.1 → Spends c e (place_of a + place_of b + 1) a b
+  round_spends = step_spends c d k w a b p lowest e
+
+  pub round_fewer : Remembers d.memo e.memo → IsOpen d.memo p → IsKnown e.memo p → open_pairs c.nodes e.memo < open_pairs c.nodes d.memo
+  round_fewer = fewer_open c.nodes d.memo e.memo p lowest.left_held lowest.right_held

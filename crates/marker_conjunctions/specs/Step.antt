@@ -1,0 +1,74 @@
+-- One step of a conjunction: which pairs of ids it waits for. (This project's own.)
+use Rattle.std.specs.Prelude.{◌≡◌, ⊤, ℕ, ◌+◌, ◌<◌, ◌⊎◌, ◌++◌, true, List, [], ◌∷◌, Some, is_some, slice_get}
+use Rattle.std.specs.Map.{lookup}
+use Rattle.marker_environment.specs.Valuation.{Valuation}
+use Rattle.marker_diagrams.specs.declared.node_id.NodeId.{NodeId}
+use Rattle.marker_diagrams.specs.Id.{place_of, is_negated, signed_id}
+use Rattle.marker_diagrams.specs.Diagram.{IsHeld}
+use Rattle.marker_diagrams.specs.Residue.{IsSubtree}
+use Rattle.marker_nodes.specs.And.{IsShort}
+use Rattle.marker_nodes.specs.Node.{Node, markers}
+use Rattle.marker_nodes.specs.Side.{branch, IsFirst}
+use Rattle.marker_nodes.specs.Variable.{Variable}
+use Rattle.marker_conjunctions.specs.Contents.{same_pair}
+
+abbrev pub Memo : Type 0
+Memo = List ((NodeId × NodeId) × NodeId)
+
+-- the conjunction of the pair was computed
+abbrev pub IsKnown : Memo → NodeId × NodeId → Type 0
+IsKnown memo p = is_some (lookup (same_pair p) memo) ≡ true
+
+-- it was, or needs no node
+abbrev pub IsSettled : Memo → NodeId × NodeId → Type 0
+IsSettled memo p = IsShort p.0 p.1 ⊎ IsKnown memo p
+
+-- what was known is known
+abbrev pub Remembers : Memo → Memo → Type 0
+Remembers old new = (p : NodeId × NodeId) → IsKnown old p → IsKnown new p
+
+-- the conjunction is still to be computed, of two ids of nodes
+pub record IsOpen (memo : Memo) (p : NodeId × NodeId) : Type 0 where
+  pub unsettled : ¬ IsSettled memo p
+  pub left_node : 0 < place_of p.0
+  pub right_node : 0 < place_of p.1
+
+-- the pair is of a subtree of a and one of b, which stand in the list
+pub record IsPair (nodes : List Node) (a b : NodeId) (p : NodeId × NodeId) : Type 0 where
+  pub left_held : IsHeld nodes p.0
+  pub right_held : IsHeld nodes p.1
+  pub left : IsSubtree markers nodes a p.0
+  pub right : IsSubtree markers nodes b p.1
+
+abbrev pub ArePairs : List Node → NodeId → NodeId → List (NodeId × NodeId) → Type 0
+ArePairs nodes a b [] = ⊤
+ArePairs nodes a b (p ∷ pairs) = IsPair nodes a b p × ArePairs nodes a b pairs
+
+-- the pair is one of children of a and b, whose conjunction is still to be computed
+pub record IsWanted (nodes : List Node) (memo : Memo) (a b : NodeId) (p : NodeId × NodeId) : Type 0 where
+  pub pair : IsPair nodes a b p
+  pub below : place_of p.0 + place_of p.1 < place_of a + place_of b
+  pub unsettled : IsOpen memo p
+
+abbrev pub AreWanted : List Node → Memo → NodeId → NodeId → List (NodeId × NodeId) → Type 0
+AreWanted nodes memo a b [] = ⊤
+AreWanted nodes memo a b (p ∷ pairs) = IsWanted nodes memo a b p × AreWanted nodes memo a b pairs
+
+-- the conjunction of each pair of children of a and b is settled
+abbrev pub HasChildren : List Node → Memo → NodeId → NodeId → Type 0
+HasChildren nodes memo a b = (x : Variable) → IsFirst nodes x a b → (v : Valuation) → IsSettled memo (branch nodes x a v, branch nodes x b v)
+
+-- the conjunction is still to be computed, and those of the children are settled
+pub record IsDue (nodes : List Node) (memo : Memo) (p : NodeId × NodeId) : Type 0 where
+  pub unsettled : IsOpen memo p
+  pub children : HasChildren nodes memo p.0 p.1
+
+-- pairs of subtrees of a and b were added to a list
+pub record Waits (nodes : List Node) (a b : NodeId) (old new : List (NodeId × NodeId)) : Type 0 where
+  pub more : List (NodeId × NodeId)
+  pub added : new ≡ old ++ more
+  pub pairs : ArePairs nodes a b more
+
+-- each pair of children, before the signs of a and b, is settled
+abbrev pub AreSettled : Memo → NodeId → NodeId → List (NodeId × NodeId) → Type 0
+AreSettled memo a b pairs = (i : ℕ) (p : NodeId × NodeId) → slice_get pairs i ≡ Some p → IsSettled memo (signed_id (is_negated a) p.0, signed_id (is_negated b) p.1)
