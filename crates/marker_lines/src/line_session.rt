@@ -19,11 +19,12 @@ ghost use Rattle.marker_lines.specs.SessionView.{state_of};
 use crate::line::{LineCommand, LineFault};
 use crate::reply::{put, put_reply};
 use line_server::{Answer, ServeFault, Sink, Source, serve_lines};
-use marker_parts::{MarkerEnvironment, MarkerEnvironmentBuilder, Refusal, StringVersion};
+use marker_parts::{MarkerEnvironment, MarkerEnvironmentBuilder, StringVersion};
 use marker_session::{Command, Session};
 use marker_words::{MarkerValueVersion, TextVariable};
 use pep440_version::Version;
 use pep508_names::ExtraName;
+use refusal::unless_fault;
 use std::alloc::{AllocError, Global};
 use std::mem;
 use std::ops::Bound;
@@ -269,11 +270,7 @@ fn version_key(key: &str) -> Option<MarkerValueVersion>
 fn read_version(alloc: Global, value: &str) -> Result<Option<StringVersion>, AllocError>
     ensures { IfOk result (λ read. MatchOption read ((version : Parts) → IsVersionText value.now version → ⊥) (λ version. Says value.now (written version))) }
 {
-    match StringVersion::parse(alloc, value) {
-        Ok(version) => Ok(Some(version)),
-        Err(Refusal::Fault(_)) => Ok(None),
-        Err(Refusal::OutOfMemory | Refusal::SegmentAtEnd) => Err(AllocError),
-    }
+    unless_fault(StringVersion::parse(alloc, value))
 }
 
 // The bound with the version that its text says, or nothing where it says none.
@@ -281,15 +278,13 @@ fn read_bound(alloc: Global, bound: Bound<&str>) -> Result<Option<Bound<Version>
     ensures { IfOk result (λ read. MatchOption read ((version : Bound Parts) → SaysBound (bound_text_of bound.entry) version → ⊥) (SaysBound (bound_text_of bound.entry))) }
 {
     match bound {
-        Bound::Included(text) => match Version::parse(alloc, text) {
-            Ok(version) => Ok(Some(Bound::Included(version))),
-            Err(Refusal::Fault(_)) => Ok(None),
-            Err(Refusal::OutOfMemory | Refusal::SegmentAtEnd) => Err(AllocError),
+        Bound::Included(text) => match unless_fault(Version::parse(alloc, text))? {
+            Some(version) => Ok(Some(Bound::Included(version))),
+            None => Ok(None),
         },
-        Bound::Excluded(text) => match Version::parse(alloc, text) {
-            Ok(version) => Ok(Some(Bound::Excluded(version))),
-            Err(Refusal::Fault(_)) => Ok(None),
-            Err(Refusal::OutOfMemory | Refusal::SegmentAtEnd) => Err(AllocError),
+        Bound::Excluded(text) => match unless_fault(Version::parse(alloc, text))? {
+            Some(version) => Ok(Some(Bound::Excluded(version))),
+            None => Ok(None),
         },
         Bound::Unbounded => Ok(Some(Bound::Unbounded)),
     }
@@ -301,11 +296,10 @@ fn read_names(alloc: Global, words: &[&str]) -> Result<Option<Vec<ExtraName>>, A
 {
     let mut names = Vec::new(alloc);
     for word in words {
-        match ExtraName::parse(alloc, word) {
-            Ok(name) => names.push(name)?,
-            Err(Refusal::Fault(_)) => return Ok(None),
-            Err(Refusal::OutOfMemory | Refusal::SegmentAtEnd) => return Err(AllocError),
-        }
+        let Some(name) = unless_fault(ExtraName::parse(alloc, word))? else {
+            return Ok(None);
+        };
+        names.push(name)?;
     }
     Ok(Some(names))
 }

@@ -13,7 +13,7 @@ use marker_words::{
     MarkerValueVersion,
 };
 use pep508_names::ExtraName;
-use refusal::Refusal;
+use refusal::unless_fault;
 use std::alloc::{AllocError, Global};
 
 // What a comparison comes to: its expression, or nothing where it is dropped, and the kinds of its
@@ -207,12 +207,9 @@ impl Outcome {
     fn extra(alloc: Global, text: &str) -> Result<MarkerValueExtra, AllocError>
         ensures { IfOk result (λ extra. IsExtra text.now (extra_of extra) (extra_kinds (extra_of extra))) }
     {
-        match ExtraName::parse(alloc, text) {
-            Ok(name) => Ok(MarkerValueExtra::Extra(name)),
-            Err(Refusal::Fault(_)) => Ok(MarkerValueExtra::Arbitrary(String::from_str(
-                alloc, text,
-            )?)),
-            Err(Refusal::OutOfMemory | Refusal::SegmentAtEnd) => Err(AllocError),
+        match unless_fault(ExtraName::parse(alloc, text))? {
+            Some(name) => Ok(MarkerValueExtra::Extra(name)),
+            None => Ok(MarkerValueExtra::Arbitrary(String::from_str(alloc, text)?)),
         }
     }
 

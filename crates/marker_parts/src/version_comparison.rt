@@ -14,8 +14,9 @@ ghost use Rattle.marker_parts.specs.VersionComparison.{Asks, AsksBefore};
 use crate::expression::MarkerExpression;
 use crate::version_operator::VersionOperator;
 use marker_words::MarkerValueVersion;
-use pep440_rs::{Operator, Refusal, Version, VersionPattern, VersionSpecifier};
+use pep440_rs::{Operator, Version, VersionPattern, VersionSpecifier};
 use pep508_text::{Class, skip_space, split_run};
+use refusal::unless_fault;
 use std::alloc::{AllocError, Global};
 
 // What a version key and a text behind it ask, if anything.
@@ -80,22 +81,14 @@ fn pattern(alloc: Global, text: &str) -> Result<Option<VersionPattern>, AllocErr
     ensures found { IfOk result (λ found. IfSome found (λ pattern. IsPatternText text.now pattern.version pattern.wildcard)) }
     ensures none { IfOk result (λ found. IfNone found ((v : Parts) (star : Bool) → ¬ IsPatternText text.now v star)) }
 {
-    match VersionPattern::parse(alloc, text) {
-        Ok(pattern) => Ok(Some(pattern)),
-        Err(Refusal::Fault(_)) => Ok(None),
-        Err(Refusal::OutOfMemory | Refusal::SegmentAtEnd) => Err(AllocError),
-    }
+    unless_fault(VersionPattern::parse(alloc, text))
 }
 
 fn version(alloc: Global, text: &str) -> Result<Option<Version>, AllocError>
     ensures found { IfOk result (λ found. IfSome found (λ version. IsVersionText text.now version)) }
     ensures none { IfOk result (λ found. IfNone found ((v : Parts) → ¬ IsVersionText text.now v)) }
 {
-    match Version::parse(alloc, text) {
-        Ok(version) => Ok(Some(version)),
-        Err(Refusal::Fault(_)) => Ok(None),
-        Err(Refusal::OutOfMemory | Refusal::SegmentAtEnd) => Err(AllocError),
-    }
+    unless_fault(Version::parse(alloc, text))
 }
 
 // The specifier of an operator and a pattern, or `None` where they do not go together.

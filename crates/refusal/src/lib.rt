@@ -1,8 +1,8 @@
 //! Why a call is refused: the one type that all crates of this repository answer with.
 #![tactic(auto)]
 
-ghost use Rattle.std.specs.Prelude.{◌≡◌};
-ghost use Rattle.refusal.specs.declared.Refusal.TheVariants.{OutOfMemory};
+ghost use Rattle.std.specs.Prelude.{◌≡◌, ◌≢◌, IfErr, IfNone, IfOk, IfSome, OnErr};
+ghost use Rattle.refusal.specs.declared.Refusal.TheVariants.{OutOfMemory, SegmentAtEnd, Fault};
 
 use std::alloc::{AllocError, AllocFailed};
 use std::fmt::{Debug, Display};
@@ -38,5 +38,20 @@ impl<T: Drop, E> From<AllocFailed<T>> for Refusal<E> {
 
     fn from(_failed: AllocFailed<T>) -> Refusal<E> {
         Refusal::OutOfMemory
+    }
+}
+
+/// What a reader read, or nothing where what it was given is at fault. Any other refusal of it is want of memory, since it
+/// raises no number.
+pub fn unless_fault<T, E: Drop>(answer: Result<T, Refusal<E>>) -> Result<Option<T>, AllocError>
+    requires { IfErr answer (λ refusal. refusal ≢ SegmentAtEnd) }
+    ensures read { IfOk result (λ read. IfSome read (λ value. answer ≡ Ok value)) }
+    ensures fault { IfOk result (λ read. IfNone read ((fault : E) × (answer ≡ Err (Fault fault)))) }
+    ensures memory { OnErr result (answer ≡ Err OutOfMemory) }
+{
+    match answer {
+        Ok(value) => Ok(Some(value)),
+        Err(Refusal::Fault(_)) => Ok(None),
+        Err(Refusal::OutOfMemory | Refusal::SegmentAtEnd) => Err(AllocError),
     }
 }

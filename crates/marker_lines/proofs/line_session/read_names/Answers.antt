@@ -7,7 +7,11 @@ pub loop-word-init : goal.loop-word-init
 loop-word-init c = subst (λ (x : List (List ℕ)). Names [] x) (sym c.new-names.ensures.items) no_more
 
 pub loop-word-preserved : goal.loop-word-preserved
-loop-word-preserved c = names_more c.args.words.now c.loop-word.word-index _ c.loop-word-test.true c.loop-word.invariant c.in-Ok.ensures.read c.in_ok-push-in-Ok.ensures.items
+loop-word-preserved c =
+    let same = rw c.in-Some.is at c.in_ok-name.ensures.read in
+    names_more c.args.words.now c.loop-word.word-index _ c.loop-word-test.true c.loop-word.invariant (rw same at c.parse.ensures.read) c.in_ok-push.ensures.items
 
-pub returns-in-Err-Fault : goal.returns-in-Err-Fault
-returns-in-Err-Fault c = λ names. names_refused c.args.words.now c.loop-word.word-index _ c.loop-word-test.true (rw c.in-Err-Fault.field-0-is at c.in-Err-Fault.ensures.refused).1
+pub returns-in_default : goal.returns-in_default
+returns-in_default c names =
+    let fault = rw c.in_default.is at c.in_ok-name.ensures.fault in
+    names_refused c.args.words.now c.loop-word.word-index _ c.loop-word-test.true (rw fault.1 at c.parse.ensures.refused).1
