@@ -67,11 +67,11 @@ fn parentheses_to_any_depth(rt: HostRuntime) -> Result<(), Fail> {
     Ok(())
 }
 
-// A text of so many different extras, of which each is enough.
-fn any_extra(alloc: Global, count: usize) -> Result<String, Fail> {
+// A text of so many different extras, joined by one connective.
+fn many_extras(alloc: Global, connective: &str, count: usize) -> Result<String, Fail> {
     let mut text = String::from_str(alloc, "extra == 'x'")?;
     for number in 0..count {
-        text.push_str(format!(in alloc; " or extra == 'x{number}'")?.as_str())?;
+        text.push_str(format!(in alloc; " {connective} extra == 'x{number}'")?.as_str())?;
     }
     Ok(text)
 }
@@ -87,7 +87,7 @@ fn is_true_with(alloc: Global, cell: &Cell, name: &str) -> Result<bool, Fail> {
 // A formula needs no tree to be read, evaluated and dropped, and no stack for its terms.
 #[test]
 fn a_formula_of_different_terms(rt: HostRuntime) -> Result<(), Fail> {
-    let text = any_extra(rt.alloc(), 100_000)?;
+    let text = many_extras(rt.alloc(), "or", 100_000)?;
     let Ok(reading) = read(rt.alloc(), &text) else {
         return Err("not read".into());
     };
@@ -97,6 +97,23 @@ fn a_formula_of_different_terms(rt: HostRuntime) -> Result<(), Fail> {
     assert!(rt; is_true_with(rt.alloc(), &cell, "x")?);
     assert!(rt; is_true_with(rt.alloc(), &cell, "x99999")?);
     assert!(rt; !is_true_with(rt.alloc(), &cell, "x100000")?);
+    Ok(())
+}
+
+// A tree of such a text stands on no stack either, and its size is that of the text.
+#[test]
+fn trees_of_a_hundred_thousand_extras(rt: HostRuntime) -> Result<(), Fail> {
+    let environment = environment_of(rt.alloc(), "posix", "3.12.1")?;
+    let names = [ExtraName::parse(rt.alloc(), "x99999")?];
+    let mut interner = Interner::new(rt.alloc());
+    let text = many_extras(rt.alloc(), "or", 100_000)?;
+    let any = tree(rt.alloc(), &mut interner, text.as_str())?;
+    assert!(rt; is_true_in(&interner, any, &environment, &names)?);
+    assert!(rt; !is_true_in(&interner, any, &environment, &[])?);
+    let text = many_extras(rt.alloc(), "and", 100_000)?;
+    let all = tree(rt.alloc(), &mut interner, text.as_str())?;
+    assert!(rt; !is_true_in(&interner, all, &environment, &names)?);
+    assert!(rt; is_true_in(&interner, all.negate(), &environment, &names)?);
     Ok(())
 }
 
