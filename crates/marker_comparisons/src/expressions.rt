@@ -31,11 +31,12 @@ use version_ranges::Ranges;
 #[error("`~=` compares versions, and does not compare texts")]
 pub struct InvalidExpression;
 
-/// The id that is true where the comparison holds. A deprecated key asks what the modern one asks, and `python_version`
-/// asks about the full version.
+/// The id that is true where the comparison holds. A deprecated key asks what the modern one asks,
+/// and `python_version` asks about the full version.
 ///
-/// It is refused as `SegmentAtEnd` where a bound of a set of versions would raise 18446744073709551615, as a fault where
-/// `~=` compares texts, and else for want of memory alone. What the ids of the table mean stays, also then.
+/// It is refused as `SegmentAtEnd` where a bound of a set of versions would raise
+/// 18446744073709551615, as a fault where `~=` compares texts, and else for want of memory alone.
+/// What the ids of the table mean stays, also then.
 pub fn expression(
     nodes: &mut NodeTable,
     expression: MarkerExpression,
@@ -78,7 +79,8 @@ fn compares_text(
 ) -> Result<NodeId, Refusal<InvalidExpression>>
     ensures kept { Keeps markers nodes.old nodes.new }
     ensures rules { IsStore markers nodes.old → IsStore markers nodes.new }
-    ensures asks { IfOk result (IsTruthOf nodes.new (holds (asked.text key operator (string_bytes value)))) }
+    ensures asks { IfOk result (IsTruthOf nodes.new
+        (holds (asked.text key operator (string_bytes value)))) }
     ensures not_invalid { OnOk result (¬ IsInvalid (asked.text key operator (string_bytes value))) }
     ensures err { IfErr result (IsUnmade (asked.text key operator (string_bytes value))) }
 {
@@ -111,7 +113,8 @@ fn compares_extra(
 ) -> Result<NodeId, AllocError>
     ensures kept { Keeps markers nodes.old nodes.new }
     ensures rules { IsStore markers nodes.old → IsStore markers nodes.new }
-    ensures asks { IfOk result (IsTruthOf nodes.new (holds (asked.extra operator (extra_of name)))) }
+    ensures asks { IfOk result (IsTruthOf nodes.new
+        (holds (asked.extra operator (extra_of name)))) }
 {
     let id = asks(nodes, extra_variable(name))?;
     match operator {
@@ -125,9 +128,13 @@ fn version_range(
     alloc: Global,
     expression: &MarkerExpression,
 ) -> Result<Option<(VersionVariable, Ranges<Version>)>, Refusal<InvalidExpression>>
-    ensures variable { IfOk result (λ found. IfSome found (λ range. asked_version (test_of expression.now) ≡ Some range.0)) }
-    ensures set { IfOk result (λ found. IfSome found (λ range. (v : Valuation) → holds (test_of expression.now) v ≡ contains_point version_cmp range.1 (v.version range.0))) }
-    ensures none { IfOk result (λ found. IfNone found (asked_version (test_of expression.now) ≡ None)) }
+    ensures variable { IfOk result (λ found. IfSome found
+        (λ range. asked_version (test_of expression.now) ≡ Some range.0)) }
+    ensures set { IfOk result (λ found. IfSome found
+        (λ range. (v : Valuation) → holds (test_of expression.now) v
+        ≡ contains_point version_cmp range.1 (v.version range.0))) }
+    ensures none { IfOk result (λ found. IfNone found
+        (asked_version (test_of expression.now) ≡ None)) }
     ensures not_at_end { OnOk result (¬ IsAtEnd (test_of expression.now)) }
     ensures err { IfErr result (IsUnmade (test_of expression.now)) }
 {
@@ -145,7 +152,8 @@ fn range_beside<T: Ord + Clone>(
     value: T,
 ) -> Result<Ranges<T>, AllocError>
     requires clones { ClonesAreEqual T.eq T.is_clone }
-    ensures { IfOk result (λ r. (p : Point T) → contains_point T.cmp r p ≡ holds_beside operator (beside T.cmp p value)) }
+    ensures { IfOk result (λ r. (p : Point T)
+        → contains_point T.cmp r p ≡ holds_beside operator (beside T.cmp p value)) }
 {
     match operator {
         MarkerOperator::Equal => Ranges::singleton(alloc, value),

@@ -1,4 +1,5 @@
--- Decision diagrams over any kind of nodes. Nodes stand in a list, the newest first. (This project's own.)
+-- Decision diagrams over any kind of nodes. Nodes stand in a list, the newest first. (This
+-- project's own.)
 use Rattle.std.proofs.Common.{suc}
 use Rattle.std.specs.Prelude.{◌≡◌, ◌≢◌, ◌⊎◌, ℕ, ◌≤◌, ◌<◌, ◌==◌, Bool, true, false, List, [], ◌∷◌, Option, Some, None, length, if◌then◌else◌}
 use Rattle.std.specs.Ordering.{is_eq}
@@ -8,7 +9,8 @@ use Rattle.std.specs.declared.cmp.Ordering.TheVariants.{Less, Equal}
 use Rattle.marker_diagrams.specs.declared.node_id.NodeId.{NodeId}
 use Rattle.marker_diagrams.specs.Id.{signed, place_of, is_negated}
 
--- A kind of nodes: N are the nodes, X the variables that they ask about, V the valuations of all variables.
+-- A kind of nodes: N are the nodes, X the variables that they ask about, V the valuations of all
+-- variables.
 pub record NodeKind (N X V : Type 0) : Type 0 where
   -- the variable that a node asks about
   pub variable : N → X
@@ -42,7 +44,8 @@ module _ {N X V : Type 0} (kind : NodeKind N X V) where
   abbrev pub truth_at : List N → ℕ → V → Bool
   truth_at [] i v = true
   truth_at (n ∷ older) i v =
-      if i == suc (length older) then signed (is_negated (kind.pick n v)) (truth_at older (place_of (kind.pick n v)) v) else truth_at older i v
+      if i == suc (length older) then signed (is_negated (kind.pick n v))
+      (truth_at older (place_of (kind.pick n v)) v) else truth_at older i v
 
   -- what an id means: a truth for each valuation
   abbrev pub truth : List N → NodeId → V → Bool
@@ -73,26 +76,32 @@ module _ {N X V : Type 0} (kind : NodeKind N X V) where
     pub some : X
     pub later : (x : X) → (y : X) × (kind.cmp x y ≡ Less)
     -- a node looks at its own variable alone
-    pub own : (n : N) (t : X → Bool) (v w : V) → kind.pick n (kind.mix t v w) ≡ (if t (kind.variable n) then kind.pick n v else kind.pick n w)
+    pub own : (n : N) (t : X → Bool) (v w : V)
+        → kind.pick n (kind.mix t v w) ≡ (if t
+        (kind.variable n) then kind.pick n v else kind.pick n w)
     -- a reduced node has two children
-    pub proper : (n : N) → kind.is_reduced n ≡ true → (v : V) × (w : V) × (kind.pick n v ≢ kind.pick n w)
+    pub proper : (n : N) → kind.is_reduced n ≡ true → (v : V) × (w : V)
+        × (kind.pick n v ≢ kind.pick n w)
     -- reduced nodes on one variable are the same, or have different children somewhere
-    pub told : (n m : N) → kind.is_reduced n ≡ true → kind.is_reduced m ≡ true → kind.cmp (kind.variable n) (kind.variable m) ≡ Equal →
+    pub told : (n m : N) → kind.is_reduced n ≡ true → kind.is_reduced m ≡ true
+        → kind.cmp (kind.variable n) (kind.variable m) ≡ Equal →
         AreSame n m ⊎ ((v : V) × (kind.pick n v ≢ kind.pick m v))
 
-  -- Children to choose from, one for each valuation: they stand in the list, and ask about variables after x alone.
+  -- Children to choose from, one for each valuation: they stand in the list, and ask about
+  -- variables after x alone.
   pub record AreChildren (nodes : List N) (x : X) (child : V → NodeId) : Type 0 where
     pub held : (v : V) → IsHeld nodes (child v)
     pub after : (v : V) → IsAfter nodes x (child v)
 
-  -- A node that may be added to a list: its children stand there, ask about later variables, and the first one is no
-  -- negation.
+  -- A node that may be added to a list: its children stand there, ask about later variables, and
+  -- the first one is no negation.
   pub record IsReady (nodes : List N) (n : N) : Type 0 where
     pub children : AreChildren nodes (kind.variable n) (kind.pick n)
     pub plain : is_negated (kind.pick n kind.lowest) ≡ false
     pub reduced : kind.is_reduced n ≡ true
 
-  -- What a node at a place keeps: its children stand below it, ask about later variables, and the first one is no negation.
+  -- What a node at a place keeps: its children stand below it, ask about later variables, and the
+  -- first one is no negation.
   pub record IsNode (nodes : List N) (i : ℕ) (n : N) : Type 0 where
     pub below : (v : V) → place_of (kind.pick n v) < i
     pub after : (v : V) → IsAfter nodes (kind.variable n) (kind.pick n v)
@@ -102,7 +111,8 @@ module _ {N X V : Type 0} (kind : NodeKind N X V) where
   -- A list of nodes that keep this, of which no two are the same.
   pub record IsStore (nodes : List N) : Type 0 where
     pub node : (i : ℕ) (n : N) → node_at nodes i ≡ Some n → IsNode nodes i n
-    pub unique : (i j : ℕ) (n m : N) → node_at nodes i ≡ Some n → node_at nodes j ≡ Some m → AreSame n m → i ≡ j
+    pub unique : (i j : ℕ) (n m : N) → node_at nodes i ≡ Some n → node_at nodes j ≡ Some m
+        → AreSame n m → i ≡ j
 
   -- What stood in the old list stands in the new one, and means what it meant.
   pub record Keeps (old new : List N) : Type 0 where
@@ -110,7 +120,8 @@ module _ {N X V : Type 0} (kind : NodeKind N X V) where
     pub node : (i : ℕ) → i ≤ length old → node_at new i ≡ node_at old i
     pub truth : (i : ℕ) (v : V) → i ≤ length old → truth_at new i v ≡ truth_at old i v
 
-  -- The id means at each valuation what the child for it means, and asks about no variable before x.
+  -- The id means at each valuation what the child for it means, and asks about no variable before
+  -- x.
   pub record IsChoice (nodes : List N) (x : X) (child : V → NodeId) (t : NodeId) : Type 0 where
     pub held : IsHeld nodes t
     pub means : (v : V) → truth nodes t v ≡ truth nodes (child v) v

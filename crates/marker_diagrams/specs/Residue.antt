@@ -6,10 +6,12 @@ use Rattle.marker_diagrams.specs.Id.{is_negated, signed_id}
 use Rattle.marker_diagrams.specs.Diagram.{NodeKind, node_of, truth, with_variable}
 
 module _ {N X V : Type 0} (kind : NodeKind N X V) where
-  -- a subtree of an id: the id itself, or a child of a subtree. The children of a negation are negated.
+  -- a subtree of an id: the id itself, or a child of a subtree. The children of a negation are
+  -- negated.
   pub data IsSubtree (nodes : List N) (t : NodeId) : NodeId → Type 0 where
     itself : IsSubtree nodes t t
-    child : (s u : NodeId) (n : N) (v : V) → IsSubtree nodes t s → node_of nodes s ≡ Some n → u ≡ signed_id (is_negated s) (kind.pick n v) → IsSubtree nodes t u
+    child : (s u : NodeId) (n : N) (v : V) → IsSubtree nodes t s → node_of nodes s ≡ Some n
+        → u ≡ signed_id (is_negated s) (kind.pick n v) → IsSubtree nodes t u
 
   -- the valuation v, with every variable before x held at its value in s
   abbrev pub hold : X → V → V → V
@@ -19,7 +21,8 @@ module _ {N X V : Type 0} (kind : NodeKind N X V) where
   abbrev pub IsResidue : (V → Bool) → X → V → (V → Bool) → Type 0
   IsResidue f x s g = (v : V) → g v ≡ f (hold x s v)
 
-  -- the truth f depends on the variable x: two valuations that differ there alone get different answers
+  -- the truth f depends on the variable x: two valuations that differ there alone get different
+  -- answers
   abbrev pub DependsOn : (V → Bool) → X → Type 0
   DependsOn f x = (v w : V) × (f (with_variable kind x v w) ≢ f w)
 

@@ -1,6 +1,7 @@
 //! The ids of nodes.
 
-/// The id of a node of a diagram, or of its negation. Ids of one list of nodes are equal exactly where they mean the same.
+/// The id of a node of a diagram, or of its negation. Ids of one list of nodes are equal exactly
+/// where they mean the same.
 #[derive(Clone, Copy, Debug, PartialEq, Eq, Hash)]
 pub struct NodeId {
     // 0 is the truth, and k + 1 the node of index k, counted from the oldest.
@@ -77,7 +78,8 @@ impl NodeId {
         }
     }
 
-    /// This id, negated where the parent is: what a child of the parent's node is as a child of the parent.
+    /// This id, negated where the parent is: what a child of the parent's node is as a child of the
+    /// parent.
     pub fn negate(self, parent: NodeId) -> Self
         ensures { result ≡ signed_id (is_negated parent) self }
     {

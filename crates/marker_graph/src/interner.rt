@@ -36,7 +36,8 @@ use std::ops::Bound;
 
 /// The nodes of many markers, and the conjunctions that were computed.
 ///
-/// An interner only grows: what a marker means stays, also where a call is refused for want of memory.
+/// An interner only grows: what a marker means stays, also where a call is refused for want of
+/// memory.
 #[derive(Drop)]
 pub struct Interner {
     pub(crate) nodes: NodeTable,
@@ -86,15 +87,16 @@ impl Interner {
         self.nodes.equivalent(a.id, b.id)
     }
 
-    /// How many conjunctions of nodes were computed. Where it has reached its greatest value it stays there.
+    /// How many conjunctions of nodes were computed. Where it has reached its greatest value it
+    /// stays there.
     pub fn expansions(&self) -> u64
         ensures { result ≡ self.now.expansions }
     {
         self.conjunctions.expansions()
     }
 
-    /// The nodes keep the rules of diagrams, and each conjunction that is known is one of nodes that stand here. This is a
-    /// law, and the call does nothing.
+    /// The nodes keep the rules of diagrams, and each conjunction that is known is one of nodes
+    /// that stand here. This is a law, and the call does nothing.
     pub fn keeps_the_rules(&self)
         ensures nodes { IsStore markers self.now.nodes }
         ensures known { IsWellKept self.now }
@@ -186,7 +188,8 @@ impl Interner {
         requires callable { F.IsAlwaysCallable is_extra.now }
         ensures kept { IsKept self.old self.new }
         ensures conjunctions { HasOnlyNodes self.old self.new }
-        ensures granted { IfOk result (IsGranted self.new.nodes (FnReturnsAt F.Fn is_extra.now) id) }
+        ensures granted { IfOk result (IsGranted self.new.nodes
+            (FnReturnsAt F.Fn is_extra.now) id) }
     {
         grant_extras(&mut self.nodes, is_extra, id)
     }

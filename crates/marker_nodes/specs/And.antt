@@ -11,12 +11,15 @@ use Rattle.marker_nodes.specs.Node.{Node, markers}
 -- the id means the conjunction of two, and asks about none but their variables
 pub record IsAnd (nodes : List Node) (a b t : NodeId) : Type 0 where
   pub held : IsHeld nodes t
-  pub means : (v : Valuation) → truth markers nodes t v ≡ (truth markers nodes a v && truth markers nodes b v)
-  pub after : (x : Variable) → IsAfter markers nodes x a → IsAfter markers nodes x b → IsAfter markers nodes x t
+  pub means : (v : Valuation) → truth markers nodes t v
+      ≡ (truth markers nodes a v && truth markers nodes b v)
+  pub after : (x : Variable) → IsAfter markers nodes x a → IsAfter markers nodes x b
+      → IsAfter markers nodes x t
 
 abbrev pub IsConstant : NodeId → Type 0
 IsConstant t = (t ≡ TRUE) ⊎ (t ≡ FALSE)
 
--- the conjunction of two ids needs no node: one is a constant, they are the same, or one is the negation of the other
+-- the conjunction of two ids needs no node: one is a constant, they are the same, or one is the
+-- negation of the other
 abbrev pub IsShort : NodeId → NodeId → Type 0
 IsShort a b = IsConstant a ⊎ (IsConstant b ⊎ ((a ≡ b) ⊎ (a ≡ opposite b)))

@@ -97,19 +97,21 @@ impl NodeTable {
         a == b
     }
 
-    /// The id of the node that has these children on the pieces, one for each: an equal id where there is one, and else
-    /// that of a new node.
+    /// The id of the node that has these children on the pieces, one for each: an equal id where
+    /// there is one, and else that of a new node.
     ///
-    /// Where all children are the same, it is that child. Where the first child is a negation, it is the negation of the
-    /// node with the other signs.
+    /// Where all children are the same, it is that child. Where the first child is a negation, it
+    /// is the negation of the node with the other signs.
     pub fn place<V: Drop>(
         &mut self,
         branches: Branches<V>,
         children: Children,
     ) -> Result<NodeId, AllocError>
         requires count { length children.items ≡ count branches }
-        requires children { AreChildren markers self.old (variable branches) (listed_child branches children.items) }
-        ensures id { IfOk result (IsChoice markers self.new (variable branches) (listed_child branches children.items)) }
+        requires children { AreChildren markers self.old (variable branches)
+            (listed_child branches children.items) }
+        ensures id { IfOk result (IsChoice markers self.new (variable branches)
+            (listed_child branches children.items)) }
         ensures rules { IsStore markers self.old → IsStore markers self.new }
         ensures added { IfOk result (λ id. IsHeld self.old id → self.new ≡ self.old) }
         ensures refused { OnErr result (self.new ≡ self.old) }

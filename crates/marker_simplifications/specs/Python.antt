@@ -1,4 +1,5 @@
--- Truths under a range of Python versions, which is taken for granted or asked for. (This project's own.)
+-- Truths under a range of Python versions, which is taken for granted or asked for. (This project's
+-- own.)
 use Rattle.std.specs.Prelude.{◌≡◌, Bool, true, false, ◌&&◌}
 use Rattle.std.specs.declared.ops.Bound.{Bound}
 use Rattle.std.specs.declared.ops.Bound.TheVariants.{Included, Excluded, Unbounded}
@@ -27,10 +28,15 @@ module _ (lower upper : Bound Parts) where
     -- in the range it is f
     pub inside : (v : Valuation) → is_python_in v ≡ true → g v ≡ f v
     -- below a range with points it is f at the first point
-    pub below : (p : Point Parts) → IsBetween version_cmp lower upper p → (v : Valuation) → is_from version_cmp lower (python_of v) ≡ false → g v ≡ f (with_python (begin_point lower) v)
+    pub below : (p : Point Parts) → IsBetween version_cmp lower upper p → (v : Valuation)
+        → is_from version_cmp lower (python_of v) ≡ false
+        → g v ≡ f (with_python (begin_point lower) v)
     -- above it, what f is at every point of the range from some point on
-    pub above : (p : Point Parts) → IsBetween version_cmp lower upper p → (v : Valuation) → is_until version_cmp upper (python_of v) ≡ false →
-        (q : Point Parts) × IsBetween version_cmp lower upper q × ((r : Point Parts) → IsBetween version_cmp lower upper r → point_lt version_cmp r q ≡ false → g v ≡ f (with_python r v))
+    pub above : (p : Point Parts) → IsBetween version_cmp lower upper p → (v : Valuation)
+        → is_until version_cmp upper (python_of v) ≡ false →
+        (q : Point Parts) × IsBetween version_cmp lower upper q
+        × ((r : Point Parts) → IsBetween version_cmp lower upper r
+        → point_lt version_cmp r q ≡ false → g v ≡ f (with_python r v))
     -- where the range has no point it is false everywhere
     pub empty : IsBare version_cmp lower upper → (v : Valuation) → g v ≡ false
 

@@ -14,8 +14,8 @@ use smallvec::SmallVec;
 use std::alloc::AllocError;
 use std::collections::HashMap;
 
-/// The id with the extras set true for which the closure answers so, where it answers by a fixed set. It asks about them no
-/// more.
+/// The id with the extras set true for which the closure answers so, where it answers by a fixed
+/// set. It asks about them no more.
 ///
 /// Only memory can run out. What the ids of the table mean stays, also then.
 pub fn grant_extras<F: Fn(&ExtraName) -> bool>(
@@ -114,7 +114,8 @@ fn granted_all<F: Fn(&ExtraName) -> bool>(
     ensures kept { Keeps markers nodes.old nodes.new }
     ensures count { IfOk result (λ r. length r.items ≡ length ids.now) }
     ensures rules { diagram.IsStore markers nodes.new }
-    ensures granted { IfOk result (λ r. AreGranted nodes.new (FnReturnsAt F.Fn is_extra.now) ids.now r.items) }
+    ensures granted { IfOk result (λ r. AreGranted nodes.new
+        (FnReturnsAt F.Fn is_extra.now) ids.now r.items) }
     ensures known { AreKnown nodes.new (FnReturnsAt F.Fn is_extra.now) known.new.entries }
 {
     let mut made = SmallVec::with_capacity(nodes.allocator(), ids.len())?;

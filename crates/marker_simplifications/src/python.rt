@@ -52,7 +52,8 @@ fn trimmed_bound(bound: Bound<&Version>) -> Result<Bound<Version>, AllocError>
     }
 }
 
-// The children of an id on the values of a version variable, before the id's sign, where its node asks about that.
+// The children of an id on the values of a version variable, before the id's sign, where its node
+// asks about that.
 fn edges_at(
     nodes: &NodeTable,
     variable: VersionVariable,
@@ -87,7 +88,8 @@ pub fn python_range(
 ) -> Result<NodeId, AllocError>
     ensures kept { Keeps markers nodes.old nodes.new }
     ensures rules { diagram.IsStore markers nodes.old → diagram.IsStore markers nodes.new }
-    ensures asks { IfOk result (IsTruthOf nodes.new (is_python_in (bound_of lower.entry) (bound_of upper.entry))) }
+    ensures asks { IfOk result (IsTruthOf nodes.new
+        (is_python_in (bound_of lower.entry) (bound_of upper.entry))) }
 {
     let lower = trimmed_bound(lower)?;
     let upper = trimmed_bound(upper)?;
@@ -109,7 +111,8 @@ pub fn assumed(
     requires point { (p : Point Parts) × IsBetween version_cmp (bound_of lower) (bound_of upper) p }
     ensures kept { Keeps markers nodes.old nodes.new }
     ensures rules { diagram.IsStore markers nodes.new }
-    ensures assumed { IfOk result (IsAssumed nodes.new (bound_of lower.entry) (bound_of upper.entry) id) }
+    ensures assumed { IfOk result (IsAssumed nodes.new (bound_of lower.entry)
+        (bound_of upper.entry) id) }
 {
     let variable = VersionVariable::ImplementationVersion;
     let Some(edges) = edges_at(nodes, variable, id) else {
@@ -132,11 +135,13 @@ fn assumed_at_python(
 ) -> Result<NodeId, AllocError>
     requires rules { diagram.IsStore markers nodes.old }
     requires held { diagram.IsHeld nodes.old id }
-    requires after { diagram.IsAfter markers nodes.old (of_version versions.ImplementationVersion) id }
+    requires after { diagram.IsAfter markers nodes.old
+        (of_version versions.ImplementationVersion) id }
     requires point { (p : Point Parts) × IsBetween version_cmp (bound_of lower) (bound_of upper) p }
     ensures kept { Keeps markers nodes.old nodes.new }
     ensures rules { diagram.IsStore markers nodes.new }
-    ensures assumed { IfOk result (IsAssumed nodes.new (bound_of lower.entry) (bound_of upper.entry) id) }
+    ensures assumed { IfOk result (IsAssumed nodes.new (bound_of lower.entry)
+        (bound_of upper.entry) id) }
 {
     let variable = VersionVariable::PythonFullVersion;
     let Some(edges) = edges_at(nodes, variable, id) else {
@@ -160,7 +165,8 @@ fn assumed_all(
     ensures kept { Keeps markers nodes.old nodes.new }
     ensures rules { diagram.IsStore markers nodes.new }
     ensures count { IfOk result (λ r. length r.items ≡ length children.now) }
-    ensures assumed { IfOk result (λ r. AreAssumed nodes.new (bound_of lower.entry) (bound_of upper.entry) children.now r.items) }
+    ensures assumed { IfOk result (λ r. AreAssumed nodes.new (bound_of lower.entry)
+        (bound_of upper.entry) children.now r.items) }
 {
     let mut known = HashMap::new(nodes.allocator());
     let mut made = SmallVec::with_capacity(nodes.allocator(), children.len())?;
@@ -181,13 +187,16 @@ fn assumed_once(
 ) -> Result<NodeId, AllocError>
     requires rules { diagram.IsStore markers nodes.old }
     requires held { diagram.IsHeld nodes.old id }
-    requires after { diagram.IsAfter markers nodes.old (of_version versions.ImplementationVersion) id }
+    requires after { diagram.IsAfter markers nodes.old
+        (of_version versions.ImplementationVersion) id }
     requires point { (p : Point Parts) × IsBetween version_cmp (bound_of lower) (bound_of upper) p }
     requires known { AreFound nodes.old (bound_of lower) (bound_of upper) known.old.entries }
     ensures kept { Keeps markers nodes.old nodes.new }
     ensures rules { diagram.IsStore markers nodes.new }
-    ensures assumed { IfOk result (IsAssumed nodes.new (bound_of lower.entry) (bound_of upper.entry) id) }
-    ensures known { AreFound nodes.new (bound_of lower.entry) (bound_of upper.entry) known.new.entries }
+    ensures assumed { IfOk result (IsAssumed nodes.new (bound_of lower.entry)
+        (bound_of upper.entry) id) }
+    ensures known { AreFound nodes.new (bound_of lower.entry)
+        (bound_of upper.entry) known.new.entries }
 {
     if let Some(found) = known.get(&id) {
         return Ok(*found);

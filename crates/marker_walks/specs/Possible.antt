@@ -35,13 +35,16 @@ IsPossible extras f = (v : Valuation) × HasExtras extras v × (f v ≡ true)
 abbrev pub IsImpossible : List (List ℕ) → (Valuation → Bool) → Type 0
 IsImpossible extras f = (v : Valuation) → HasExtras extras v → f v ≡ false
 
--- some valuation with exactly these extras, and the Python version at one of these, satisfies the truth
+-- some valuation with exactly these extras, and the Python version at one of these, satisfies the
+-- truth
 abbrev pub IsPossibleAt : List (List ℕ) → List Parts → (Valuation → Bool) → Type 0
-IsPossibleAt extras versions f = (v : Valuation) × HasExtras extras v × HasVersion versions v × (f v ≡ true)
+IsPossibleAt extras versions f = (v : Valuation) × HasExtras extras v × HasVersion versions v
+    × (f v ≡ true)
 
 -- no such valuation does
 abbrev pub IsImpossibleAt : List (List ℕ) → List Parts → (Valuation → Bool) → Type 0
-IsImpossibleAt extras versions f = (v : Valuation) → HasExtras extras v → HasVersion versions v → f v ≡ false
+IsImpossibleAt extras versions f = (v : Valuation) → HasExtras extras v → HasVersion versions v
+    → f v ≡ false
 
 -- the versions that references point to
 abbrev pub listed_versions : Option (Bor (List Parts)) → Option (List Parts)
@@ -57,16 +60,22 @@ abbrev pub IsAmong : Option (List Parts) → Valuation → Type 0
 IsAmong None v = ⊤
 IsAmong (Some versions) v = HasVersion versions v
 
--- the answer tells whether some valuation with exactly these extras, at one of these versions, satisfies the truth
-pub record AnswersPossible (extras : List (List ℕ)) (versions : Option (List Parts)) (f : Valuation → Bool) (answer : Bool) : Type 0 where
-  pub possible : answer ≡ true → (v : Valuation) × HasExtras extras v × IsAmong versions v × (f v ≡ true)
-  pub impossible : answer ≡ false → (v : Valuation) → HasExtras extras v → IsAmong versions v → f v ≡ false
+-- the answer tells whether some valuation with exactly these extras, at one of these versions,
+-- satisfies the truth
+pub record AnswersPossible (extras : List (List ℕ)) (versions : Option (List Parts))
+    (f : Valuation → Bool) (answer : Bool) : Type 0 where
+  pub possible : answer ≡ true → (v : Valuation) × HasExtras extras v × IsAmong versions v
+      × (f v ≡ true)
+  pub impossible : answer ≡ false → (v : Valuation) → HasExtras extras v → IsAmong versions v
+      → f v ≡ false
 
--- whether a version variable may stand between two bounds: any may but the Python version, where versions are listed
+-- whether a version variable may stand between two bounds: any may but the Python version, where
+-- versions are listed
 abbrev pub may_lie_in : VersionVariable → Option (List Parts) → Bound Parts → Bound Parts → Bool
 may_lie_in ImplementationVersion versions lower upper = true
 may_lie_in PythonFullVersion None lower upper = true
-may_lie_in PythonFullVersion (Some versions) lower upper = list_any (λ version. is_in_bounds version_cmp lower upper (at version)) versions
+may_lie_in PythonFullVersion (Some versions) lower upper =
+    list_any (λ version. is_in_bounds version_cmp lower upper (at version)) versions
 
 -- whether it may be so, where exactly these extras are true: a text may be part of another
 abbrev pub may_be_so : List (List ℕ) → TruthVariable → Bool

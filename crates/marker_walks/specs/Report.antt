@@ -17,5 +17,7 @@ is_single (Excluded before) upper = false
 is_single Unbounded upper = false
 
 -- comparisons by order were told, and nothing else
-abbrev pub AddsComparisons : Option (List MarkerWarningKind) → Option (List MarkerWarningKind) → Type 0
-AddsComparisons before after = (kinds : List MarkerWarningKind) × Adds before after kinds × All (λ kind. kind ≡ LexicographicComparison) kinds
+abbrev pub AddsComparisons : Option (List MarkerWarningKind) → Option (List MarkerWarningKind)
+    → Type 0
+AddsComparisons before after = (kinds : List MarkerWarningKind) × Adds before after kinds
+    × All (λ kind. kind ≡ LexicographicComparison) kinds

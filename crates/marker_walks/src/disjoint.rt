@@ -6,8 +6,8 @@ ghost use Rattle.marker_walks.specs.Disjoint.{TellsDisjoint};
 
 use marker_nodes::{NodeId, NodeTable, Whole, short_cut};
 
-/// Whether no valuation satisfies both ids. This takes no memory. The calls are nested no deeper than the ids have
-/// variables.
+/// Whether no valuation satisfies both ids. This takes no memory. The calls are nested no deeper
+/// than the ids have variables.
 pub fn are_disjoint(nodes: &NodeTable, a: NodeId, b: NodeId) -> bool
     requires rules { diagram.IsStore markers nodes.now }
     requires a { diagram.IsHeld nodes.now a }

@@ -19,7 +19,8 @@ pub fn evaluate(
 ) -> bool
     requires rules { diagram.IsStore markers nodes.now }
     requires id { diagram.IsHeld nodes.now id }
-    ensures { result ≡ diagram.truth markers nodes.now id (valuation_of (values_of environment.now) extras.now) }
+    ensures { result ≡ diagram.truth markers nodes.now id
+        (valuation_of (values_of environment.now) extras.now) }
 {
     let mut at = id;
     while let Some(node) = nodes.node(at) {

@@ -1,5 +1,5 @@
-//! Walks over the nodes of a table that only read: evaluation, with reports and without, what is possible, and whether
-//! two ids are true together.
+//! Walks over the nodes of a table that only read: evaluation, with reports and without, what is
+//! possible, and whether two ids are true together.
 #![tactic(auto)]
 
 mod child;

@@ -15,8 +15,9 @@ use pep440_version::Version;
 use pep508_names::ExtraName;
 use version_ranges::{Cuts, Piece};
 
-/// Whether some valuation with exactly these extras, no arbitrary one, and the Python version at one of the versions, where
-/// they are given, satisfies the id. This takes no memory. The calls are nested no deeper than the id has variables.
+/// Whether some valuation with exactly these extras, no arbitrary one, and the Python version at
+/// one of the versions, where they are given, satisfies the id. This takes no memory. The calls are
+/// nested no deeper than the id has variables.
 #[cycle(possible)]
 pub fn is_possible(
     nodes: &NodeTable,
@@ -27,7 +28,8 @@ pub fn is_possible(
     requires rules { diagram.IsStore markers nodes.now }
     requires id { diagram.IsHeld nodes.now id }
     requires versions { HasSome versions }
-    ensures { AnswersPossible extras.now (listed_versions versions.entry) (diagram.truth markers nodes.now id) result }
+    ensures { AnswersPossible extras.now (listed_versions versions.entry)
+        (diagram.truth markers nodes.now id) result }
 {
     match nodes.node(id) {
         Some(Branches::Version(variable, edges)) => {
@@ -55,7 +57,8 @@ fn is_possible_at_version(
     requires id { diagram.IsHeld nodes.now id }
     requires versions { HasSome versions }
     requires node { diagram.node_of nodes.now id ≡ Some (kinds.Version variable edges.now) }
-    ensures { AnswersPossible extras.now (listed_versions versions.entry) (diagram.truth markers nodes.now id) result }
+    ensures { AnswersPossible extras.now (listed_versions versions.entry)
+        (diagram.truth markers nodes.now id) result }
 {
     for piece in edges.pieces() {
         if !may_lie_in(variable, versions, &piece) {
@@ -80,8 +83,10 @@ fn is_possible_at_text(
     requires rules { diagram.IsStore markers nodes.now }
     requires id { diagram.IsHeld nodes.now id }
     requires versions { HasSome versions }
-    requires node { (x : TextVariable) × (diagram.node_of nodes.now id ≡ Some (kinds.Text x edges.now)) }
-    ensures { AnswersPossible extras.now (listed_versions versions.entry) (diagram.truth markers nodes.now id) result }
+    requires node { (x : TextVariable) × (diagram.node_of nodes.now id
+        ≡ Some (kinds.Text x edges.now)) }
+    ensures { AnswersPossible extras.now (listed_versions versions.entry)
+        (diagram.truth markers nodes.now id) result }
 {
     for piece in edges.pieces() {
         if is_possible(nodes, extras, versions, piece.value.negate(id)) {
@@ -106,7 +111,8 @@ fn is_possible_at_truth(
     requires id { diagram.IsHeld nodes.now id }
     requires versions { HasSome versions }
     requires node { diagram.node_of nodes.now id ≡ Some (kinds.Truth variable.now high low) }
-    ensures { AnswersPossible extras.now (listed_versions versions.entry) (diagram.truth markers nodes.now id) result }
+    ensures { AnswersPossible extras.now (listed_versions versions.entry)
+        (diagram.truth markers nodes.now id) result }
 {
     if !may_be_so(variable, extras) {
         return is_possible(nodes, extras, versions, low.negate(id));
@@ -120,13 +126,15 @@ fn is_possible_at_truth(
     is_possible(nodes, extras, versions, low.negate(id))
 }
 
-// Whether the variable's version may lie in a piece: any may but the Python version, where versions are listed.
+// Whether the variable's version may lie in a piece: any may but the Python version, where versions
+// are listed.
 fn may_lie_in(
     variable: VersionVariable,
     versions: Option<&[Version]>,
     piece: &Piece<'_, Version, NodeId>,
 ) -> bool
-    ensures { result ≡ may_lie_in variable (listed_versions versions.entry) (bound_of piece.now.lower) (bound_of piece.now.upper) }
+    ensures { result ≡ may_lie_in variable (listed_versions versions.entry)
+        (bound_of piece.now.lower) (bound_of piece.now.upper) }
 {
     match (variable, versions) {
         (VersionVariable::PythonFullVersion, Some(versions)) => {
@@ -137,7 +145,8 @@ fn may_lie_in(
     }
 }
 
-// Whether it may be so: a text may be part of another, and an extra is asked for where it is listed.
+// Whether it may be so: a text may be part of another, and an extra is asked for where it is
+// listed.
 fn may_be_so(variable: &TruthVariable, extras: &[ExtraName]) -> bool
     ensures { result ≡ may_be_so extras.now variable.now }
 {

@@ -19,7 +19,8 @@ use std::alloc::{AllocError, Global};
 use std::ops::Bound;
 use version_ranges::{Cuts, Piece};
 
-/// Answers as `evaluate` does, and tells the reporter of each bound by whose order the value of a text key was compared.
+/// Answers as `evaluate` does, and tells the reporter of each bound by whose order the value of a
+/// text key was compared.
 ///
 /// Only memory can run out, here or at the reporter. What was told until then stays told.
 pub fn evaluate_and_report<R: Reporter>(
@@ -32,7 +33,8 @@ pub fn evaluate_and_report<R: Reporter>(
     requires rules { diagram.IsStore markers nodes.now }
     requires this { diagram.IsHeld nodes.now id }
     requires can_report { R.can_report reporter.old }
-    ensures answer { IfOk result (λ b. b ≡ diagram.truth markers nodes.now id (valuation_of (values_of environment.now) extras.now)) }
+    ensures answer { IfOk result (λ b. b ≡ diagram.truth markers nodes.now id
+        (valuation_of (values_of environment.now) extras.now)) }
     ensures told { AddsComparisons (R.kinds reporter.old) (R.kinds reporter.new) }
     ensures again { R.can_report reporter.new }
 {
@@ -133,7 +135,8 @@ fn is_single(piece: &Piece<'_, String, NodeId>) -> bool
 
 // Whether a text is not past an upper bound.
 fn is_up_to(text: &str, upper: Bound<&String>) -> bool
-    ensures { result ≡ is_until text_cmp (bound_map string_bytes (bound_of upper.entry)) (at text.now) }
+    ensures { result ≡ is_until text_cmp (bound_map string_bytes (bound_of upper.entry))
+        (at text.now) }
 {
     match upper {
         Bound::Included(bound) => text <= bound.as_str(),
