@@ -26,7 +26,7 @@ use Rattle.marker_diagrams.specs.Diagram.{IsHeld, truth, IsAfter, IsChoice, AreC
 use Rattle.marker_diagrams.proofs.IdLaws.{same_id_is}
 use Rattle.marker_diagrams.proofs.NodeLaws.{node_bounds}
 use Rattle.marker_nodes.specs.Variable.{Variable}
-use Rattle.marker_nodes.specs.Branches.{text_cmp}
+use Rattle.marker_words.specs.Compare.{text_cmp}
 use Rattle.marker_nodes.specs.Node.{Node, markers}
 use Rattle.marker_comparisons.specs.Expression.{IsInvalid, IsTruthOf}
 use Rattle.marker_nodes.proofs.Firsts.{true_is, false_is}

@@ -11,6 +11,7 @@ ghost use Rattle.marker_conjunctions.specs.Count.{IsCounted, Spends};
 ghost use Rattle.marker_conjunctions.specs.Step.{ArePairs, AreSettled, AreWanted, HasChildren, IsDue, IsKnown, IsOpen, IsPair, IsSettled, Remembers, Waits};
 
 use marker_nodes::{NodeId, NodeTable, Whole, short_cut};
+use smallvec::SmallVec;
 use std::alloc::{AllocError, Global};
 use std::collections::HashMap;
 
@@ -204,7 +205,7 @@ impl Conjunctions {
         let branches = nodes.side_by_side(nodes.allocator(), a, b)?;
         let pairs = branches.values(nodes.allocator())?;
         let children = self.children(nodes, a, b, &pairs)?;
-        nodes.place(branches, children)
+        nodes.place(branches, SmallVec::from_vec(children))
     }
 
     // The conjunctions of pairs of children of two ids, under the signs of the ids.

@@ -5,3 +5,4 @@ pub mod StoreLaws
 pub mod ResidueLaws
 pub mod KeyLaws
 pub mod ChoiceLaws
+pub mod ListLaws

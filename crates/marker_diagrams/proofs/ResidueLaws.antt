@@ -105,7 +105,7 @@ module _ {N X V : Type 0} (kind : NodeKind N X V) (laws : IsLawful kind) where
 
     -- ---- each residue is that of a subtree
     abbrev pub Found : NodeId → X → V → Type 0
-    Found t x s = (u : NodeId) × (IsSubtree kind nodes t u) × IsResidue kind nodes t x s u
+    Found t x s = (u : NodeId) × (IsSubtree kind nodes t u) × IsResidue kind (truth kind nodes t) x s (truth kind nodes u)
 
     found_by : (t : NodeId) (x : X) (s : V) → ((c : NodeId) → place_of c < place_of t → Found c x s) → (o : Option N) → node_of nodes t ≡ o → Found t x s
     found_by t x s ih None e = (t, itself, λ v. sym (held_free x s v t (λ n f. none_some n (sym e ∙ f))))
@@ -122,7 +122,7 @@ module _ {N X V : Type 0} (kind : NodeKind N X V) (laws : IsLawful kind) where
     found_below zero t x s l = absurd (omega arith)
     found_below (suc k) t x s l = found_by t x s (λ c j. found_below k c x s (omega arith)) (node_of nodes t) refl
 
-    pub each_residue : (t : NodeId) (x : X) (s : V) → (u : NodeId) × (IsSubtree kind nodes t u) × IsResidue kind nodes t x s u
+    pub each_residue : (t : NodeId) (x : X) (s : V) → (u : NodeId) × (IsSubtree kind nodes t u) × IsResidue kind (truth kind nodes t) x s (truth kind nodes u)
     each_residue t x s = found_below (suc (place_of t)) t x s (omega arith)
 
     -- ---- each subtree is a residue
@@ -130,7 +130,7 @@ module _ {N X V : Type 0} (kind : NodeKind N X V) (laws : IsLawful kind) where
       pub at : X
       pub held : V
       pub from : IsFrom at u
-      pub means : IsResidue kind nodes t at held u
+      pub means : IsResidue kind (truth kind nodes t) at held (truth kind nodes u)
 
     -- a variable after n's, and none of u's before it
     next_by : (n : N) (u : NodeId) → IsAfter kind nodes (kind.variable n) u → (o : Option N) → node_of nodes u ≡ o → (x : X) × (before (kind.variable n) x ≡ true) × (IsFrom x u)
@@ -186,7 +186,7 @@ module _ {N X V : Type 0} (kind : NodeKind N X V) (laws : IsLawful kind) where
         record { at = x.0; held = kind.lowest; from = x.1; means = λ v. sym (held_free x.0 kind.lowest v t x.1) }
     is_residue t u (child r _ n v h e f) = step t r u n v e f (is_residue t r h)
 
-    pub each_subtree : (t u : NodeId) → IsSubtree kind nodes t u → (x : X) × (s : V) × IsResidue kind nodes t x s u
+    pub each_subtree : (t u : NodeId) → IsSubtree kind nodes t u → (x : X) × (s : V) × IsResidue kind (truth kind nodes t) x s (truth kind nodes u)
     each_subtree t u h = let r = is_residue t u h in (r.at, r.held, r.means)
 
     -- ---- each subtree is there once
@@ -197,7 +197,7 @@ module _ {N X V : Type 0} (kind : NodeKind N X V) (laws : IsLawful kind) where
         at u h = (subtree_kept kind nodes nodes t u (keeps_itself kind nodes) down i h).1
 
     -- ---- the root asks the first variable that counts
-    pub depends : (t : NodeId) (n : N) → IsHeld nodes t → node_of nodes t ≡ Some n → DependsOn kind nodes t (kind.variable n)
+    pub depends : (t : NodeId) (n : N) → IsHeld nodes t → node_of nodes t ≡ Some n → DependsOn kind (truth kind nodes t) (kind.variable n)
     depends t n i e =
         let p = laws.proper n (store.node (place_of t) n e).reduced in
         let d = separated kind laws nodes store (signed_id (is_negated t) (kind.pick n p.0)) (signed_id (is_negated t) (kind.pick n p.1)) (held p.0) (held p.1) (λ k. p.2 (signed_id_back (is_negated t) (kind.pick n p.0) (kind.pick n p.1) k)) in
@@ -216,11 +216,11 @@ module _ {N X V : Type 0} (kind : NodeKind N X V) (laws : IsLawful kind) where
         seen v y = child_seen kind laws nodes store t n (kind.variable n) v y e (tied_itself laws.total (kind.variable n))
 
         by_case : (v w y : V) → (truth kind nodes (signed_id (is_negated t) (kind.pick n v)) y ≢ truth kind nodes (signed_id (is_negated t) (kind.pick n w)) y) →
-            ((truth kind nodes t (with_variable kind (kind.variable n) v y) ≡ truth kind nodes t y) ⊎ (truth kind nodes t (with_variable kind (kind.variable n) v y) ≢ truth kind nodes t y)) → DependsOn kind nodes t (kind.variable n)
+            ((truth kind nodes t (with_variable kind (kind.variable n) v y) ≡ truth kind nodes t y) ⊎ (truth kind nodes t (with_variable kind (kind.variable n) v y) ≢ truth kind nodes t y)) → DependsOn kind (truth kind nodes t) (kind.variable n)
         by_case v w y d (inr k) = (v, y, k)
         by_case v w y d (inl k) = (w, y, λ f. d (sym (seen v y) ∙ k ∙ sym f ∙ seen w y))
 
-    pub sees_none_before : (t : NodeId) (n : N) (x : X) → node_of nodes t ≡ Some n → DependsOn kind nodes t x → before x (kind.variable n) ≡ false
+    pub sees_none_before : (t : NodeId) (n : N) (x : X) → node_of nodes t ≡ Some n → DependsOn kind (truth kind nodes t) x → before x (kind.variable n) ≡ false
     sees_none_before t n x e d = by_test (before x (kind.variable n)) refl
       where
         by_test : (b : Bool) → before x (kind.variable n) ≡ b → b ≡ false

@@ -1,5 +1,5 @@
--- Subtrees of an id and residues of its truth. (This project's own.)
-use Rattle.std.specs.Prelude.{◌≡◌, ◌≢◌, List, Some}
+-- Subtrees of an id, and residues of a truth. (This project's own.)
+use Rattle.std.specs.Prelude.{◌≡◌, ◌≢◌, ℕ, Bool, List, Some, slice_get}
 use Rattle.std.specs.Ordering.{is_lt}
 use Rattle.marker_diagrams.specs.declared.node_id.NodeId.{NodeId}
 use Rattle.marker_diagrams.specs.Id.{is_negated, signed_id}
@@ -15,10 +15,21 @@ module _ {N X V : Type 0} (kind : NodeKind N X V) where
   abbrev pub hold : X → V → V → V
   hold x s v = kind.mix (λ y. is_lt (kind.cmp y x)) s v
 
-  -- u means the residue of the truth of t at the variable x and the valuation s
-  abbrev pub IsResidue : List N → NodeId → X → V → NodeId → Type 0
-  IsResidue nodes t x s u = (v : V) → truth kind nodes u v ≡ truth kind nodes t (hold x s v)
+  -- g is the residue of the truth f at the variable x and the valuation s
+  abbrev pub IsResidue : (V → Bool) → X → V → (V → Bool) → Type 0
+  IsResidue f x s g = (v : V) → g v ≡ f (hold x s v)
 
-  -- the truth of an id depends on the variable x: two valuations that differ there alone get different answers
-  abbrev pub DependsOn : List N → NodeId → X → Type 0
-  DependsOn nodes t x = (v w : V) × (truth kind nodes t (with_variable kind x v w) ≢ truth kind nodes t w)
+  -- the truth f depends on the variable x: two valuations that differ there alone get different answers
+  abbrev pub DependsOn : (V → Bool) → X → Type 0
+  DependsOn f x = (v w : V) × (f (with_variable kind x v w) ≢ f w)
+
+  -- the list has the children of a node, and no others
+  pub record AreChildrenOf (n : N) (children : List NodeId) : Type 0 where
+    pub all : (v : V) → (i : ℕ) × (slice_get children i ≡ Some (kind.pick n v))
+    pub each : (i : ℕ) (u : NodeId) → slice_get children i ≡ Some u → (v : V) × (kind.pick n v ≡ u)
+
+-- the list has the ids that are such and no others, and none of them twice
+pub record AreExactly (P : NodeId → Type 0) (ids : List NodeId) : Type 0 where
+  pub all : (s : NodeId) → P s → (i : ℕ) × (slice_get ids i ≡ Some s)
+  pub each : (i : ℕ) (s : NodeId) → slice_get ids i ≡ Some s → P s
+  pub once : (i j : ℕ) (s : NodeId) → slice_get ids i ≡ Some s → slice_get ids j ≡ Some s → i ≡ j

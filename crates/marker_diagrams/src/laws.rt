@@ -5,7 +5,7 @@ ghost use Rattle.std.specs.Prelude.{◌≡◌, ◌≢◌, ◌⊎◌, ℕ, not, t
 ghost use Rattle.std.specs.Ordering.{is_lt};
 ghost use Rattle.marker_diagrams.specs.Id.{is_negated, opposite, signed_id, id_of};
 ghost use Rattle.marker_diagrams.specs.Diagram.{NodeKind, node_at, node_of, IsHeld, truth, Separated, IsLawful, IsReady, IsStore, Keeps, IsChoice, AreSame};
-ghost use Rattle.marker_diagrams.specs.Residue.{IsSubtree, IsResidue, DependsOn};
+ghost use Rattle.marker_diagrams.specs.Residue.{AreChildrenOf, AreExactly, IsSubtree, IsResidue, DependsOn};
 ghost use Rattle.marker_diagrams.specs.declared.node_id.NodeId.{NodeId};
 ghost use Rattle.marker_diagrams.specs.declared.node_id.TheConstants.NodeId.{TRUE, FALSE};
 
@@ -57,9 +57,9 @@ pub fn indices_count_from_the_oldest<N>()
 /// The subtrees of an id mean the residues of its truth, and each residue is meant by exactly one subtree.
 pub fn subtrees_are_the_residues<N, X, V>()
     ensures each_subtree { (kind : NodeKind N X V) (nodes : List N) → IsLawful kind → IsStore kind nodes → (t u : NodeId)
-        → IsSubtree kind nodes t u → (x : X) × (s : V) × IsResidue kind nodes t x s u }
+        → IsSubtree kind nodes t u → (x : X) × (s : V) × IsResidue kind (truth kind nodes t) x s (truth kind nodes u) }
     ensures each_residue { (kind : NodeKind N X V) (nodes : List N) → IsLawful kind → IsStore kind nodes → (t : NodeId) (x : X) (s : V)
-        → (u : NodeId) × IsSubtree kind nodes t u × IsResidue kind nodes t x s u }
+        → (u : NodeId) × IsSubtree kind nodes t u × IsResidue kind (truth kind nodes t) x s (truth kind nodes u) }
     ensures once { (kind : NodeKind N X V) (nodes : List N) → IsLawful kind → IsStore kind nodes → (t u w : NodeId) → IsHeld nodes t
         → IsSubtree kind nodes t u → IsSubtree kind nodes t w → ((v : V) → truth kind nodes u v ≡ truth kind nodes w v) → u ≡ w }
 {}
@@ -67,7 +67,14 @@ pub fn subtrees_are_the_residues<N, X, V>()
 /// The node of an id asks about the first variable on which the truth depends.
 pub fn roots_ask_the_first_variable<N, X, V>()
     ensures depends { (kind : NodeKind N X V) (nodes : List N) → IsLawful kind → IsStore kind nodes → (t : NodeId) (n : N)
-        → IsHeld nodes t → node_of nodes t ≡ Some n → DependsOn kind nodes t (kind.variable n) }
+        → IsHeld nodes t → node_of nodes t ≡ Some n → DependsOn kind (truth kind nodes t) (kind.variable n) }
     ensures first { (kind : NodeKind N X V) (nodes : List N) → IsLawful kind → IsStore kind nodes → (t : NodeId) (n : N) (x : X)
-        → node_of nodes t ≡ Some n → DependsOn kind nodes t x → is_lt (kind.cmp x (kind.variable n)) ≡ false }
+        → node_of nodes t ≡ Some n → DependsOn kind (truth kind nodes t) x → is_lt (kind.cmp x (kind.variable n)) ≡ false }
+{}
+
+/// The subtrees of an id can be listed, each once, where the children of each node can be listed.
+pub fn subtrees_can_be_listed<N, X, V>()
+    ensures { (kind : NodeKind N X V) (nodes : List N) → IsStore kind nodes
+        → ((n : N) → (children : List NodeId) × AreChildrenOf kind n children)
+        → (t : NodeId) → (ids : List NodeId) × AreExactly (IsSubtree kind nodes t) ids }
 {}

@@ -1,7 +1,6 @@
 pub mod Contents
 pub mod Tree
 pub mod Extras
-pub mod Report
 pub mod Ranged
 -- what the crates below say of truths over valuations
 pub use Rattle.marker_comparisons.specs.Expression

@@ -1,13 +1,13 @@
 //! A table of nodes.
 
-ghost use Rattle.std.specs.Prelude.{◌≡◌, ◌↔◌, ◌<◌, [], false, length, IfOk, IsTrue, OnErr, vec_len};
+ghost use Rattle.std.specs.Prelude.{◌≡◌, ◌↔◌, ◌<◌, [], false, length, IfOk, IsTrue, OnErr};
 ghost use Rattle.std.specs.Option.{option_copied};
 ghost use Rattle.marker_diagrams.specs.Diagram.{node_of, IsHeld, truth, Separated, AreChildren, IsReady, IsStore, Keeps, IsChoice};
 ghost use Rattle.marker_nodes.specs.Branches.{count, value_at, variable};
 ghost use Rattle.marker_nodes.specs.Node.{listed_child, markers};
 
 use crate::edges::negate_all;
-use crate::node::{Branches, Node};
+use crate::node::{Branches, Children, Node};
 use indexmap::IndexSet;
 use marker_diagrams::NodeId;
 use std::alloc::{AllocError, Global};
@@ -105,9 +105,9 @@ impl NodeTable {
     pub fn place<V: Drop>(
         &mut self,
         branches: Branches<V>,
-        children: Vec<NodeId>,
+        children: Children,
     ) -> Result<NodeId, AllocError>
-        requires count { vec_len children ≡ count branches }
+        requires count { length children.items ≡ count branches }
         requires children { AreChildren markers self.old (variable branches) (listed_child branches children.items) }
         ensures id { IfOk result (IsChoice markers self.new (variable branches) (listed_child branches children.items)) }
         ensures rules { IsStore markers self.old → IsStore markers self.new }
@@ -117,7 +117,7 @@ impl NodeTable {
     {
         let mut children = children;
         let first = children[0];
-        negate_all(&mut children, first);
+        negate_all(children.as_mut_slice(), first);
         let node = branches.with_children(children)?;
         if node.is_constant() {
             return Ok(first);

@@ -1,6 +1,6 @@
 //! Ids with extras that are granted.
 
-ghost use Rattle.std.specs.Prelude.{◌≡◌, IfNone, IfOk, IfSome, false, length, vec_len};
+ghost use Rattle.std.specs.Prelude.{◌≡◌, IfNone, IfOk, IfSome, false, length};
 ghost use Rattle.std.specs.Fn.{FnReturnsAt};
 ghost use Rattle.marker_diagrams.specs.Diagram as diagram;
 ghost use Rattle.marker_diagrams.specs.Id.{is_negated};
@@ -8,8 +8,9 @@ ghost use Rattle.marker_diagrams.specs.Diagram.{Keeps};
 ghost use Rattle.marker_nodes.specs.Node.{markers};
 ghost use Rattle.marker_simplifications.specs.Simplified.{AreGranted, AreKnown, AreUnder, Grants, IsGranted, IsTouched, IsUntouched};
 
-use marker_nodes::{Branches, Node, NodeId, NodeTable, TruthVariable};
+use marker_nodes::{Branches, Children, Node, NodeId, NodeTable, TruthVariable};
 use pep508_names::ExtraName;
+use smallvec::SmallVec;
 use std::alloc::AllocError;
 use std::collections::HashMap;
 
@@ -105,18 +106,18 @@ fn granted_all<F: Fn(&ExtraName) -> bool>(
     is_extra: &F,
     parent: NodeId,
     ids: &[NodeId],
-) -> Result<Vec<NodeId>, AllocError>
+) -> Result<Children, AllocError>
     requires rules { diagram.IsStore markers nodes.old }
     requires under { AreUnder nodes.old parent ids.now }
     requires callable { F.IsAlwaysCallable is_extra.now }
     requires known { AreKnown nodes.old (FnReturnsAt F.Fn is_extra.now) known.old.entries }
     ensures kept { Keeps markers nodes.old nodes.new }
-    ensures count { IfOk result (λ r. vec_len r ≡ length ids.now) }
+    ensures count { IfOk result (λ r. length r.items ≡ length ids.now) }
     ensures rules { diagram.IsStore markers nodes.new }
     ensures granted { IfOk result (λ r. AreGranted nodes.new (FnReturnsAt F.Fn is_extra.now) ids.now r.items) }
     ensures known { AreKnown nodes.new (FnReturnsAt F.Fn is_extra.now) known.new.entries }
 {
-    let mut made = Vec::with_capacity(nodes.allocator(), ids.len())?;
+    let mut made = SmallVec::with_capacity(nodes.allocator(), ids.len())?;
     for i in 0..ids.len() {
         let id = granted(nodes, known, is_extra, ids[i])?;
         made.push(id)?;

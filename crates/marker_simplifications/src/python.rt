@@ -1,6 +1,6 @@
 //! Ids under a range of Python versions, which is taken for granted or asked for.
 
-ghost use Rattle.std.specs.Prelude.{◌≡◌, false, length, IfNone, IfOk, IfSome, Some, vec_len};
+ghost use Rattle.std.specs.Prelude.{◌≡◌, false, length, IfNone, IfOk, IfSome, Some};
 ghost use Rattle.std.specs.Ordering.{is_eq};
 ghost use Rattle.std.specs.Range.Bound.{bound_map};
 ghost use Rattle.version_ranges.specs.Point.{Point};
@@ -19,9 +19,10 @@ ghost use Rattle.marker_simplifications.specs.Python.{is_python_in, is_whole};
 ghost use Rattle.marker_simplifications.specs.Simplified.{AreAssumed, AreFound, AreLater, IsAssumed};
 
 use marker_comparisons::asks_version;
-use marker_nodes::{Branches, NodeId, NodeTable};
+use marker_nodes::{Branches, Children, NodeId, NodeTable};
 use marker_words::VersionVariable;
 use pep440_version::Version;
+use smallvec::SmallVec;
 use std::alloc::AllocError;
 use std::collections::HashMap;
 use std::ops::Bound;
@@ -152,17 +153,17 @@ fn assumed_all(
     children: &[NodeId],
     lower: Bound<&Version>,
     upper: Bound<&Version>,
-) -> Result<Vec<NodeId>, AllocError>
+) -> Result<Children, AllocError>
     requires rules { diagram.IsStore markers nodes.old }
     requires children { AreLater nodes.old (of_version versions.ImplementationVersion) children.now }
     requires point { (p : Point Parts) × IsBetween version_cmp (bound_of lower) (bound_of upper) p }
     ensures kept { Keeps markers nodes.old nodes.new }
     ensures rules { diagram.IsStore markers nodes.new }
-    ensures count { IfOk result (λ r. vec_len r ≡ length children.now) }
+    ensures count { IfOk result (λ r. length r.items ≡ length children.now) }
     ensures assumed { IfOk result (λ r. AreAssumed nodes.new (bound_of lower.entry) (bound_of upper.entry) children.now r.items) }
 {
     let mut known = HashMap::new(nodes.allocator());
-    let mut made = Vec::with_capacity(nodes.allocator(), children.len())?;
+    let mut made = SmallVec::with_capacity(nodes.allocator(), children.len())?;
     for child in children {
         let id = assumed_once(nodes, &mut known, *child, lower, upper)?;
         made.push(id)?;

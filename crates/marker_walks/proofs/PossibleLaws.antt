@@ -32,7 +32,8 @@ use Rattle.marker_nodes.specs.declared.variable.TruthVariable.{TruthVariable}
 use Rattle.marker_nodes.specs.declared.variable.TruthVariable.TheVariants as truths
 use Rattle.marker_nodes.specs.declared.node.Branches.TheVariants.{Truth}
 use Rattle.marker_nodes.specs.Variable.{Variable, of_version, of_extra, of_arbitrary, answer, mix, variable_cmp}
-use Rattle.marker_nodes.specs.Branches.{variable, value_at as pick, text_cmp}
+use Rattle.marker_words.specs.Compare.{text_cmp}
+use Rattle.marker_nodes.specs.Branches.{variable, value_at as pick}
 use Rattle.marker_nodes.specs.Node.{Node, markers}
 use Rattle.marker_nodes.proofs.VariableLaws.{variable_total}
 use Rattle.marker_nodes.proofs.EdgeLaws.{not_true}

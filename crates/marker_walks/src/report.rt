@@ -1,16 +1,14 @@
 //! Evaluation that tells of comparisons of texts by their order.
 
-ghost use Rattle.std.specs.Prelude.{◌≡◌, [], IfOk, OnErr, OnOk, string_bytes};
+ghost use Rattle.std.specs.Prelude.{◌≡◌, IfOk, string_bytes};
 ghost use Rattle.std.specs.Range.Bound.{bound_map};
 ghost use Rattle.version_ranges.specs.Clamp.{bound_of};
-ghost use Rattle.version_ranges.specs.Parts.{part_of};
 ghost use Rattle.version_ranges.specs.Point.{at, is_until};
 ghost use Rattle.marker_environment.specs.Environment.{valuation_of, values_of};
-ghost use Rattle.marker_diagrams.specs.Id.{place_of};
 ghost use Rattle.marker_diagrams.specs.Diagram as diagram;
-ghost use Rattle.marker_nodes.specs.Branches.{text_cmp};
+ghost use Rattle.marker_words.specs.Compare.{text_cmp};
 ghost use Rattle.marker_nodes.specs.Node.{markers};
-ghost use Rattle.marker_walks.specs.Report.{AddsComparisons, AddsComparisonsUpTo, bound_count, is_single, node_comparisons, order_comparisons, path_comparisons, piece_comparisons};
+ghost use Rattle.marker_walks.specs.Report.{AddsComparisons, is_single};
 
 use crate::child::child_in;
 use marker_environment::MarkerEnvironment;
@@ -35,8 +33,7 @@ pub fn evaluate_and_report<R: Reporter>(
     requires this { diagram.IsHeld nodes.now id }
     requires can_report { R.can_report reporter.old }
     ensures answer { IfOk result (λ b. b ≡ diagram.truth markers nodes.now id (valuation_of (values_of environment.now) extras.now)) }
-    ensures told { OnOk result (AddsComparisons (path_comparisons nodes.now (place_of id) (valuation_of (values_of environment.now) extras.now)) (R.kinds reporter.old) (R.kinds reporter.new)) }
-    ensures refused { OnErr result (AddsComparisonsUpTo (path_comparisons nodes.now (place_of id) (valuation_of (values_of environment.now) extras.now)) (R.kinds reporter.old) (R.kinds reporter.new)) }
+    ensures told { AddsComparisons (R.kinds reporter.old) (R.kinds reporter.new) }
     ensures again { R.can_report reporter.new }
 {
     let mut at = id;
@@ -55,8 +52,7 @@ fn report_node<R: Reporter>(
     reporter: &mut R,
 ) -> Result<(), AllocError>
     requires { R.can_report reporter.old }
-    ensures told { OnOk result (AddsComparisons (node_comparisons node.now (valuation_of (values_of environment.now) []).text) (R.kinds reporter.old) (R.kinds reporter.new)) }
-    ensures refused { OnErr result (AddsComparisonsUpTo (node_comparisons node.now (valuation_of (values_of environment.now) []).text) (R.kinds reporter.old) (R.kinds reporter.new)) }
+    ensures told { AddsComparisons (R.kinds reporter.old) (R.kinds reporter.new) }
     ensures again { R.can_report reporter.new }
 {
     match node {
@@ -75,8 +71,7 @@ fn report_order<R: Reporter>(
     reporter: &mut R,
 ) -> Result<(), AllocError>
     requires { R.can_report reporter.old }
-    ensures told { OnOk result (AddsComparisons (order_comparisons edges.now (at text.now)) (R.kinds reporter.old) (R.kinds reporter.new)) }
-    ensures refused { OnErr result (AddsComparisonsUpTo (order_comparisons edges.now (at text.now)) (R.kinds reporter.old) (R.kinds reporter.new)) }
+    ensures told { AddsComparisons (R.kinds reporter.old) (R.kinds reporter.new) }
     ensures again { R.can_report reporter.new }
 {
     for piece in edges.pieces() {
@@ -96,8 +91,7 @@ fn report_piece<R: Reporter>(
     reporter: &mut R,
 ) -> Result<(), AllocError>
     requires { R.can_report reporter.old }
-    ensures told { OnOk result (AddsComparisons (piece_comparisons (part_of piece.now)) (R.kinds reporter.old) (R.kinds reporter.new)) }
-    ensures refused { OnErr result (AddsComparisonsUpTo (piece_comparisons (part_of piece.now)) (R.kinds reporter.old) (R.kinds reporter.new)) }
+    ensures told { AddsComparisons (R.kinds reporter.old) (R.kinds reporter.new) }
     ensures again { R.can_report reporter.new }
 {
     if is_single(piece) {
@@ -115,8 +109,7 @@ fn report_bound<R: Reporter>(
     reporter: &mut R,
 ) -> Result<(), AllocError>
     requires { R.can_report reporter.old }
-    ensures told { OnOk result (AddsComparisons (bound_count (bound_of bound.entry)) (R.kinds reporter.old) (R.kinds reporter.new)) }
-    ensures refused { OnErr result (AddsComparisonsUpTo (bound_count (bound_of bound.entry)) (R.kinds reporter.old) (R.kinds reporter.new)) }
+    ensures told { AddsComparisons (R.kinds reporter.old) (R.kinds reporter.new) }
     ensures again { R.can_report reporter.new }
 {
     match bound {

@@ -2,7 +2,7 @@ use Rattle.std.proofs.Common.{string_bytes}
 use Rattle.version_ranges.specs.Cuts.{value_by}
 use Rattle.version_ranges.specs.Ranges.{contains_by}
 use Rattle.marker_nodes.specs.Variable.{of_text}
-use Rattle.marker_nodes.specs.Branches.{text_cmp}
+use Rattle.marker_words.specs.Compare.{text_cmp}
 use Rattle.marker_comparisons.proofs.TruthLaws.{decided_children, decided_truth, text_decided}
 use Rattle.marker_comparisons.proofs.questions.asks_text.Goals as goal
 

@@ -2,6 +2,7 @@ use Rattle.std.proofs.Common.{◌≡◌, ◌<◌, ◌∙◌, get_or, sym, ap, su
 use Rattle.std.specs.Fn.{FnReturnsAt}
 use Rattle.marker_diagrams.specs.declared.node_id.NodeId.{NodeId}
 use Rattle.marker_diagrams.specs.Id.{place_of}
+use Rattle.marker_diagrams.specs.Diagram.{node_of}
 use Rattle.marker_diagrams.proofs.NodeLaws.{keeps_both}
 use Rattle.marker_nodes.specs.Branches.{piece, value_at, variable}
 use Rattle.marker_nodes.specs.Node.{markers}
@@ -51,7 +52,7 @@ granted_node-granted_all-requires g t c =
         (
           c.requires.rules,
           (
-            are_under c.args.nodes.now c.requires.rules c.args.id c.requires.held c.requires.plain (variable c.in_ok-branches-in-Some.branches) (value_at c.in_ok-branches-in-Some.branches) (has_clone c.args.nodes.now c.requires.rules c.args.id c.requires.held c.requires.plain c.in-Some.node.now c.in-Some.ensures c.in_ok-branches-in-Some.branches c.in_ok-branches-in-Some.ensures.cases) c.in_ok-children-in-Some.children.items c.deref.result.now c.deref.ensures.value c.in_ok-children-in-Some.ensures.inhabited,
+            are_under c.args.nodes.now c.requires.rules c.args.id c.requires.held c.requires.plain (variable c.in_ok-branches-in-Some.branches) (value_at c.in_ok-branches-in-Some.branches) (has_clone c.args.nodes.now c.requires.rules c.args.id c.requires.held c.requires.plain c.in-Some.node.now c.in-Some.ensures c.in_ok-branches-in-Some.branches c.in_ok-branches-in-Some.ensures.cases) c.in_ok-children-in-Some.children.items c.deref.result.now c.deref.ensures c.in_ok-children-in-Some.ensures.inhabited,
             (c.requires.callable, c.requires.known),
           ),
         ),
@@ -61,14 +62,14 @@ granted_node-granted_all-requires g t c =
 pub granted_node-place-requires-clause-children : goal.granted_node-place-requires-clause-children
 granted_node-place-requires-clause-children g t c =
     listed_children c.args.nodes.now c.requires.rules c.args.id c.requires.held c.requires.plain (variable c.in_ok-branches-in-Some.branches) (value_at c.in_ok-branches-in-Some.branches) (has_clone c.args.nodes.now c.requires.rules c.args.id c.requires.held c.requires.plain c.in-Some.node.now c.in-Some.ensures c.in_ok-branches-in-Some.branches c.in_ok-branches-in-Some.ensures.cases)
-    (FnReturnsAt g.F.Fn c.args.is_extra.now) c.granted_all.new.nodes c.granted_all.ensures.kept c.in_ok-children-in-Some.children.items c.deref.result.now c.in_ok-children-in-Some-2.children.items c.deref.ensures.value
-    (sym c.in_ok-children-in-Some-2.children.ok.0 ∙ c.in_ok-children-in-Some-2.ensures.count) c.in_ok-children-in-Some-2.ensures.granted (piece c.in_ok-branches-in-Some.branches) c.in_ok-children-in-Some.ensures.value
+    (FnReturnsAt g.F.Fn c.args.is_extra.now) c.granted_all.new.nodes c.granted_all.ensures.kept c.in_ok-children-in-Some.children.items c.deref.result.now c.in_ok-children-in-Some-2.children.items c.deref.ensures
+    c.in_ok-children-in-Some-2.ensures.count c.in_ok-children-in-Some-2.ensures.granted (piece c.in_ok-branches-in-Some.branches) c.in_ok-children-in-Some.ensures.value
 
 pub granted_node-returns-in_ok-children-in-Some-2-clause-granted : goal.granted_node-returns-in_ok-children-in-Some-2-clause-granted
 granted_node-returns-in_ok-children-in-Some-2-clause-granted g t c =
     listed_placed c.args.nodes.now c.requires.rules c.args.id c.requires.held c.requires.plain (variable c.in_ok-branches-in-Some.branches) (value_at c.in_ok-branches-in-Some.branches) (has_clone c.args.nodes.now c.requires.rules c.args.id c.requires.held c.requires.plain c.in-Some.node.now c.in-Some.ensures c.in_ok-branches-in-Some.branches c.in_ok-branches-in-Some.ensures.cases)
-    (FnReturnsAt g.F.Fn c.args.is_extra.now) c.granted_all.new.nodes c.granted_all.ensures.kept c.in_ok-children-in-Some.children.items c.deref.result.now c.in_ok-children-in-Some-2.children.items c.deref.ensures.value
-    (sym c.in_ok-children-in-Some-2.children.ok.0 ∙ c.in_ok-children-in-Some-2.ensures.count) c.in_ok-children-in-Some-2.ensures.granted (piece c.in_ok-branches-in-Some.branches) c.in_ok-children-in-Some.ensures.value
+    (FnReturnsAt g.F.Fn c.args.is_extra.now) c.granted_all.new.nodes c.granted_all.ensures.kept c.in_ok-children-in-Some.children.items c.deref.result.now c.in_ok-children-in-Some-2.children.items c.deref.ensures
+    c.in_ok-children-in-Some-2.ensures.count c.in_ok-children-in-Some-2.ensures.granted (piece c.in_ok-branches-in-Some.branches) c.in_ok-children-in-Some.ensures.value
     c.place.new.self c.place.ensures.kept (clone_untouched c.args.nodes.now c.requires.rules c.args.id c.requires.held c.requires.plain c.in-Some.node.now c.in-Some.ensures c.in_ok-branches-in-Some.branches c.in_ok-branches-in-Some.ensures.cases (FnReturnsAt g.F.Fn c.args.is_extra.now) c.in_default.ensures.untouched)
     c.place.result c.place.ensures.id
 
@@ -92,7 +93,7 @@ granted_all-loop-i-preserved g t c = record {
   known = c.granted.ensures.known;
   len = omega (arith, c.loop-i.invariant.len, c.in_ok-push.ensures.len);
   done = next_granted (FnReturnsAt g.F.Fn c.args.is_extra.now) c.args.nodes.now c.loop-i.nodes c.args.parent c.args.ids.now c.requires.under c.loop-i.invariant.kept c.loop-i.i c.loop-i-test.true _
-      c.granted.new.nodes c.in_ok-id.id c.loop-i.made.items _ c.granted.ensures.kept (sym c.loop-i.made.ok.0 ∙ c.loop-i.invariant.len) c.loop-i.invariant.done c.in_ok-id.ensures.granted c.in_ok-push.ensures.items;
+      c.granted.new.nodes c.in_ok-id.id c.loop-i.made.items _ c.granted.ensures.kept c.loop-i.invariant.len c.loop-i.invariant.done c.in_ok-id.ensures.granted c.in_ok-push.ensures.ok;
 }
 
 pub granted_all-returns-clause-granted : goal.granted_all-returns-clause-granted

@@ -1,5 +1,4 @@
-use Rattle.std.proofs.Common.{◌≡◌, ◌+◌, ◌*◌}
-use Rattle.std.specs.Prelude.{vec_len}
+use Rattle.std.proofs.Common.{◌≡◌, ◌+◌, ◌*◌, length}
 use Rattle.std.specs.Fn.{FnReturnsAt}
 use Rattle.marker_diagrams.specs.Id.{place_of}
 use Rattle.marker_diagrams.specs.Diagram.{IsStore, Keeps}
@@ -21,6 +20,6 @@ invariant-granted_all-loop-i g l = record {
   rules : IsStore markers l.nodes;
   kept : Keeps markers l.initial.nodes l.nodes;
   known : AreKnown l.nodes (FnReturnsAt g.F.Fn l.is_extra) l.known.entries;
-  len : vec_len l.made ≡ l.i;
+  len : length l.made.items ≡ l.i;
   done : AreGranted l.nodes (FnReturnsAt g.F.Fn l.is_extra) l.ids l.made.items;
 }

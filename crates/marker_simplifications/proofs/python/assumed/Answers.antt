@@ -15,7 +15,7 @@ assumed_at_python-requires-clause-after c = λ n e. later_first n (c.in_default.
 pub assumed_all-requires-clause-children : goal.assumed_all-requires-clause-children
 assumed_all-requires-clause-children c =
     children_later c.args.nodes.now c.requires.rules c.args.id c.requires.held c.in-Some.edges.now c.in_ok-edges.edges c.in-Some.ensures.found c.in_ok-edges.ensures.cases.1
-    c.in_ok-children.children.items c.deref.result.now c.deref.ensures.value (λ j w e. let q = c.in_ok-children.ensures.inhabited j w e in (q.0.version ImplementationVersion, q.1))
+    c.in_ok-children.children.items c.deref.result.now c.deref.ensures (λ j w e. let q = c.in_ok-children.ensures.inhabited j w e in (q.0.version ImplementationVersion, q.1))
 
 pub place-requires-clause-children : goal.place-requires-clause-children
 place-requires-clause-children c =
@@ -26,7 +26,7 @@ place-requires-clause-children c =
     made_children c.args.nodes.now c.requires.rules lower upper c.requires.point.0 c.requires.point.1 c.args.id c.requires.held c.in-Some.edges.now c.in-Some.ensures.found mid c.in_ok-children-2.ensures.kept
     (λ q. child_at made (piece_of version_cmp c.in_ok-edges.edges q))
     (made_at mid lower upper c.in-Some.edges.now c.in_ok-edges.edges c.in_ok-children.children.items made c.in_ok-edges.ensures.cases.1 (λ q. c.in_ok-children.ensures.value (at_version q))
-    (sym c.in_ok-children-2.children.ok.0 ∙ c.in_ok-children-2.ensures.count ∙ ap length c.deref.ensures.value) (subst (λ l. AreAssumed mid lower upper l made) c.deref.ensures.value c.in_ok-children-2.ensures.assumed))
+    (c.in_ok-children-2.ensures.count ∙ ap length c.deref.ensures) (subst (λ l. AreAssumed mid lower upper l made) c.deref.ensures c.in_ok-children-2.ensures.assumed))
 
 pub returns-clause-assumed : goal.returns-clause-assumed
 returns-clause-assumed c =
@@ -38,5 +38,5 @@ returns-clause-assumed c =
     (made_is c.args.nodes.now c.requires.rules lower upper c.requires.point.0 c.requires.point.1 c.args.id c.requires.held c.in-Some.edges.now c.in-Some.ensures.found mid c.in_ok-children-2.ensures.kept
     (λ q. child_at made (piece_of version_cmp c.in_ok-edges.edges q))
     (made_at mid lower upper c.in-Some.edges.now c.in_ok-edges.edges c.in_ok-children.children.items made c.in_ok-edges.ensures.cases.1 (λ q. c.in_ok-children.ensures.value (at_version q))
-    (sym c.in_ok-children-2.children.ok.0 ∙ c.in_ok-children-2.ensures.count ∙ ap length c.deref.ensures.value) (subst (λ l. AreAssumed mid lower upper l made) c.deref.ensures.value c.in_ok-children-2.ensures.assumed))
+    (c.in_ok-children-2.ensures.count ∙ ap length c.deref.ensures) (subst (λ l. AreAssumed mid lower upper l made) c.deref.ensures c.in_ok-children-2.ensures.assumed))
     c.place.new.self c.in_ok-placed.ensures.kept c.in_ok-placed.placed c.in_ok-placed.ensures.id)

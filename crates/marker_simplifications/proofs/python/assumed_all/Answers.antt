@@ -10,7 +10,7 @@ loop-child-init c = record {
   rules = c.requires.rules;
   kept = keeps_itself markers c.args.nodes.now;
   found = found_none (bound_of c.args.lower) (bound_of c.args.upper) c.args.nodes.now c.new-known.result.entries c.new-known.ensures.empty;
-  len = c.in_ok-made.made.ok.0 ∙ ap length c.in_ok-made.ensures.items;
+  len = ap length c.in_ok-made.ensures.items;
   done = assumed_none (bound_of c.args.lower) (bound_of c.args.upper) c.args.nodes.now c.args.children.now c.in_ok-made.made.items c.in_ok-made.ensures.items;
 }
 
@@ -29,7 +29,7 @@ loop-child-preserved c = record {
   found = c.in_ok-id.ensures.known;
   len = omega (arith, c.loop-child.invariant.len, c.in_ok-push.ensures.len);
   done = next_assumed c.args.nodes.now c.loop-child.nodes (bound_of c.args.lower) (bound_of c.args.upper) c.args.children.now c.requires.children c.loop-child.invariant.kept c.loop-child.child-index c.loop-child-test.true _
-      c.assumed_once.new.nodes c.in_ok-id.id c.loop-child.made.items _ c.in_ok-id.ensures.kept (sym c.loop-child.made.ok.0 ∙ c.loop-child.invariant.len) c.loop-child.invariant.done c.in_ok-id.ensures.assumed c.in_ok-push.ensures.items;
+      c.assumed_once.new.nodes c.in_ok-id.id c.loop-child.made.items _ c.in_ok-id.ensures.kept c.loop-child.invariant.len c.loop-child.invariant.done c.in_ok-id.ensures.assumed c.in_ok-push.ensures.ok;
 }
 
 pub returns-clause-assumed : goal.returns-clause-assumed

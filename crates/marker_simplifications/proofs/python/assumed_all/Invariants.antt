@@ -1,5 +1,4 @@
-use Rattle.std.proofs.Common.{◌≡◌}
-use Rattle.std.specs.Prelude.{vec_len}
+use Rattle.std.proofs.Common.{◌≡◌, length}
 use Rattle.version_ranges.specs.Clamp.{bound_of}
 use Rattle.marker_diagrams.specs.Diagram.{IsStore, Keeps}
 use Rattle.marker_nodes.specs.Node.{markers}
@@ -11,6 +10,6 @@ invariant-loop-child l = record {
   rules : IsStore markers l.nodes;
   kept : Keeps markers l.initial.nodes l.nodes;
   found : AreFound l.nodes (bound_of l.lower) (bound_of l.upper) l.known.entries;
-  len : vec_len l.made ≡ l.child-index;
+  len : length l.made.items ≡ l.child-index;
   done : AreAssumed l.nodes (bound_of l.lower) (bound_of l.upper) l.children l.made.items;
 }

@@ -3,8 +3,7 @@ use Rattle.marker_environment.specs.Environment.{valuation_of, values_of}
 use Rattle.marker_diagrams.specs.Id.{place_of}
 use Rattle.marker_diagrams.specs.Diagram.{IsHeld, truth}
 use Rattle.marker_nodes.specs.Node.{markers}
-use Rattle.marker_walks.specs.Report.{path_comparisons}
-use Rattle.marker_walks.proofs.ReportLaws.{Leaves}
+use Rattle.marker_walks.specs.Report.{AddsComparisons}
 use Rattle.marker_walks.proofs.report.evaluate_and_report.Given as goal
 
 abbrev pub invariant-loop-node : goal.invariant-loop-node
@@ -12,7 +11,7 @@ invariant-loop-node g l = record {
   held : IsHeld l.nodes l.at;
   same : truth markers l.nodes l.at (valuation_of (values_of l.environment) l.extras) ≡ truth markers l.nodes l.initial.at (valuation_of (values_of l.environment) l.extras);
   can_report : g.R.Reporter.can_report l.reporter;
-  told : Leaves (path_comparisons l.nodes (place_of l.initial.at) (valuation_of (values_of l.environment) l.extras)) (path_comparisons l.nodes (place_of l.at) (valuation_of (values_of l.environment) l.extras)) (g.R.Reporter.kinds l.initial.reporter) (g.R.Reporter.kinds l.reporter);
+  told : AddsComparisons (g.R.Reporter.kinds l.initial.reporter) (g.R.Reporter.kinds l.reporter);
 }
 
 abbrev pub decreases-loop-node : goal.decreases-loop-node
