@@ -1,13 +1,12 @@
 -- How many conjunctions a conjunction makes known.
-use Rattle.std.proofs.Common.{◌≡◌, ℕ, suc, ◌+◌, ◌*◌, ◌<◌, ◌≤◌, Bool, true, false, cond, ◌&&◌, ◌||◌, List, [], ◌∷◌, ◌++◌, length, map, get_or, Option, Some, None, is_some, refl, sym, ap, ◌∙◌, subst, arith}
+use Rattle.std.proofs.Common.{◌≡◌, ℕ, suc, ◌+◌, ◌*◌, ◌≤◌, Bool, true, false, cond, ◌&&◌, ◌||◌, List, [], ◌∷◌, ◌++◌, length, map, Option, Some, None, is_some, refl, sym, ap, ◌∙◌, arith}
 use Rattle.std.specs.List.{list_any}
 use Rattle.std.specs.Map.{lookup}
 use Rattle.std.proofs.lemmas.Bool.{true≢false, false≢true, and_parts, and_from}
 use Rattle.std.proofs.lemmas.List.{length-append}
 use Rattle.std.proofs.lemmas.List.Folds.{list_any-append}
-use Rattle.std.proofs.lemmas.Option.{slice_get-get_or}
 use Rattle.marker_diagrams.specs.declared.node_id.NodeId.{NodeId}
-use Rattle.marker_diagrams.specs.Id.{place_of, is_negated, signed_id, same_id}
+use Rattle.marker_diagrams.specs.Id.{place_of, same_id}
 use Rattle.marker_diagrams.specs.Diagram.{IsHeld}
 use Rattle.marker_diagrams.specs.Residue.{IsSubtree, itself}
 use Rattle.marker_diagrams.proofs.IdLaws.{same_id_is, same_id_itself}
@@ -15,7 +14,6 @@ use Rattle.marker_diagrams.proofs.NodeLaws.{Descends}
 use Rattle.marker_diagrams.proofs.ResidueLaws.{subtree_both, subtree_kept}
 use Rattle.marker_nodes.specs.Node.{Node, markers}
 use Rattle.marker_conjunctions.specs.Contents.{Contents, IsKept, IsWellKept, same_pair}
-use Rattle.marker_conjunctions.specs.Branch.{AreBelow}
 use Rattle.marker_conjunctions.specs.Count.{Spends, unknown}
 
 pub or_left : (s t : Bool) → s ≡ true → (s || t) ≡ true

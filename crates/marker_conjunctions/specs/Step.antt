@@ -52,11 +52,14 @@ pub record IsWanted (nodes : List Node) (memo : Memo) (a b : NodeId) (p : NodeId
 
 abbrev pub AreWanted : List Node → Memo → NodeId → NodeId → List (NodeId × NodeId) → Type 0
 AreWanted nodes memo a b [] = ⊤
-AreWanted nodes memo a b (p ∷ pairs) = IsWanted nodes memo a b p × AreWanted nodes memo a b pairs
+AreWanted nodes memo a b (p ∷ pairs) =
+    IsWanted nodes memo a b p × AreWanted nodes memo a b pairs
 
 -- the conjunction of each pair of children of a and b is settled
 abbrev pub HasChildren : List Node → Memo → NodeId → NodeId → Type 0
-HasChildren nodes memo a b = (x : Variable) → IsFirst nodes x a b → (v : Valuation) → IsSettled memo (branch nodes x a v, branch nodes x b v)
+HasChildren nodes memo a b =
+    (x : Variable) → IsFirst nodes x a b → (v : Valuation)
+    → IsSettled memo (branch nodes x a v, branch nodes x b v)
 
 -- the conjunction is still to be computed, and those of the children are settled
 pub record IsDue (nodes : List Node) (memo : Memo) (p : NodeId × NodeId) : Type 0 where
@@ -71,4 +74,6 @@ pub record Waits (nodes : List Node) (a b : NodeId) (old new : List (NodeId × N
 
 -- each pair of children, before the signs of a and b, is settled
 abbrev pub AreSettled : Memo → NodeId → NodeId → List (NodeId × NodeId) → Type 0
-AreSettled memo a b pairs = (i : ℕ) (p : NodeId × NodeId) → slice_get pairs i ≡ Some p → IsSettled memo (signed_id (is_negated a) p.0, signed_id (is_negated b) p.1)
+AreSettled memo a b pairs =
+    (i : ℕ) (p : NodeId × NodeId) → slice_get pairs i ≡ Some p
+    → IsSettled memo (signed_id (is_negated a) p.0, signed_id (is_negated b) p.1)
