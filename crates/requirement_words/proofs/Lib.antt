@@ -1,0 +1,4 @@
+pub mod FaultLaws
+pub mod RunLaws
+pub mod UrlLaws
+mod Splits
