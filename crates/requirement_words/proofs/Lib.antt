@@ -1,4 +1,9 @@
+pub mod Characters
+pub mod ExtrasLaws
 pub mod FaultLaws
+pub mod NameEnds
+pub mod OpenLaws
 pub mod RunLaws
+pub mod SpecifierLaws
 pub mod UrlLaws
 mod Splits

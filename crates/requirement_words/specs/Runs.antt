@@ -1,21 +1,19 @@
 -- Runs of characters at the front of a list of characters: of names (PEP 508, "Names"), of single
 -- specifiers, and of white space. (Where a specifier ends is this project's own.)
 use Rattle.std.specs.Prelude.{ℕ, Bool, List, [], ◌∷◌, ◌||◌, ◌&&◌, ◌==◌, not, if◌then◌else◌}
-use Rattle.std.specs.Char.{is_ascii_alphanumeric, is_whitespace}
+use Rattle.std.specs.Char.{is_whitespace}
+use Rattle.pep508_names.specs.Name.{is_name_character}
 use Rattle.requirement_words.specs.declared.runs.Part.{Part}
 use Rattle.requirement_words.specs.declared.runs.Part.TheVariants.{Name, Specifier, Blank}
-
--- a letter or digit of ASCII, `-`, `_` or `.`
-abbrev pub is_name_part : ℕ → Bool
-is_name_part c = is_ascii_alphanumeric c || (c == 45 || (c == 95 || c == 46))
 
 -- a carriage return or a line feed
 abbrev pub is_line_break : ℕ → Bool
 is_line_break c = c == 13 || c == 10
 
--- the character belongs to the part; 44 is the comma
+-- the character belongs to the part: a letter or digit of ASCII, `-`, `_` or `.` to a name; 44 is the
+-- comma
 abbrev pub holds : Part → ℕ → Bool
-holds Name c = is_name_part c
+holds Name c = is_name_character c
 holds (Specifier end) c = not (c == 44 || c == end)
 holds Blank c = is_whitespace c && not (is_line_break c)
 

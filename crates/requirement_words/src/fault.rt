@@ -1,6 +1,6 @@
 //! What is wrong with a requirement, and where.
 
-ghost use Rattle.std.specs.Prelude.{◌≡◌, ◌++◌, ◌+◌, ◌-◌, ℕ, [], length, encode_utf8};
+ghost use Rattle.std.specs.Prelude.{◌≡◌, ◌++◌, ◌∷◌, ◌-◌, ◌<◌, ℕ, List, [], drop, length};
 ghost use Rattle.pep508_text.specs.Suffix.{IsPiece, IsSpan, IsSuffix, StandsAt};
 ghost use Rattle.requirement_words.specs.Message.{is_unsupported, message_of, span_len};
 
@@ -100,14 +100,14 @@ impl<'a> Fault<'a> {
         }
     }
 
-    // A fault at the last character of a run, which stands between `front` and `rest`.
-    pub(crate) fn at_last(kind: FaultKind, run: &'a str, front: &str, rest: &str) -> Fault<'a>
-        requires { (c : ℕ) × (run.now ≡ front.now ++ encode_utf8 c) }
+    // A fault at the last character of a run, which is of ASCII and stands before `rest`.
+    pub(crate) fn at_last(kind: FaultKind, run: &'a str, rest: &str) -> Fault<'a>
+        requires { (front : List ℕ) × (c : ℕ) × (run.now ≡ front ++ c ∷ []) × (c < 128) }
         ensures kind { result.kind ≡ kind }
-        ensures piece { run.now ≡ front.now ++ result.piece.now }
+        ensures piece { result.piece.now ≡ drop (length run.now - 1) run.now }
         ensures left { result.left ≡ length (result.piece.now ++ rest.now) }
     {
-        let piece = run.split_at(front.len()).1;
+        let piece = run.split_at(run.len() - 1).1;
         Fault {
             kind,
             piece,

@@ -5,10 +5,16 @@
 //! is known by its place from the end of the text, so that a fault of what is left is one of the whole.
 #![tactic(auto)]
 
+mod extras;
 mod fault;
+mod nameless;
 mod runs;
+mod specifiers;
 mod url;
 
+pub use crate::extras::read_extras;
 pub use crate::fault::{Fault, FaultKind};
+pub use crate::nameless::{is_archive, is_nameless};
 pub use crate::runs::{Part, split_part};
+pub use crate::specifiers::read_specifiers;
 pub use crate::url::{UrlPlace, split_url};

@@ -2,8 +2,9 @@
 
 ghost use Rattle.std.specs.Prelude.{◌≡◌, ◌++◌, ◌≤◌, length, encode_utf8_all};
 ghost use Rattle.std.specs.Str.{chars};
+ghost use Rattle.pep508_names.specs.Name.{is_name_character};
 ghost use Rattle.pep508_text.specs.Suffix.{IsSuffix};
-ghost use Rattle.requirement_words.specs.Runs.{is_line_break, is_name_part, holds, part_of, after_part};
+ghost use Rattle.requirement_words.specs.Runs.{is_line_break, holds, part_of, after_part};
 
 use pep508_text::first;
 
@@ -24,15 +25,15 @@ impl Part {
         ensures { result ≡ holds self c }
     {
         match self {
-            Part::Name => is_name_part(c),
+            Part::Name => is_name_character(c),
             Part::Specifier(end) => !(c == ',' || c == end),
             Part::Blank => c.is_whitespace() && !is_line_break(c),
         }
     }
 }
 
-fn is_name_part(c: char) -> bool
-    ensures { result ≡ is_name_part c }
+fn is_name_character(c: char) -> bool
+    ensures { result ≡ is_name_character c }
 {
     c.is_ascii_alphanumeric() || matches!(c, '-' | '_' | '.')
 }
