@@ -1,13 +1,13 @@
 -- Names of archives. (This project's own; PEP 508 leaves it open which files an installer takes.) Texts
 -- are lists of bytes.
-use Rattle.std.specs.Prelude.{◌≡◌, ◌≢◌, ◌||◌, ℕ, Bool, true, List, [], ◌∷◌, ◌++◌, All, codes}
+use Rattle.std.specs.Prelude.{◌≡◌, ◌≢◌, ◌<◌, ◌||◌, ℕ, Bool, true, List, [], ◌∷◌, ◌++◌, codes, get_or, length}
 use Rattle.std.specs.Str.{bytes_eq}
 
 -- the text is something, a dot (46) and this extension, in which there is no dot
 pub record HasExtension (text before extension : List ℕ) : Type 0 where
   pub some : before ≢ []
   pub joined : text ≡ before ++ (46 ∷ extension)
-  pub no_dot : All (λ b. b ≢ 46) extension
+  pub no_dot : (i : ℕ) → i < length extension → get_or extension i 0 ≢ 46
 
 -- extensions of archives
 abbrev pub is_archive_extension : List ℕ → Bool

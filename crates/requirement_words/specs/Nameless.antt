@@ -1,5 +1,5 @@
 -- Paths, URLs and archives that stand in place of a name. (This project's own.) Texts are lists of bytes.
-use Rattle.std.specs.Prelude.{◌≡◌, ℕ, List, ◌∷◌, Contains}
+use Rattle.std.specs.Prelude.{◌≡◌, ℕ, List, ◌∷◌, ◌++◌}
 use Rattle.pep508_urls.specs.Extras.{SplitsExtras}
 use Rattle.pep508_urls.specs.Scheme.{SplitsScheme}
 use Rattle.pep508_urls.specs.Variables.{Expands}
@@ -16,8 +16,8 @@ pub data WithoutExtras (text : List ℕ) : List ℕ → Type 0 where
 -- of an archive
 pub data IsPathOrUrl (text : List ℕ) : Type 0 where
   dotted : {rest : List ℕ} → text ≡ 46 ∷ rest → IsPathOrUrl text
-  slashed : Contains text 47 → IsPathOrUrl text
-  backslashed : Contains text 92 → IsPathOrUrl text
+  slashed : (before rest : List ℕ) → text ≡ before ++ (47 ∷ rest) → IsPathOrUrl text
+  backslashed : (before rest : List ℕ) → text ≡ before ++ (92 ∷ rest) → IsPathOrUrl text
   with_scheme : {scheme rest : List ℕ} → SplitsScheme text scheme rest → IsPathOrUrl text
   archived : IsArchive text → IsPathOrUrl text
 

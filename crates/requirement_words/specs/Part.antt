@@ -53,7 +53,7 @@ Finds UnclosedParenthesis piece back = (piece ≡ 40 ∷ []) × (is_absent 41 (c
 -- a whole piece, up to a comma or what ends the specifiers, that is no specifier
 Finds (Specifier error) piece back = (end : ℕ) × (piece ≡ piece_of end (chars (piece ++ back)))
     × ((s : specifiers.Specifier) → ¬ IsSpecifierText piece s) × IsToldOf error piece
-Finds NoUrl piece back = (piece ≡ []) × ((place : UrlPlace) → url_of place 0 (chars back) ≡ [])
+Finds NoUrl piece back = (piece ≡ []) × ((place : UrlPlace) × (url_of place 0 (chars back) ≡ []))
 Finds AmbiguousEnd piece back = IsOne piece (λ c. (c ≡ 59) ⊎ (c ≡ 35)) × (goes_on (after_space (chars back)) ≡ true)
 Finds Trailing piece back = IsOne piece (λ c. (c ≢ 59) × (is_whitespace c ≡ false))
 -- these are faults of a whole text alone

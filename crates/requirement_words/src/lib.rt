@@ -7,14 +7,20 @@
 
 mod extras;
 mod fault;
+mod head;
 mod nameless;
 mod runs;
 mod specifiers;
+mod tail;
+mod unnamed;
 mod url;
 
 pub use crate::extras::read_extras;
 pub use crate::fault::{Fault, FaultKind};
+pub use crate::head::{Body, Head, read_head};
 pub use crate::nameless::{is_archive, is_nameless};
 pub use crate::runs::{Part, split_part};
 pub use crate::specifiers::read_specifiers;
+pub use crate::tail::read_tail;
+pub use crate::unnamed::{UnnamedHead, read_unnamed_head};
 pub use crate::url::{UrlPlace, split_url};

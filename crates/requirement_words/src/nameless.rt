@@ -1,6 +1,6 @@
 //! Paths, URLs and archives that stand in place of a name.
 
-ghost use Rattle.std.specs.Prelude.{◌≡◌, IfNone, IfOk, IfSome, IsTrue, List, ℕ};
+ghost use Rattle.std.specs.Prelude.{◌≡◌, ◌↔◌, codes, IfNone, IfOk, IfSome, IsTrue, List, ℕ};
 ghost use Rattle.pep508_urls.specs.Variables.{value_of};
 ghost use Rattle.requirement_words.specs.Archive.{HasExtension, IsArchive, is_archive_extension, is_compressed_extension};
 ghost use Rattle.requirement_words.specs.Nameless.{IsNameless, IsPathOrUrl, WithoutExtras};
@@ -16,10 +16,13 @@ fn split_extension(name: &str) -> Option<(&str, &str)>
     ensures none { IfNone result ((before extension : List ℕ)
         → ¬ HasExtension name.now before extension) }
 {
-    match name.rsplit_once('.') {
-        Some((before, extension)) if !before.is_empty() => Some((before, extension)),
-        _ => None,
+    let Some(dot) = name.rfind('.') else {
+        return None;
+    };
+    if dot == 0 {
+        return None;
     }
+    Some((name.split_at(dot).0, name.split_at(dot + 1).1))
 }
 
 fn is_archive_extension(extension: &str) -> bool
@@ -35,6 +38,12 @@ fn is_compressed_extension(extension: &str) -> bool
     ensures { result ≡ is_compressed_extension extension.now }
 {
     matches!(extension, "bz2" | "xz" | "lz" | "lzma" | "gz")
+}
+
+fn is_tar(extension: &str) -> bool
+    ensures { IsTrue result ↔ (extension.now ≡ codes "tar") }
+{
+    extension == "tar"
 }
 
 /// Whether this is the name of an archive: by its extension, as `whl`, `zip` or `tar`, or as `gz` where
@@ -53,7 +62,7 @@ pub fn is_archive(name: &str) -> bool
         return false;
     }
     match split_extension(before) {
-        Some((_, inner)) => inner == "tar",
+        Some((_, inner)) => is_tar(inner),
         None => false,
     }
 }
@@ -72,11 +81,19 @@ fn is_path_or_url(text: &str) -> bool
     ensures yes { IsTrue result → IsPathOrUrl text.now }
     ensures no { IsPathOrUrl text.now → IsTrue result }
 {
-    text.starts_with('.')
-        || text.contains('/')
-        || text.contains('\\')
-        || split_scheme(text).is_some()
-        || is_archive(text)
+    if text.starts_with('.') {
+        return true;
+    }
+    if text.contains('/') {
+        return true;
+    }
+    if text.contains('\\') {
+        return true;
+    }
+    match split_scheme(text) {
+        Some(_) => true,
+        None => is_archive(text),
+    }
 }
 
 /// Whether a run without white space is a path, a URL or an archive that stands without a name. Its
