@@ -266,7 +266,7 @@ nothing_skipped rest behind s e =
     let none_ : s.front ≡ [] = nil_from_length s.front (omega (arith, ap length s.joined, length-append s.front behind)) in
     sym (s.joined ∙ ap (λ (x : List ℕ). x ++ behind) none_)
 
-not_eqb : (c d : ℕ) → c ≢ d → eqb c d ≡ false
+pub not_eqb : (c d : ℕ) → c ≢ d → eqb c d ≡ false
 not_eqb c d h = go (eqb c d) refl
   where
     go : (b : Bool) → eqb c d ≡ b → b ≡ false

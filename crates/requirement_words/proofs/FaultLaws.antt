@@ -96,6 +96,11 @@ last_place text run front rest piece c left cut suffix joined ascii piece_is lef
     IsUtf8-one : (c : ℕ) → c < 128 → IsUtf8 (encode_utf8 c)
     IsUtf8-one c h = subst IsUtf8 (sym (encode_ascii c h)) (IsUtf8-from_ascii (c ∷ []) (none_else c h))
 
+pub rest_begins : (text run front rest piece : List ℕ) (c left : ℕ) → text ≡ run ++ rest → IsSuffix text rest → run ≡ front ++ (c ∷ []) → c < 128
+    → piece ≡ drop (length run - 1) run → left ≡ length (piece ++ rest) → IsSuffix text (piece ++ rest)
+unfolding last_place
+rest_begins text run front rest piece c left cut suffix joined ascii piece_is left_is = (last_place text run front rest piece c left cut suffix joined ascii piece_is left_is).begins
+
 -- a fault at a run's last character
 pub part_at_last : {text run rest piece : List ℕ} {left : ℕ} {found_kind : FaultKind} (front : List ℕ) (c : ℕ) (kind : FaultKind) → text ≡ run ++ rest → IsSuffix text rest
     → run ≡ front ++ (c ∷ []) → c < 128 → found_kind ≡ kind → piece ≡ drop (length run - 1) run → left ≡ length (piece ++ rest)

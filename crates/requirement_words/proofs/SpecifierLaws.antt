@@ -91,7 +91,7 @@ not_memory r f e g = cc
 
 -- ---- what ends the specifiers has not stood
 
-holds_no_end : (end : ℕ) → holds (parts.Specifier end) end ≡ false
+pub holds_no_end : (end : ℕ) → holds (parts.Specifier end) end ≡ false
 holds_no_end end = ap not (ap (λ (b : Bool). eqb end 44 || b) (eq-eqb end end refl) ∙ or-true (eqb end 44))
   where
     or-true : (b : Bool) → (b || true) ≡ true

@@ -75,11 +75,13 @@ fn no_name<'a>(
     ensures { IsRefused (IsFault (value_of surroundings.now) text.now) ⊤ result }
 {
     let (run, _) = split_run(start, Class::NotSpace);
-    match is_nameless(alloc, run, surroundings) {
-        Ok(true) => Refusal::Fault(Fault::at_run(FaultKind::PathWithoutName, run, start)),
-        Ok(false) => Refusal::Fault(Fault::before(FaultKind::NoName, start, after)),
-        Err(_) => Refusal::OutOfMemory,
+    let Ok(nameless) = is_nameless(alloc, run, surroundings) else {
+        return Refusal::OutOfMemory;
+    };
+    if nameless {
+        return Refusal::Fault(Fault::at_run(FaultKind::PathWithoutName, run, start));
     }
+    Refusal::Fault(Fault::before(FaultKind::NoName, start, after))
 }
 
 // What is wrong where this character stands behind the name and the extras, in front of `behind`.
@@ -101,11 +103,13 @@ fn no_body<'a>(
 {
     let start = skip_space(text);
     let (run, _) = split_run(start, Class::NotSpace);
-    match is_nameless(alloc, run, surroundings) {
-        Ok(true) => Refusal::Fault(Fault::at_run(FaultKind::UrlWithoutName, run, start)),
-        Ok(false) => Refusal::Fault(Fault::before(FaultKind::NoBody, behind, after)),
-        Err(_) => Refusal::OutOfMemory,
+    let Ok(nameless) = is_nameless(alloc, run, surroundings) else {
+        return Refusal::OutOfMemory;
+    };
+    if nameless {
+        return Refusal::Fault(Fault::at_run(FaultKind::UrlWithoutName, run, start));
     }
+    Refusal::Fault(Fault::before(FaultKind::NoBody, behind, after))
 }
 
 fn may_follow_name(c: char) -> bool
@@ -122,6 +126,7 @@ fn read_url<'a>(text: &'a str, behind: &'a str) -> Result<(Body<'a>, &'a str), R
     ensures refused { IfErr result (IsRefused (IsPartFault text.now)
         ((output : List ℕ) (asked : Asked) → ¬ IsBody (chars text.now) output asked)) }
     ensures suffix { IfOk result (λ x. IsSuffix text.now x.1.now) }
+    ensures some { IfOk result (λ x. asked_of x.0 ≢ nothing) }
     ensures placed { IfOk result (λ x. (piece : List ℕ) → asked_of x.0 ≡ url piece
         → IsSuffix text.now (piece ++ x.1.now)) }
 {
@@ -195,19 +200,24 @@ fn read_body<'a>(
 fn read_nothing<'a>(
     text: &'a str,
     behind: &'a str,
-) -> Result<(Body<'a>, &'a str), Fault<'a>>
+) -> Result<(Body<'a>, &'a str), Refusal<Fault<'a>>>
     requires behind { IsBehindExtras text.now (chars behind.now) }
+    requires inside { IsSuffix text.now behind.now }
     requires bare { IsBare (chars behind.now) }
-    ensures nothing { IfOk result (λ x. asked_of x.0 ≡ nothing) }
-    ensures rest { IfOk result (λ x. x.1.now ≡ behind.now) }
-    ensures no_archive { IfOk result (λ x. ¬ IsArchive (written_name (chars text.now))) }
-    ensures archive { IfErr result (λ fault. IsArchive (written_name (chars text.now))) }
-    ensures fault { IfErr result (λ fault. (value : List ℕ → List ℕ) → IsFault value text.now fault) }
+    ensures found { IfOk result (λ x.
+        IsAskedIn (chars text.now) (chars behind.now) (chars x.1.now) (asked_of x.0)) }
+    ensures refused { IfErr result (λ refusal. (value : List ℕ → List ℕ)
+        → IsRefused (IsFault value text.now) ((output : List ℕ) (asked : Asked)
+            → ¬ IsAskedIn (chars text.now) (chars behind.now) output asked) refusal) }
+    ensures suffix { IfOk result (λ x. IsSuffix text.now x.1.now) }
+    ensures placed { IfOk result (λ x. (piece : List ℕ) → asked_of x.0 ≡ url piece
+        → IsSuffix text.now (piece ++ x.1.now)) }
 {
     let start = skip_space(text);
     let (run, _) = split_part(start, Part::Name);
     if is_archive(run) {
-        return Err(Fault::at_run(FaultKind::ArchiveWithoutName, run, start));
+        let fault = Fault::at_run(FaultKind::ArchiveWithoutName, run, start);
+        return Err(Refusal::Fault(fault));
     }
     Ok((Body::Nothing, behind))
 }
@@ -231,16 +241,10 @@ fn read_asked<'a>(
         → IsSuffix text.now (piece ++ x.1.now)) }
 {
     let Some((found, after)) = first(behind) else {
-        return match read_nothing(text, behind) {
-            Ok(read) => Ok(read),
-            Err(fault) => Err(Refusal::Fault(fault)),
-        };
+        return read_nothing(text, behind);
     };
     if found == ';' {
-        return match read_nothing(text, behind) {
-            Ok(read) => Ok(read),
-            Err(fault) => Err(Refusal::Fault(fault)),
-        };
+        return read_nothing(text, behind);
     }
     if !may_follow_name(found) {
         return Err(no_body(alloc, text, behind, found, after, surroundings));
