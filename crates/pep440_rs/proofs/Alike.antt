@@ -38,7 +38,7 @@ trimmed-of xs (y ∷ s) some e =
     let m : max 1 (length (y ∷ s)) ≡ length (y ∷ s) = omega arith in
     rw m (subst (λ (z : List ℕ). take (length z) xs ≡ z) e (take-significant xs))
 
-tied-trimmed : (xs ys : List ℕ) → 0 < length xs → 0 < length ys → padded_cmp xs ys ≡ Equal → trimmed xs ≡ trimmed ys
+pub tied-trimmed : (xs ys : List ℕ) → 0 < length xs → 0 < length ys → padded_cmp xs ys ≡ Equal → trimmed xs ≡ trimmed ys
 tied-trimmed xs ys some more e =
     trimmed-of xs (significant xs) some refl ∙ ap shape (padded-tie xs ys e) ∙ sym (trimmed-of ys (significant ys) more refl)
 

@@ -5,3 +5,6 @@ pub mod Listed
 pub mod Raised
 pub mod Specified
 pub mod Trimmed
+pub mod Ends
+pub mod Equals
+pub mod Stars

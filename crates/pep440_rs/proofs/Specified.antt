@@ -23,11 +23,11 @@ use Rattle.pep440_rs.specs.Intervals.{is_in}
 use Rattle.pep440_rs.proofs.Between.{between-same}
 use Rattle.pep440_rs.proofs.Complements.{from_bottom}
 
-some-alike : {A : Type 0} (x y : A) → Some x ≡ Some y → x ≡ y
+pub some-alike : {A : Type 0} (x y : A) → Some x ≡ Some y → x ≡ y
 some-alike x y e = cc e
 
 -- what is there only where a test holds
-if-some : {A : Type 0} (b : Bool) (o : Option A) (y : A) → (if b then o else None) ≡ Some y → (b ≡ true) × (o ≡ Some y)
+pub if-some : {A : Type 0} (b : Bool) (o : Option A) (y : A) → (if b then o else None) ≡ Some y → (b ≡ true) × (o ≡ Some y)
 if-some true o y e = (refl, e)
 if-some false o y e = cc e
 
@@ -77,7 +77,7 @@ minor-tied v m e h =
     (record { release = two-tied v.release m numbers; pre = refl; post = refl; dev = refl; epoch = refl; locals = refl }))
 
 -- the two versions of a star are `M.m` and `M.(m+1)`
-next-of : (a b : Option (ℕ × ℕ)) (m : ℕ × ℕ) → next_minor a b ≡ Some m → (a ≡ Some m) × (b ≡ Some (m.0, m.1 + 1))
+pub next-of : (a b : Option (ℕ × ℕ)) (m : ℕ × ℕ) → next_minor a b ≡ Some m → (a ≡ Some m) × (b ≡ Some (m.0, m.1 + 1))
 next-of (Some x) (Some y) m e =
     let h = if-some ((x.0 == y.0) && (x.1 + 1 == y.1)) (Some x) m e in
     let tests = and_parts (x.0 == y.0) (x.1 + 1 == y.1) h.0 in
@@ -88,7 +88,7 @@ next-of (Some x) (Some y) m e =
 next-of (Some x) None m e = cc e
 next-of None b m e = cc e
 
-star-of : (o : Option (ℕ × ℕ)) (s : Specifier) → star_term o ≡ Some s
+pub star-of : (o : Option (ℕ × ℕ)) (s : Specifier) → star_term o ≡ Some s
     → (m : ℕ × ℕ) × (o ≡ Some m) × (specifier_of_parts operator.EqualStar (release_only (m.0 ∷ m.1 ∷ [])) ≡ s)
 star-of None s e = cc e
 star-of (Some m) s e = (m, refl, some-alike (specifier_of_parts operator.EqualStar (release_only (m.0 ∷ m.1 ∷ []))) s e)

@@ -1,5 +1,5 @@
 -- Ranges of releases, and the specifiers that mean them (this project's own).
-use Rattle.std.specs.Prelude.{◌≡◌, ⊤, Bool, List}
+use Rattle.std.specs.Prelude.{◌≡◌, ◌==◌, ◌&&◌, ⊤, Bool, List}
 use Rattle.std.specs.Borrow.{Bor}
 use Rattle.std.specs.List.{list_all}
 use Rattle.std.specs.Range.Bound.{bound_map}
@@ -8,6 +8,8 @@ use Rattle.std.specs.declared.ops.Bound.TheVariants.{Included, Excluded, Unbound
 use Rattle.version_ranges.specs.Point.{Point, is_in_bounds}
 use Rattle.pep440_version.specs.Order.{version_cmp}
 use Rattle.pep440_version.specs.Parts.{Parts, release_only}
+use Rattle.pep440_version.specs.Valid.{IsValid}
+use Rattle.pep440_specifier.specs.Alone.{is_alone}
 use Rattle.pep440_specifier.specs.Specifier.{Specifier}
 use Rattle.pep440_rs.specs.Intervals.{is_in}
 
@@ -19,11 +21,21 @@ is_in_all specifiers p = list_all (λ s. is_in s.operator s.version.release p) s
 abbrev pub IsRelease : Parts → Type 0
 IsRelease v = v ≡ release_only v.release
 
+-- whether a version is so
+abbrev pub is_release : Parts → Bool
+is_release v = v.epoch == 0 && is_alone v
+
 -- a bound at such a version, or none
 abbrev pub IsAtRelease : Bound (Bor Parts) → Type 0
 IsAtRelease (Included v) = IsRelease v.now
 IsAtRelease (Excluded v) = IsRelease v.now
 IsAtRelease Unbounded = ⊤
+
+-- a bound at a version with valid parts, or none
+abbrev pub IsAtValid : Bound (Bor Parts) → Type 0
+IsAtValid (Included v) = IsValid v.now
+IsAtValid (Excluded v) = IsValid v.now
+IsAtValid Unbounded = ⊤
 
 -- whether a point lies between two bounds at versions that are lent
 abbrev pub is_within : Bound (Bor Parts) → Bound (Bor Parts) → Point Parts → Bool

@@ -2,3 +2,4 @@ pub mod Intervals
 pub mod Bounds
 pub mod PythonVersion
 pub mod Lists
+pub mod Ends

@@ -2,20 +2,24 @@
 
 ghost use Rattle.std.specs.Prelude.{◌≡◌, ◌<◌, ◌↔◌, ℕ, List, Some, length, not, true};
 ghost use Rattle.std.specs.Borrow.{Bor};
-ghost use Rattle.std.specs.List.{list_all};
+ghost use Rattle.std.specs.List.{AllByRecursion, list_all};
 ghost use Rattle.std.specs.Set.{ClonesAreEqual};
 ghost use Rattle.std.specs.declared.cmp.Ordering.TheVariants.{Equal};
 ghost use Rattle.std.specs.declared.ops.Bound.{Bound};
+ghost use Rattle.version_ranges.specs.Alike.{AreAlike};
 ghost use Rattle.version_ranges.specs.Bounds.{passes_at_both};
 ghost use Rattle.version_ranges.specs.Intervals.{intervals_of};
 ghost use Rattle.version_ranges.specs.Point.{Point};
 ghost use Rattle.pep440_specifier.specs.Bounds.{bound_specifiers};
 ghost use Rattle.pep440_specifier.specs.Operator.{negated};
+ghost use Rattle.pep440_specifier.specs.Order.{specifier_cmp};
+ghost use Rattle.pep440_specifier.specs.Specifier.{Specifier};
 ghost use Rattle.pep440_specifier.specs.declared.operator.Operator.{Operator};
 ghost use Rattle.pep440_version.specs.Order.{trimmed_parts, version_cmp};
 ghost use Rattle.pep440_version.specs.Parts.{Parts};
-ghost use Rattle.pep440_rs.specs.Bounds.{is_in_all, is_within, IsAtRelease};
-ghost use Rattle.pep440_rs.specs.Intervals.{HasTrimmedBounds, is_in, is_trimmed};
+ghost use Rattle.pep440_rs.specs.Bounds.{is_in_all, is_release, is_within, IsAtRelease, IsAtValid, IsRelease};
+ghost use Rattle.pep440_rs.specs.Ends.{IsReleasePoint, ends_of, python_ends_of};
+ghost use Rattle.pep440_rs.specs.Intervals.{HasTrimmedBounds, IsAtEnd, is_in, is_trimmed};
 ghost use Rattle.pep440_rs.specs.PythonVersion.{python_is_in};
 
 use pep440_version::Version;
@@ -51,3 +55,37 @@ pub fn trimmed_bounds_have_no_zeros(set: &Ranges<Version>)
 {
     set.iter();
 }
+
+/// Specifiers that are equal stand for one set, and so do their comparisons of `python_version`.
+pub fn equal_specifiers_stand_for_one_set()
+    ensures release { (s t : Specifier) → specifier_cmp s t ≡ Equal → (p : Point Parts)
+        → is_in s.operator s.version.release p ≡ is_in t.operator t.version.release p }
+    ensures python_version { (s t : Specifier) → specifier_cmp s t ≡ Equal
+        → 0 < length s.version.release → 0 < length t.version.release → (p : Point Parts)
+        → python_is_in s.operator s.version.release p ≡ python_is_in t.operator t.version.release p }
+{}
+
+/// The specifiers of a range raise nothing past 64 bits: where a star stands for two bounds, the
+/// number above its last one is that of the upper bound.
+pub fn range_specifiers_raise_nothing()
+    ensures { (lower upper : Bound (Bor Parts)) → IsAtValid upper
+        → AllByRecursion (λ s. ¬ IsAtEnd s.operator s.version.release) (bound_specifiers lower upper) }
+{}
+
+/// A version that is equal to a release is a release: it has release numbers alone, as the test
+/// says.
+pub fn versions_tied_with_releases_are_releases()
+    ensures tied { (v w : Parts) → version_cmp v w ≡ Equal → IsRelease v → IsRelease w }
+    ensures test { (v : Parts) → (is_release v ≡ true) ↔ IsRelease v }
+{}
+
+/// What the set of a specifier answers at a point changes only at its ends, which stand at releases:
+/// two points that stand before the same of them are both in the set, or neither is.
+pub fn sets_change_at_their_ends()
+    ensures release { (o : Operator) (r : List ℕ) (p q : Point Parts)
+        → AreAlike version_cmp p q (ends_of o r) → is_in o r p ≡ is_in o r q }
+    ensures python_version { (o : Operator) (r : List ℕ) (p q : Point Parts)
+        → AreAlike version_cmp p q (python_ends_of o r) → python_is_in o r p ≡ python_is_in o r q }
+    ensures ends { (o : Operator) (r : List ℕ) → AllByRecursion IsReleasePoint (ends_of o r)
+        × AllByRecursion IsReleasePoint (python_ends_of o r) }
+{}

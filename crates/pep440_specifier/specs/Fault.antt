@@ -1,6 +1,7 @@
 -- What is wrong with an operator and a version, or with a text, that are no specifier.
 use Rattle.std.specs.Prelude.{◌≡◌, ◌≢◌, ◌<◌, ◌||◌, ℕ, Bool, true, false, List, [], ◌++◌, length, Option, None, Some, codes, string_bytes}
 use Rattle.std.specs.Fmt.{◌++?◌}
+use Rattle.std.specs.Str.{IsCharBoundary}
 use Rattle.pep440_version.specs.Message.{expected_text, place_text}
 use Rattle.pep440_version.specs.Parts.{Parts}
 use Rattle.pep440_specifier.specs.declared.operator.Operator.{Operator}
@@ -34,6 +35,11 @@ offset_of (Some place) = Some place.offset
 abbrev pub IsAt : Option Place → List ℕ → Type 0
 IsAt None text = ⊥
 IsAt (Some place) text = string_bytes place.text ≡ text
+
+-- between two characters of the text that the error keeps
+abbrev pub IsBetweenCharacters : Option Place → ℕ → Type 0
+IsBetweenCharacters None offset = ⊥
+IsBetweenCharacters (Some place) offset = IsCharBoundary (string_bytes place.text) offset
 
 abbrev pub IsToldOf : VersionSpecifierError → List ℕ → Type 0
 IsToldOf error text = IsAt error.place text

@@ -1,6 +1,7 @@
 -- Version specifiers (PEP 440, "Version specifiers").
 use Rattle.std.specs.Prelude.{◌≡◌, ◌≤◌, Bool, true, false, [], length, Some}
 use Rattle.pep440_version.specs.Parts.{Parts, release_only}
+use Rattle.pep440_version.specs.Valid.{IsValid}
 use Rattle.pep440_specifier.specs.declared.operator.Operator.{Operator}
 use Rattle.pep440_specifier.specs.declared.operator.Operator.TheVariants.{TildeEqual}
 use Rattle.pep440_specifier.specs.Operator.{is_star, takes_local, before_pattern}
@@ -28,3 +29,8 @@ pub record Makes (operator : Operator) (v : Parts) (star : Bool) (s : Specifier)
   pub written : before_pattern operator star ≡ Some s.operator
   pub same : s.version ≡ v
   pub allowed : IsAllowed s
+
+-- a specifier whose operator and version go together, and whose version has valid parts
+pub record IsWellFormed (s : Specifier) : Type 0 where
+  pub allowed : IsAllowed s
+  pub valid : IsValid s.version

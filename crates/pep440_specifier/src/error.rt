@@ -1,7 +1,7 @@
 //! Why an operator and a version, or a text, are no specifier, told in one line.
 
-ghost use Rattle.std.specs.Prelude.{◌≡◌, IfOk, Some};
-ghost use Rattle.pep440_specifier.specs.Fault.{IsToldOf, error_text, fault_text, offset_of};
+ghost use Rattle.std.specs.Prelude.{◌≡◌, IfOk, IfSome, MatchOption, None, Some};
+ghost use Rattle.pep440_specifier.specs.Fault.{IsAt, IsBetweenCharacters, IsToldOf, error_text, fault_text, offset_of};
 
 use crate::operator::Operator;
 use crate::place::Place;
@@ -96,9 +96,22 @@ impl VersionSpecifierError {
         self.fault
     }
 
-    /// How many bytes of the text stand before the fault, None where no text was read.
+    /// The text that was read, with the white space around it, None where no text was read.
+    pub fn text(&self) -> Option<&str>
+        ensures { MatchOption result (self.now.place ≡ None)
+            (λ text. IsAt self.now.place text.now) }
+    {
+        match &self.place {
+            Some(place) => Some(place.text.as_str()),
+            None => None,
+        }
+    }
+
+    /// How many bytes of the text stand before the fault, None where no text was read. There a
+    /// character begins, or the text ends.
     pub fn offset(&self) -> Option<usize>
-        ensures { result ≡ offset_of self.now.place }
+        ensures value { result ≡ offset_of self.now.place }
+        ensures boundary { IfSome result (λ offset. IsBetweenCharacters self.now.place offset) }
     {
         match &self.place {
             Some(place) => Some(place.offset),

@@ -1,14 +1,20 @@
 //! Laws of specifiers. A call of one does nothing: what it promises is its contract.
 
-ghost use Rattle.std.specs.Prelude.{◌≡◌, ◌↔◌, ℕ, List};
+ghost use Rattle.std.specs.Prelude.{◌≡◌, ◌↔◌, ℕ, List, true};
 ghost use Rattle.std.specs.Cmp.{IsTotalOrder};
 ghost use Rattle.std.specs.Hash.{Alike};
+ghost use Rattle.std.specs.List.{list_all};
 ghost use Rattle.std.specs.Ordering.{eq_by_cmp};
 ghost use Rattle.std.specs.declared.cmp.Ordering.TheVariants.{Equal};
+ghost use Rattle.pep440_version.specs.Plain.{IsPlainByte};
 ghost use Rattle.pep440_specifier.specs.Grammar.{IsSpecifierText};
 ghost use Rattle.pep440_specifier.specs.HashInput.{specifier_writes};
 ghost use Rattle.pep440_specifier.specs.Order.{IsSameSpecifier, specifier_cmp};
-ghost use Rattle.pep440_specifier.specs.Specifier.{Specifier};
+ghost use Rattle.pep440_specifier.specs.Specifier.{IsWellFormed, Specifier};
+ghost use Rattle.pep440_specifier.specs.Text.{is_specifier_byte, specifier_text};
+
+use crate::specifier::VersionSpecifier;
+use pep440_version::laws::normal_text_reads_back;
 
 /// The order of specifiers is total.
 pub fn order_is_total()
@@ -29,4 +35,26 @@ pub fn equal_specifiers_hash_alike()
 /// A text says at most one specifier.
 pub fn text_says_one_specifier()
     ensures { (text : List ℕ) (s t : Specifier) → IsSpecifierText text s → IsSpecifierText text t → s ≡ t }
+{}
+
+/// The operator and the version of each specifier go together, and the parts of its version are
+/// valid.
+pub fn specifiers_are_well_formed(specifier: &VersionSpecifier)
+    ensures { IsWellFormed specifier.now }
+{
+    normal_text_reads_back(specifier.version());
+}
+
+/// The text of a specifier is read back as that specifier, with as many release numbers, stars and
+/// `~=` included.
+pub fn specifier_text_reads_back()
+    ensures { (s : Specifier) → IsWellFormed s → IsSpecifierText (specifier_text s) s }
+{}
+
+/// The text of a specifier has the characters of versions and of operators, and `*`, alone: no white
+/// space, no capital, no comma, no semicolon and no quote.
+pub fn specifier_text_is_plain()
+    ensures bytes { (s : Specifier) → IsWellFormed s
+        → list_all is_specifier_byte (specifier_text s) ≡ true }
+    ensures plain { (b : ℕ) → is_specifier_byte b ≡ true → IsPlainByte b }
 {}

@@ -1,6 +1,7 @@
 //! Sets of version specifiers.
 
 ghost use Rattle.std.specs.Prelude.{◌≡◌, IfOk, OnOk, Some, refl};
+ghost use Rattle.std.specs.List.{All};
 ghost use Rattle.std.specs.List.Sorted.{IsPermutation, IsSortedBy, IsStableBy};
 ghost use Rattle.std.specs.Cmp.{eq_by_cmp_equiv, partial_equiv_from_equiv, po};
 ghost use Rattle.std.specs.Cmp.Lexicographic.{lists_equiv, lists_per, lists_ties, lists_total, pointwise, slice_cmp};
@@ -11,8 +12,10 @@ ghost use Rattle.std.specs.Ordering.{eq_by_cmp};
 ghost use Rattle.pep440_specifier.specs.HashInput.{specifier_writes};
 ghost use Rattle.pep440_specifier.specs.Order.{specifier_cmp};
 ghost use Rattle.pep440_specifier.specs.OrderLaws.{specifier_alike, specifier_total};
-ghost use Rattle.pep440_specifier.specs.Set.{is_lower, later_text, set_text};
+ghost use Rattle.pep440_specifier.specs.Set.{IsSet, is_lower, later_text, set_text};
+ghost use Rattle.pep440_specifier.specs.Specifier.{IsWellFormed};
 
+use crate::laws::specifiers_are_well_formed;
 use crate::specifier::VersionSpecifier;
 use std::alloc::AllocError;
 use std::cmp::Ordering;
@@ -33,7 +36,11 @@ impl Model for VersionSpecifiers {
 
     ghost Value = { List Specifier };
 
+    ghost use Rattle.pep440_specifier.specs.Set.{IsSet};
+
     ghost view = { list_of };
+
+    ghost invariant = { λ set. IsSet (list_of set) };
 }
 
 impl VersionSpecifiers {
@@ -47,14 +54,25 @@ impl VersionSpecifiers {
     {
         let mut specifiers = specifiers;
         sort(&mut specifiers)?;
+        each_is_well_formed(&specifiers);
         Ok(VersionSpecifiers { specifiers })
     }
 
     /// The specifiers in the order of their versions.
     pub fn as_slice(&self) -> &[VersionSpecifier]
-        ensures { result.now ≡ self.now }
+        ensures value { result.now ≡ self.now }
+        ensures set { IsSet self.now }
     {
         &self.specifiers
+    }
+}
+
+// What each specifier keeps by its type, a look at each shows of all. Nothing is done.
+fn each_is_well_formed(specifiers: &[VersionSpecifier])
+    ensures { All IsWellFormed specifiers.now }
+{
+    for specifier in specifiers {
+        specifiers_are_well_formed(specifier);
     }
 }
 

@@ -9,3 +9,4 @@ pub mod Patterns
 pub mod Valid
 pub mod ReadBack
 pub mod Trimmed
+pub mod Plain

@@ -11,13 +11,13 @@ use Rattle.pep440_version.specs.declared.version.Prerelease.{Prerelease}
 use Rattle.pep440_version.specs.declared.version.PrereleaseKind.{PrereleaseKind}
 use Rattle.pep440_version.specs.Parts.{Parts, Segment}
 use Rattle.pep440_version.specs.Valid.{is_word_byte}
-use Rattle.pep440_version.specs.Grammar.{IsDev, IsEpoch, IsLocal, IsMark, IsNumber, IsNumbering, IsPost, IsPostWord, IsPre, IsPreWord, IsRelease, IsSegment, IsSegments, IsSeparator, IsVersion, IsVersionText, bare, before, dash, dashed, dev, dot, epoch, last, last_segment, left_out, long_alpha, long_beta, mark, no_dev, no_epoch, no_local, no_mark, no_post, no_pre, numeric, plus, post, pre, segment_before, short_alpha, short_beta, textual, underscore, version, word_c, word_post, word_pre, word_preview, word_r, word_rc, word_rev, written}
+use Rattle.pep440_version.specs.Grammar.{IsDev, IsEpoch, IsLocal, IsMark, IsNumber, IsNumbering, IsPattern, IsPatternText, IsPost, IsPostWord, IsPre, IsPreWord, IsRelease, IsSegment, IsSegments, IsSeparator, IsVersion, IsVersionText, bare, before, dash, dashed, dev, dot, epoch, last, last_segment, left_out, long_alpha, long_beta, mark, no_dev, no_epoch, no_local, no_mark, no_post, no_pre, numeric, plain, plus, post, pre, segment_before, short_alpha, short_beta, starred, textual, underscore, version, word_c, word_post, word_pre, word_preview, word_r, word_rc, word_rev, written}
 
 -- no white space, and not changed by a change to lower case
-abbrev is_text_byte : ℕ → Bool
+abbrev pub is_text_byte : ℕ → Bool
 is_text_byte b = nat_lt b 128 && (not (is_whitespace b) && (to_ascii_lowercase b == b))
 
-abbrev IsPlain : List ℕ → Type 0
+abbrev pub IsPlain : List ℕ → Type 0
 IsPlain t = list_all is_text_byte t ≡ true
 
 record TextByte (b : ℕ) : Type 0 where
@@ -45,7 +45,7 @@ word_byte-plain b h = grind (arith, nat_tests)
 digit-plain : (b : ℕ) → is_ascii_digit b ≡ true → is_text_byte b ≡ true
 digit-plain b h = grind (arith, nat_tests)
 
-all-plain : (test : ℕ → Bool) → ((b : ℕ) → test b ≡ true → is_text_byte b ≡ true) → (t : List ℕ) → list_all test t ≡ true → IsPlain t
+pub all-plain : (test : ℕ → Bool) → ((b : ℕ) → test b ≡ true → is_text_byte b ≡ true) → (t : List ℕ) → list_all test t ≡ true → IsPlain t
 all-plain test f [] h = refl
 all-plain test f (b ∷ t) h = elim (cases_Bool (test b)) [
   | inl e ↦ let rest = all-plain test f t (rw e at h) in rw (f b e, rest) refl
@@ -150,7 +150,7 @@ plain-lower : (t : List ℕ) → IsPlain t → map to_ascii_lowercase t ≡ t
 plain-lower [] h = refl
 plain-lower (b ∷ t) h = let k = plain-first b t h in λ i. k.0.lower i ∷ plain-lower t k.1 i
 
-plain-trim : (t : List ℕ) → IsPlain t → trim t ≡ t
+pub plain-trim : (t : List ℕ) → IsPlain t → trim t ≡ t
 unfolding trim_start trim_end
 plain-trim t h =
     let ascii = plain-ascii t h in
@@ -164,3 +164,13 @@ version-text t v h =
     let plain = version-plain t v h in
     let same : map to_ascii_lowercase (trim t) ≡ t = ap (map to_ascii_lowercase) (plain-trim t plain) ∙ plain-lower t plain in
     subst (λ (z : List ℕ). IsVersion z v) (sym same) h
+
+pattern-plain : (t : List ℕ) (v : Parts) (star : Bool) → IsPattern t v star → IsPlain t
+pattern-plain t v star (plain h) = version-plain t v h
+pattern-plain t v star (starred {m = m} {e = e} {r = r} is_m is_e is_r) = both m _ (mark-plain is_m) (both e _ (epoch-plain is_e) (both r _ (release-plain is_r) refl))
+
+pub pattern-text : (t : List ℕ) (v : Parts) (star : Bool) → IsPattern t v star → IsPatternText t v star
+pattern-text t v star h =
+    let plain = pattern-plain t v star h in
+    let same : map to_ascii_lowercase (trim t) ≡ t = ap (map to_ascii_lowercase) (plain-trim t plain) ∙ plain-lower t plain in
+    subst (λ (z : List ℕ). IsPattern z v star) (sym same) h

@@ -1,5 +1,6 @@
 -- The normal text of a version derives that version.
 use Rattle.std.proofs.Common.{◌≡◌, ◌==◌, ◌++◌, ℕ, ◌<◌, Option, Some, None, List, [], ◌∷◌, length, sym, ap, ◌∙◌, arith, inl, inr, true, false, rules, append-nil, append_assoc, subst}
+use Rattle.std.specs.Prelude.{codes}
 use Rattle.std.specs.Char.{is_ascii_digit}
 use Rattle.std.specs.Fmt.{decimal}
 use Rattle.std.specs.List.{AllByRecursion, list_all}
@@ -10,7 +11,7 @@ use Rattle.pep440_version.specs.declared.version.Prerelease.{Prerelease}
 use Rattle.pep440_version.specs.declared.version.PrereleaseKind.{PrereleaseKind}
 use Rattle.pep440_version.specs.declared.version.PrereleaseKind.TheVariants.{Alpha, Beta, Rc}
 use Rattle.pep440_version.specs.Parts.{Parts, Segment, word, number}
-use Rattle.pep440_version.specs.Grammar.{IsDev, IsEpoch, IsLocal, IsNumber, IsNumbering, IsPost, IsPre, IsRelease, IsSegment, IsSegments, IsVersion, before, dev, dot, epoch, last, last_segment, left_out, no_dev, no_epoch, no_local, no_mark, no_post, no_pre, numeric, plus, post, pre, segment_before, short_alpha, short_beta, textual, value_from, version, word_post, word_rc, written}
+use Rattle.pep440_version.specs.Grammar.{IsDev, IsEpoch, IsLocal, IsNumber, IsNumbering, IsPattern, IsPost, IsPre, IsRelease, IsSegment, IsSegments, IsVersion, before, dev, dot, epoch, last, last_segment, left_out, no_dev, no_epoch, no_local, no_mark, no_post, no_pre, numeric, plus, post, pre, segment_before, starred, starred_parts, short_alpha, short_beta, textual, value_from, version, word_post, word_rc, written}
 use Rattle.pep440_version.specs.Valid.{Fits, FitsIfSome, IsValid, PrereleaseFits, SegmentIsValid}
 use Rattle.pep440_version.specs.Text.{dev_text, dotted, dotted_segments, epoch_text, kind_text, local_text, post_text, pre_text, release_text, segment_text, version_text}
 
@@ -77,3 +78,12 @@ valid-text v h =
     ap (λ (z : List ℕ). epoch_text v.epoch ++ (release_text v.release ++ z))
     (sym (append_assoc (pre_text v.pre) (post_text v.post ++ dev_text v.dev) (local_text v.locals) ∙ ap (λ (z : List ℕ). pre_text v.pre ++ z) (append_assoc (post_text v.post) (dev_text v.dev) (local_text v.locals)))) in
     subst (λ (z : List ℕ). IsVersion z v) same whole
+
+-- the normal text of a release, with `.*` behind it, derives that release with a star
+pub star-text : (e : ℕ) (ns : List ℕ) → IsValid (starred_parts e ns) → IsPattern (version_text (starred_parts e ns) ++ codes ".*") (starred_parts e ns) true
+unfolding version_text
+star-text e ns h =
+    let derived : IsPattern (epoch_text e ++ (release_text ns ++ codes ".*")) (starred_parts e ns) true = starred no_mark (epoch-text e h.epoch) (release-parts ns h.some h.release) in
+    let same : (epoch_text e ++ (release_text ns ++ [])) ++ codes ".*" ≡ epoch_text e ++ (release_text ns ++ codes ".*") =
+    append_assoc (epoch_text e) (release_text ns ++ []) (codes ".*") ∙ ap (λ (z : List ℕ). epoch_text e ++ z) (append_assoc (release_text ns) [] (codes ".*")) in
+    subst (λ (z : List ℕ). IsPattern z (starred_parts e ns) true) (sym same) derived

@@ -1,4 +1,5 @@
 pub mod Parts
+pub mod Plain
 pub mod Valid
 pub mod View
 pub mod Order

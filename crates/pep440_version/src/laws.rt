@@ -1,14 +1,16 @@
 //! Laws of versions. A call of one does nothing: what it promises is its contract.
 
-ghost use Rattle.std.specs.Prelude.{◌≡◌, ◌↔◌, ℕ, Bool, List};
+ghost use Rattle.std.specs.Prelude.{◌≡◌, ◌↔◌, ◌++◌, ℕ, Bool, List, codes, true};
 ghost use Rattle.std.specs.Cmp.{IsTotalOrder};
 ghost use Rattle.std.specs.Hash.{Alike};
+ghost use Rattle.std.specs.List.{list_all};
 ghost use Rattle.std.specs.Ordering.{eq_by_cmp};
 ghost use Rattle.std.specs.declared.cmp.Ordering.TheVariants.{Equal};
-ghost use Rattle.pep440_version.specs.Grammar.{IsPatternText, IsVersionText};
+ghost use Rattle.pep440_version.specs.Grammar.{IsPatternText, IsVersionText, starred_parts};
 ghost use Rattle.pep440_version.specs.Order.{IsSameVersion, version_cmp};
 ghost use Rattle.pep440_version.specs.HashInput.{version_writes};
 ghost use Rattle.pep440_version.specs.Parts.{Parts};
+ghost use Rattle.pep440_version.specs.Plain.{IsPlainByte, is_version_byte};
 ghost use Rattle.pep440_version.specs.Text.{version_text};
 ghost use Rattle.pep440_version.specs.Valid.{IsValid};
 
@@ -49,3 +51,18 @@ pub fn normal_text_reads_back(version: &Version)
     // A look at a part shows what every version keeps.
     let _ = &version.epoch;
 }
+
+/// The normal text of a version has lower-case letters, digits, `!`, `+` and `.` alone: no white
+/// space, no capital, no comma, no semicolon and no quote.
+pub fn normal_text_is_plain()
+    ensures bytes { (v : Parts) → IsValid v → list_all is_version_byte (version_text v) ≡ true }
+    ensures plain { (b : ℕ) → is_version_byte b ≡ true → IsPlainByte b }
+{}
+
+/// The normal text of a release, with an epoch or without, and `.*` behind it is read back as that
+/// release with a star.
+pub fn starred_text_reads_back()
+    ensures { (epoch : ℕ) (release : List ℕ) → IsValid (starred_parts epoch release)
+        → IsPatternText (version_text (starred_parts epoch release) ++ codes ".*")
+        (starred_parts epoch release) true }
+{}

@@ -1,4 +1,4 @@
 pub mod ClassLaws
 pub mod RunLaws
 pub mod SuffixLaws
-mod Splits
+pub mod Splits

@@ -1,11 +1,13 @@
--- A text cut behind a run of characters.
-use Rattle.std.proofs.Common.{◌≡◌, ℕ, ◌-◌, ◌≤◌, true, false, List, [], ◌∷◌, ◌++◌, length, take, drop, refl, sym, ap, ◌∙◌, subst, append_assoc, arith, length-append, IsUtf8}
+-- A text that is cut where a front of it ends, over any two functions of characters: one that tells the front, and one
+-- that tells what follows it. A reader that takes characters while they pass keeps `Passed`, and has `Stopped` at its end.
+use Rattle.std.proofs.Common.{◌≡◌, ℕ, true, false, ◌-◌, ◌≤◌, List, [], ◌∷◌, ◌++◌, length, take, drop, refl, sym, ap, ◌∙◌, subst, append_assoc, arith, length-append, IsUtf8}
 use Rattle.std.specs.Prelude.{encode_utf8, encode_utf8_all}
 use Rattle.std.specs.Str.{chars, IsCharBoundary}
 use Rattle.std.proofs.lemmas.List.{append_cancel_right, take_at, drop_at, append-nil}
-use Rattle.std.proofs.lemmas.Str.{chars-append, chars-nil, IsUtf8-take, IsCharBoundary-at_seam, chars_past_char, IsUtf8-past_char, encodes-chars, IsUtf8-drop, IsCharBoundary-from_take}
+use Rattle.std.proofs.lemmas.Str.{chars-append, chars-nil, IsUtf8-take, IsUtf8-drop, IsCharBoundary-at_seam, IsCharBoundary-from_take, chars_past_char, IsUtf8-past_char, encodes-chars}
 use Rattle.pep508_text.specs.Class.{holds}
 use Rattle.pep508_text.specs.Run.{run_of, after_run}
+use Rattle.pep508_text.specs.Suffix.{IsSuffix}
 use Rattle.pep508_text.specs.declared.classes.Class.{Class}
 use Rattle.pep508_text.proofs.RunLaws.{run_of-holds, run_of-fails, after_run-holds, after_run-fails}
 
@@ -15,69 +17,110 @@ front_is_utf8 text front rest e utf8 rest_utf8 =
     let cut = IsUtf8-take text (length front) utf8 (IsCharBoundary-at_seam text front rest e rest_utf8) in
     subst IsUtf8 (ap (take (length front)) e ∙ take_at front rest (length front) refl) cut
 
--- the front of a text passes, and the rest is still to be looked at
-pub record Passed (p : Class) (text rest : List ℕ) : Type 0 where
-  pub front : List ℕ
-  pub joined : text ≡ front ++ rest
-  pub run : run_of p (chars text) ≡ chars front ++ run_of p (chars rest)
-  pub after : after_run p (chars text) ≡ after_run p (chars rest)
-  pub rest_utf8 : IsUtf8 rest
+-- the characters of a front and one more
+front_and_one : (text front rest after : List ℕ) (c : ℕ) → IsUtf8 text → text ≡ front ++ rest → IsUtf8 rest → rest ≡ encode_utf8 c ++ after → chars rest ≡ c ∷ chars after
+    → (text ≡ (front ++ encode_utf8 c) ++ after) × (chars (front ++ encode_utf8 c) ≡ chars front ++ (c ∷ [])) × IsUtf8 after
+front_and_one text front rest after c utf8 joined rest_utf8 bytes characters =
+    let after_utf8 = IsUtf8-past_char rest after c rest_utf8 bytes in
+    let longer = front ++ encode_utf8 c in
+    let again : text ≡ longer ++ after = joined ∙ ap (λ (x : List ℕ). front ++ x) bytes ∙ sym (append_assoc front (encode_utf8 c) after) in
+    let old : chars text ≡ chars front ++ chars rest = ap chars joined ∙ chars-append front rest (front_is_utf8 text front rest joined utf8 rest_utf8) in
+    let new : chars text ≡ chars longer ++ chars after = ap chars again ∙ chars-append longer after (front_is_utf8 text longer after again utf8 after_utf8) in
+    let whole : chars text ≡ (chars front ++ (c ∷ [])) ++ chars after = old ∙ ap (λ (x : List ℕ). chars front ++ x) characters ∙ sym (append_assoc (chars front) (c ∷ []) (chars after)) in
+    (again, append_cancel_right (chars longer) (chars front ++ (c ∷ [])) (chars after) (sym new ∙ whole), after_utf8)
 
-pub none_passed : (p : Class) (text : List ℕ) → IsUtf8 text → Passed p text text
-none_passed p text utf8 = record { front = []; joined = refl; run = ap (λ (x : List ℕ). x ++ run_of p (chars text)) (sym chars-nil); after = refl; rest_utf8 = utf8 }
+module _ (front_of after_front : List ℕ → List ℕ) where
+  -- the front passes, and `rest` is still to be looked at
+  pub record Passed (text rest : List ℕ) : Type 0 where
+    pub front : List ℕ
+    pub joined : text ≡ front ++ rest
+    pub run : front_of (chars text) ≡ chars front ++ front_of (chars rest)
+    pub after : after_front (chars text) ≡ after_front (chars rest)
+    pub rest_utf8 : IsUtf8 rest
 
--- one more character passes
-pub passed_more : (p : Class) (text rest after : List ℕ) (c : ℕ) → IsUtf8 text → Passed p text rest → rest ≡ encode_utf8 c ++ after → chars rest ≡ c ∷ chars after → holds p c ≡ true → Passed p text after
-passed_more p text rest after c utf8 passed bytes characters passes =
-    let after_utf8 = IsUtf8-past_char rest after c passed.rest_utf8 bytes in
-    let front = passed.front ++ encode_utf8 c in
-    let joined : text ≡ front ++ after = passed.joined ∙ ap (λ (x : List ℕ). passed.front ++ x) bytes ∙ sym (append_assoc passed.front (encode_utf8 c) after) in
-    let old : chars text ≡ chars passed.front ++ chars rest = ap chars passed.joined ∙ chars-append passed.front rest (front_is_utf8 text passed.front rest passed.joined utf8 passed.rest_utf8) in
-    let new : chars text ≡ chars front ++ chars after = ap chars joined ∙ chars-append front after (front_is_utf8 text front after joined utf8 after_utf8) in
-    let again : chars text ≡ (chars passed.front ++ (c ∷ [])) ++ chars after = old ∙ ap (λ (x : List ℕ). chars passed.front ++ x) characters ∙ sym (append_assoc (chars passed.front) (c ∷ []) (chars after)) in
-    let front_chars : chars front ≡ chars passed.front ++ (c ∷ []) = append_cancel_right (chars front) (chars passed.front ++ (c ∷ [])) (chars after) (sym new ∙ again) in
-    record {
-      front = front;
-      joined = joined;
-      run = passed.run ∙ ap (λ (x : List ℕ). chars passed.front ++ run_of p x) characters ∙ ap (λ (x : List ℕ). chars passed.front ++ x) (run_of-holds p c (chars after) passes) ∙ sym (append_assoc (chars passed.front) (c ∷ []) (run_of p (chars after))) ∙ ap (λ (x : List ℕ). x ++ run_of p (chars after)) (sym front_chars);
-      after = passed.after ∙ ap (after_run p) characters ∙ after_run-holds p c (chars after) passes;
-      rest_utf8 = after_utf8;
-    }
+  pub none_passed : (text : List ℕ) → IsUtf8 text → Passed text text
+  none_passed text utf8 = record { front = []; joined = refl; run = ap (λ (x : List ℕ). x ++ front_of (chars text)) (sym chars-nil); after = refl; rest_utf8 = utf8 }
 
--- what is known where the run ends
-pub record Stopped (p : Class) (text front rest : List ℕ) : Type 0 where
-  pub joined : text ≡ front ++ rest
-  pub run : chars front ≡ run_of p (chars text)
-  pub bytes : front ≡ encode_utf8_all (run_of p (chars text))
-  pub after : chars rest ≡ after_run p (chars text)
-  pub boundary : IsCharBoundary text (length text - length rest)
-  pub front_is : take (length text - length rest) text ≡ front
-  pub rest_is : drop (length text - length rest) text ≡ rest
+  -- one more character passes
+  pub passed_more : (text rest after : List ℕ) (c : ℕ) → IsUtf8 text → Passed text rest → rest ≡ encode_utf8 c ++ after → chars rest ≡ c ∷ chars after
+      → front_of (c ∷ chars after) ≡ c ∷ front_of (chars after) → after_front (c ∷ chars after) ≡ after_front (chars after) → Passed text after
+  passed_more text rest after c utf8 passed bytes characters run_on after_on =
+      let one = front_and_one text passed.front rest after c utf8 passed.joined passed.rest_utf8 bytes characters in
+      record {
+        front = passed.front ++ encode_utf8 c;
+        joined = one.0;
+        run = passed.run ∙ ap (λ (x : List ℕ). chars passed.front ++ front_of x) characters ∙ ap (λ (x : List ℕ). chars passed.front ++ x) run_on ∙ sym (append_assoc (chars passed.front) (c ∷ []) (front_of (chars after))) ∙ ap (λ (x : List ℕ). x ++ front_of (chars after)) (sym one.1);
+        after = passed.after ∙ ap after_front characters ∙ after_on;
+        rest_utf8 = one.2;
+      }
 
-stopped : (p : Class) (text rest : List ℕ) → IsUtf8 text → (passed : Passed p text rest) → run_of p (chars rest) ≡ [] → after_run p (chars rest) ≡ chars rest → Stopped p text passed.front rest
-stopped p text rest utf8 passed none all =
-    let run : chars passed.front ≡ run_of p (chars text) = sym (passed.run ∙ ap (λ (x : List ℕ). chars passed.front ++ x) none ∙ append-nil (chars passed.front)) in
-    let len : length text - length rest ≡ length passed.front = omega (arith, ap length passed.joined, length-append passed.front rest) in
-    record {
-      joined = passed.joined;
-      run = run;
-      bytes = sym (encodes-chars passed.front (front_is_utf8 text passed.front rest passed.joined utf8 passed.rest_utf8)) ∙ ap encode_utf8_all run;
-      after = sym (passed.after ∙ all);
-      boundary = subst (IsCharBoundary text) (sym len) (IsCharBoundary-at_seam text passed.front rest passed.joined passed.rest_utf8);
-      front_is = ap (λ (n : ℕ). take n text) len ∙ ap (take (length passed.front)) passed.joined ∙ take_at passed.front rest (length passed.front) refl;
-      rest_is = ap (λ (n : ℕ). drop n text) len ∙ ap (drop (length passed.front)) passed.joined ∙ drop_at passed.front rest (length passed.front) refl;
-    }
+  -- what is known where the front ends
+  pub record Stopped (text rest : List ℕ) : Type 0 where
+    pub front : List ℕ
+    pub joined : text ≡ front ++ rest
+    pub rest_utf8 : IsUtf8 rest
+    pub bytes : front ≡ encode_utf8_all (front_of (chars text))
+    pub after : chars rest ≡ after_front (chars text)
+    pub boundary : IsCharBoundary text (length text - length rest)
+    pub front_is : take (length text - length rest) text ≡ front
+    pub rest_is : drop (length text - length rest) text ≡ rest
 
--- at the end of the text
-pub stopped_at_end : (p : Class) (text rest : List ℕ) → IsUtf8 text → (passed : Passed p text rest) → chars rest ≡ [] → Stopped p text passed.front rest
-stopped_at_end p text rest utf8 passed e = stopped p text rest utf8 passed (ap (run_of p) e) (ap (after_run p) e ∙ sym e)
+  ended : (text front rest : List ℕ) → IsUtf8 text → text ≡ front ++ rest → IsUtf8 rest → chars front ≡ front_of (chars text) → chars rest ≡ after_front (chars text) → Stopped text rest
+  ended text front rest utf8 joined rest_utf8 run after =
+      let len : length text - length rest ≡ length front = omega (arith, ap length joined, length-append front rest) in
+      record {
+        front = front;
+        joined = joined;
+        rest_utf8 = rest_utf8;
+        bytes = sym (encodes-chars front (front_is_utf8 text front rest joined utf8 rest_utf8)) ∙ ap encode_utf8_all run;
+        after = after;
+        boundary = subst (IsCharBoundary text) (sym len) (IsCharBoundary-at_seam text front rest joined rest_utf8);
+        front_is = ap (λ (n : ℕ). take n text) len ∙ ap (take (length front)) joined ∙ take_at front rest (length front) refl;
+        rest_is = ap (λ (n : ℕ). drop n text) len ∙ ap (drop (length front)) joined ∙ drop_at front rest (length front) refl;
+      }
 
--- before a character that does not pass
-pub stopped_before : (p : Class) (text rest : List ℕ) → IsUtf8 text → (passed : Passed p text rest) (c : ℕ) (cs : List ℕ) → chars rest ≡ c ∷ cs → holds p c ≡ false → Stopped p text passed.front rest
-stopped_before p text rest utf8 passed c cs e fails =
-    stopped p text rest utf8 passed
-    (ap (run_of p) e ∙ run_of-fails p c cs fails)
-    (ap (after_run p) e ∙ after_run-fails p c cs fails ∙ sym e)
+  -- before what is left
+  pub stopped : (text rest : List ℕ) → IsUtf8 text → Passed text rest → front_of (chars rest) ≡ [] → after_front (chars rest) ≡ chars rest → Stopped text rest
+  stopped text rest utf8 passed none all =
+      ended text passed.front rest utf8 passed.joined passed.rest_utf8
+      (sym (passed.run ∙ ap (λ (x : List ℕ). chars passed.front ++ x) none ∙ append-nil (chars passed.front)))
+      (sym (passed.after ∙ all))
+
+  -- behind one more character
+  pub stopped_behind : (text rest after : List ℕ) (c : ℕ) → IsUtf8 text → Passed text rest → rest ≡ encode_utf8 c ++ after → chars rest ≡ c ∷ chars after
+      → front_of (c ∷ chars after) ≡ c ∷ [] → after_front (c ∷ chars after) ≡ chars after → Stopped text after
+  stopped_behind text rest after c utf8 passed bytes characters last left =
+      let one = front_and_one text passed.front rest after c utf8 passed.joined passed.rest_utf8 bytes characters in
+      ended text (passed.front ++ encode_utf8 c) after utf8 one.0 one.2
+      (one.1 ∙ sym (passed.run ∙ ap (λ (x : List ℕ). chars passed.front ++ front_of x) characters ∙ ap (λ (x : List ℕ). chars passed.front ++ x) last))
+      (sym (passed.after ∙ ap after_front characters ∙ left))
+
+-- what is left of a text that was cut is its end
+pub suffix_of : (front : List ℕ) {text rest : List ℕ} → text ≡ front ++ rest → IsUtf8 rest → IsSuffix text rest
+suffix_of front joined utf8 = record { front = front; joined = joined; utf8 = utf8 }
+
+-- ---- runs of a class
+
+module _ (p : Class) where
+  -- one more character of the class passes
+  pub passed_in_run : (text rest after : List ℕ) (c : ℕ) → IsUtf8 text → Passed (run_of p) (after_run p) text rest → rest ≡ encode_utf8 c ++ after → chars rest ≡ c ∷ chars after
+      → holds p c ≡ true → Passed (run_of p) (after_run p) text after
+  passed_in_run text rest after c utf8 passed bytes characters passes =
+      passed_more (run_of p) (after_run p) text rest after c utf8 passed bytes characters (run_of-holds p c (chars after) passes) (after_run-holds p c (chars after) passes)
+
+  -- a run ends at the end of the text
+  pub stopped_at_end : (text rest : List ℕ) → IsUtf8 text → Passed (run_of p) (after_run p) text rest → chars rest ≡ [] → Stopped (run_of p) (after_run p) text rest
+  stopped_at_end text rest utf8 passed e = stopped (run_of p) (after_run p) text rest utf8 passed (ap (run_of p) e) (ap (after_run p) e ∙ sym e)
+
+  -- or before a character that is not of the class
+  pub stopped_before : (text rest : List ℕ) → IsUtf8 text → Passed (run_of p) (after_run p) text rest → (c : ℕ) (cs : List ℕ) → chars rest ≡ c ∷ cs → holds p c ≡ false
+      → Stopped (run_of p) (after_run p) text rest
+  stopped_before text rest utf8 passed c cs e fails =
+      stopped (run_of p) (after_run p) text rest utf8 passed
+      (ap (run_of p) e ∙ run_of-fails p c cs fails)
+      (ap (after_run p) e ∙ after_run-fails p c cs fails ∙ sym e)
+
+-- ---- the back of a text
 
 -- a text cut where its front is a text has a text behind
 pub back_is_utf8 : (text front rest : List ℕ) → text ≡ front ++ rest → IsUtf8 text → IsUtf8 front → IsUtf8 rest

@@ -131,7 +131,8 @@ const OF_KINDS: [(Operator, &str, &str); 10] = [
 
 // Whether the error prints so. It has no place in a text.
 fn is_error(alloc: Global, error: &VersionSpecifierError, expected: &str) -> Result<bool, Fail> {
-    Ok(error.offset().is_none() && prints(alloc, error, expected)?)
+    let is_without_text = error.text().is_none() && error.offset().is_none();
+    Ok(is_without_text && prints(alloc, error, expected)?)
 }
 
 // Whether the operator and the pattern make this specifier, or are refused with this message.

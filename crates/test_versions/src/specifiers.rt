@@ -263,7 +263,8 @@ fn is_told(alloc: Global, text: &str, offset: usize, message: &str) -> Result<bo
     let Some(fault) = fault_of(VersionSpecifier::parse(alloc, text)) else {
         return Ok(false);
     };
-    Ok(prints(alloc, &fault, message)? && fault.offset() == Some(offset))
+    let is_placed = fault.offset() == Some(offset) && fault.text() == Some(text);
+    Ok(is_placed && prints(alloc, &fault, message)?)
 }
 
 #[test]

@@ -1,5 +1,5 @@
 -- What the values of all cuts pass, the values of the cuts pass that are made of them.
-use Rattle.std.proofs.Common.{◌≡◌, Bool, true, false, cond, List, [], ◌∷◌, ◌++◌, refl, ap, ◌∙◌}
+use Rattle.std.proofs.Common.{◌≡◌, ℕ, zero, suc, ◌<◌, Bool, true, false, cond, List, [], ◌∷◌, ◌++◌, length, get_or, set, refl, ap, ◌∙◌, arith}
 use Rattle.std.proofs.lemmas.Bool.{and_parts, and_from}
 use Rattle.std.proofs.lemmas.List.Folds.{list_all-append, list_all-map}
 use Rattle.std.proofs.lemmas.List.Sorted.{All-permutation}
@@ -17,6 +17,23 @@ use Rattle.version_ranges.specs.Cut.{lower_of, upper_of}
 use Rattle.version_ranges.specs.Intervals.{held}
 use Rattle.version_ranges.specs.Parts.{parts_from}
 use Rattle.version_ranges.specs.Sweep.{merge_steps, overlay, overlay_step, relabel}
+
+-- what each element passes, the one at a place passes, and a list with another one there
+module _ {X : Type 0} (test : X → Bool) where
+  pub passes_at_place : (xs : List X) (i : ℕ) (x : X) → i < length xs → x ≡ get_or xs i x → list_all test xs ≡ true → test x ≡ true
+  passes_at_place [] i x h e k = absurd (omega arith)
+  passes_at_place (y ∷ ys) zero x h e k = ap test e ∙ (and_parts _ _ k).0
+  passes_at_place (y ∷ ys) (suc i) x h e k = passes_at_place ys i x (omega arith) e (and_parts _ _ k).1
+
+  pub set_passes : (xs : List X) (i : ℕ) (x : X) → list_all test xs ≡ true → test x ≡ true → list_all test (set xs i x) ≡ true
+  set_passes [] i x k e = refl
+  set_passes (y ∷ ys) zero x k e = and_from _ _ e (and_parts _ _ k).1
+  set_passes (y ∷ ys) (suc i) x k e = let q = and_parts _ _ k in and_from _ _ q.0 (set_passes ys i x q.1 e)
+
+  -- and a list with one more
+  pub joined_passes : (b : Bool) (xs new : List X) (x : X) → new ≡ cond b xs (xs ++ x ∷ []) → list_all test xs ≡ true → test x ≡ true → list_all test new ≡ true
+  joined_passes true xs new x e k h = ap (list_all test) e ∙ k
+  joined_passes false xs new x e k h = ap (list_all test) e ∙ list_all-append test xs (x ∷ []) ∙ and_from _ _ k (and_from _ _ h refl)
 
 module _ {C : Type 0} (test : C → Bool) where
   -- whether each cut passes

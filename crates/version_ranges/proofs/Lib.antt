@@ -1,3 +1,4 @@
+pub mod AlikeLaws
 pub mod BoundLaws
 pub mod ClampLaws
 pub mod Collected

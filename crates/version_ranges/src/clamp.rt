@@ -1,6 +1,7 @@
 //! Functions whose points are moved into a range.
-ghost use Rattle.std.specs.Prelude.{◌≡◌, IfOk, true, false};
+ghost use Rattle.std.specs.Prelude.{◌≡◌, Bool, IfOk, true, false};
 ghost use Rattle.std.specs.Set.{ClonesAreEqual};
+ghost use Rattle.version_ranges.specs.Bounds.{IsKeptByClones, all_cuts};
 ghost use Rattle.version_ranges.specs.Point.{Point, at, begin_point, is_in_bounds, is_until, point_lt};
 ghost use Rattle.version_ranges.specs.Cut.{cut_point};
 ghost use Rattle.version_ranges.specs.Cuts.{value_of};
@@ -77,7 +78,10 @@ impl<T: Ord + Clone, V: Eq + Clone> Cuts<T, V> {
         requires clones { ClonesAreEqual T.eq T.is_clone }
         requires value_clones { ClonesAreEqual V.eq V.is_clone }
         requires point { (p : Point T) × IsBetween T.cmp (bound_of lower) (bound_of upper) p }
-        ensures { IfOk result (λ r. IsClamped T.cmp (bound_of lower.entry) (bound_of upper.entry) V.eq (value_of T.cmp self.now) (value_of T.cmp r)) }
+        ensures clamped { IfOk result (λ r. IsClamped T.cmp (bound_of lower.entry)
+            (bound_of upper.entry) V.eq (value_of T.cmp self.now) (value_of T.cmp r)) }
+        ensures bounds { IfOk result (λ r. (test : T → Bool) → IsKeptByClones T.is_clone test
+            → all_cuts test self.now ≡ true → all_cuts test r ≡ true) }
     {
         let steps: &[(Cut<T>, V)] = &self.rest;
         let mut first = &self.first;

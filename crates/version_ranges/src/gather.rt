@@ -1,8 +1,9 @@
 //! Functions made of sets of points.
-ghost use Rattle.std.specs.Prelude.{◌≡◌, ◌<◌, ◌++◌, ◌∷◌, [], ℕ, Some, true, not, map, slice_get, IfOk, OnOk, vec_len, if◌then◌else◌, eqb};
+ghost use Rattle.std.specs.Prelude.{◌≡◌, ◌<◌, ◌++◌, ◌∷◌, [], ℕ, Bool, Some, true, not, map, slice_get, IfOk, OnOk, vec_len, if◌then◌else◌, eqb};
 ghost use mathlib.Core.Bool.{beq};
-ghost use Rattle.std.specs.List.{list_any};
+ghost use Rattle.std.specs.List.{list_all, list_any};
 ghost use Rattle.std.specs.Set.{ClonesAreEqual};
+ghost use Rattle.version_ranges.specs.Bounds.{IsKeptByClones, all_bounds, all_cuts};
 ghost use Rattle.version_ranges.specs.Point.{Point};
 ghost use Rattle.version_ranges.specs.Cuts.{value_of, IsMerged};
 ghost use Rattle.version_ranges.specs.Ranges.{contains_point};
@@ -28,6 +29,8 @@ impl<T: Ord + Clone, V: Eq + Clone> Cuts<T, V> {
         requires value_clones { ClonesAreEqual V.eq V.is_clone }
         ensures value { IfOk result (λ r. (p : Point T) → V.eq (value_of T.cmp r p) (if contains_point T.cmp ranges.now p then inside else outside) ≡ true) }
         ensures merged { IfOk result (IsMerged V.eq) }
+        ensures bounds { IfOk result (λ r. (test : T → Bool) → IsKeptByClones T.is_clone test
+            → all_bounds test ranges.now ≡ true → all_cuts test r ≡ true) }
     {
         if inside == outside {
             return Ok(Cuts::constant(alloc, outside));
@@ -52,10 +55,13 @@ fn either<'a, V>(flag: bool, inside: &'a V, outside: &'a V) -> &'a V
 }
 
 impl<T: Ord + Clone, V: Eq + Hash> Cuts<T, V> {
-    /// Each value of the function with the set of the points that have it, in the order of their first points.
+    /// Each value of the function with the set of the points that have it, in the order of their
+    /// first points. The bounds of the sets are those of the function.
     pub fn gather(&self, alloc: Global) -> Result<Vec<(&V, Ranges<T>)>, AllocError>
         requires clones { ClonesAreEqual T.eq T.is_clone }
-        ensures { IfOk result (λ r. IsGathered T.cmp V.eq self.now r.items) }
+        ensures gathered { IfOk result (λ r. IsGathered T.cmp V.eq self.now r.items) }
+        ensures bounds { IfOk result (λ r. (test : T → Bool) → IsKeptByClones T.is_clone test
+            → all_cuts test self.now ≡ true → list_all (λ q. all_bounds test q.1) r.items ≡ true) }
     {
         let mut places = IndexSet::new(alloc);
         let mut pairs = Vec::new(alloc);
@@ -115,6 +121,9 @@ fn pass<T: Ord + Clone, V>(
     ensures len { OnOk result (vec_len pairs.new ≡ vec_len pairs.old) }
     ensures each { OnOk result ((i : ℕ) (q r : _) → slice_get pairs.old.items i ≡ Some q → slice_get pairs.new.items i ≡ Some r
         → (r.0 ≡ q.0) × IsTurned T.cmp (not (beq (eqb i from) (eqb i to))) cut.now q.1 r.1) }
+    ensures bounds { OnOk result ((test : T → Bool) → IsKeptByClones T.is_clone test
+        → test cut.now.value ≡ true → list_all (λ q. all_bounds test q.1) pairs.old.items ≡ true
+        → list_all (λ q. all_bounds test q.1) pairs.new.items ≡ true) }
 {
     if from == to {
         return Ok(());

@@ -1,9 +1,11 @@
 //! Laws of functions and sets. A call of one does nothing: what it promises is its contract.
-ghost use Rattle.std.specs.Prelude.{◌≡◌, ℕ, Bool, List, true, Some, slice_get, string_bytes};
+ghost use Rattle.std.specs.Prelude.{◌≡◌, ℕ, Bool, List, false, true, Some, slice_get, string_bytes};
 ghost use Rattle.std.specs.Ordering.{nat_cmp};
 ghost use Rattle.std.specs.Cmp.Lexicographic.{slice_cmp};
 ghost use Rattle.std.specs.String.{string_eq};
-ghost use Rattle.version_ranges.specs.Point.{Point, point_map};
+ghost use Rattle.std.specs.declared.cmp.Ordering.TheVariants.{Less};
+ghost use Rattle.version_ranges.specs.Alike.{AreAlike, TiesWithNone};
+ghost use Rattle.version_ranges.specs.Point.{Point, point_cmp, point_lt, point_map};
 ghost use Rattle.version_ranges.specs.Cuts.{value_of, value_by, piece_of, piece_by, IsMerged};
 ghost use Rattle.version_ranges.specs.Ranges.{contains_point};
 ghost use Rattle.version_ranges.specs.Parts.{Part, parts_of, same_parts, IsIn};
@@ -73,3 +75,13 @@ pub fn functions_of_texts<V: Eq>(left: &Cuts<String, V>, right: &Cuts<String, V>
     point_lies_in_one_piece(left);
     pieces_have_the_values_of_points(left);
 }
+
+/// Where none of some points ties with a point, there is another one right before it, as far as
+/// these can tell: it comes before the point, not before a lower one that is given, and stands before
+/// the same of them. So what compares points with finitely many points alone changes at these alone.
+pub fn point_before_is_alike<T: Ord>()
+    ensures { (ends : List (Point T)) (low p : Point T)
+        → TiesWithNone T.cmp p ends → point_cmp T.cmp low p ≡ Less
+        → (q : Point T) × (point_lt T.cmp q low ≡ false) × (point_lt T.cmp q p ≡ true)
+        × AreAlike T.cmp q p ends }
+{}

@@ -1,0 +1,17 @@
+-- Points that stand alike to some points: what compares a point with these alone tells no two such
+-- points apart. (This project's own.)
+use Rattle.std.specs.Prelude.{◌≡◌, ◌≢◌, ⊤, List, [], ◌∷◌}
+use Rattle.std.specs.declared.cmp.Ordering.{Ordering}
+use Rattle.std.specs.declared.cmp.Ordering.TheVariants.{Equal}
+use Rattle.version_ranges.specs.Point.{Point, point_cmp, point_lt}
+
+module _ {T : Type 0} (cmp : T → T → Ordering) where
+  -- a point ties with none of these
+  abbrev pub TiesWithNone : Point T → List (Point T) → Type 0
+  TiesWithNone p [] = ⊤
+  TiesWithNone p (end ∷ ends) = (point_cmp cmp end p ≢ Equal) × TiesWithNone p ends
+
+  -- two points stand before the same of these
+  abbrev pub AreAlike : Point T → Point T → List (Point T) → Type 0
+  AreAlike p q [] = ⊤
+  AreAlike p q (end ∷ ends) = (point_lt cmp p end ≡ point_lt cmp q end) × AreAlike p q ends
