@@ -102,7 +102,6 @@ none_name text left names reading unnamed output ns h =
     let g = reading.only output ns h in
     no_name _ output g.0 unnamed g.1
 
-
 -- no bracket
 no_bracket : (t : List ℕ) → ((rest : List ℕ) → t ≢ 91 ∷ rest) → begins_bracket t ≡ false
 no_bracket [] h = refl
@@ -207,7 +206,7 @@ begins_unnamed t c cs o n e other h = go (is_name_character c) refl
     go true is =
         let run = (part_holds Name c cs is).0 in
         let bytes : encode_utf8_all (part_of Name t) ≡ c ∷ encode_utf8_all (part_of Name cs) =
-            ap (λ (x : List ℕ). encode_utf8_all (part_of Name x)) e ∙ ap encode_utf8_all run ∙ ap (λ (x : List ℕ). x ++ encode_utf8_all (part_of Name cs)) (encode_ascii c (name_byte c is)) in
+        ap (λ (x : List ℕ). encode_utf8_all (part_of Name x)) e ∙ ap encode_utf8_all run ∙ ap (λ (x : List ℕ). x ++ encode_utf8_all (part_of Name cs)) (encode_ascii c (name_byte c is)) in
         false≢true (sym other ∙ first_byte _ c _ (n, h.name) bytes)
     go false is = unnamed h.name (ap (λ (x : List ℕ). encode_utf8_all (part_of Name x)) e ∙ ap encode_utf8_all (part_fails Name c cs is).0)
 

@@ -59,9 +59,9 @@ pub part_in_front : (text piece back : List ℕ) (kind found_kind : FaultKind) (
     → Finds kind piece back → IsPartFaultAt text found_kind piece left
 part_in_front text piece back kind found_kind left utf8 ends kind_is joined left_is found =
     let here : IsPartFaultAt text kind piece left = record {
-        place = record { back = back; begins = subst (IsSuffix text) joined (suffix_self text utf8); ends = ends; length_is = ap length (sym joined) ∙ sym left_is };
-        found = found;
-      } in
+      place = record { back = back; begins = subst (IsSuffix text) joined (suffix_self text utf8); ends = ends; length_is = ap length (sym joined) ∙ sym left_is };
+      found = found;
+    } in
     subst (λ (k : FaultKind). IsPartFaultAt text k piece left) (sym kind_is) here
 
 -- the piece in front of the same rest
@@ -108,9 +108,9 @@ pub part_at_last : {text run rest piece : List ℕ} {left : ℕ} {found_kind : F
 unfolding last_place
 part_at_last {text} {run} {rest} {piece} {left} {found_kind} front c kind cut suffix joined ascii kind_is piece_is left_is found =
     let here : IsPartFaultAt text kind piece left = record {
-        place = last_place text run front rest piece c left cut suffix joined ascii piece_is left_is;
-        found = found (piece_is ∙ last_is run front c joined ∙ sym (encode_ascii c ascii));
-      } in
+      place = last_place text run front rest piece c left cut suffix joined ascii piece_is left_is;
+      found = found (piece_is ∙ last_is run front c joined ∙ sym (encode_ascii c ascii));
+    } in
     subst (λ (k : FaultKind). IsPartFaultAt text k piece left) (sym kind_is) here
 
 -- ---- refusals

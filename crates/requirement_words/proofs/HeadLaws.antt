@@ -211,9 +211,9 @@ pub fault_in_front : (value : List ℕ → List ℕ) (text start piece back : Li
     → start ≡ piece ++ back → left ≡ length start → Holds value kind text piece back → IsFaultAt value text found_kind piece left
 fault_in_front value text start piece back kind found_kind left s ends kind_is joined left_is found =
     let here : IsFaultAt value text kind piece left = record {
-        place = record { back = back; begins = subst (IsSuffix text) joined s; ends = ends; length_is = ap length (sym joined) ∙ sym left_is };
-        found = found;
-      } in
+      place = record { back = back; begins = subst (IsSuffix text) joined s; ends = ends; length_is = ap length (sym joined) ∙ sym left_is };
+      found = found;
+    } in
     subst (λ (k : FaultKind). IsFaultAt value text k piece left) (sym kind_is) here
 
 -- ---- a parenthesis that is never closed
@@ -294,9 +294,12 @@ pub path_without_name : (value : List ℕ → List ℕ) (text start run rest pie
     → kind ≡ PathWithoutName → piece ≡ run → left ≡ length start → IsFaultAt value text kind piece left
 path_without_name value text start run rest piece kind left c cs s start_is cut utf8 bytes begins other nameless kind_is piece_is left_is =
     let joined : start ≡ piece ++ rest = cut ∙ ap (λ (x : List ℕ). x ++ rest) (sym piece_is) in
-    fault_in_front value text start piece rest PathWithoutName kind left s utf8 kind_is joined left_is
-    (ap chars (sym joined) ∙ start_is, piece_is ∙ run_is text start run start_is bytes, subst (IsNameless value) (sym piece_is) nameless,
-     ap begins_name (sym start_is ∙ begins) ∙ other)
+    fault_in_front value text start piece rest PathWithoutName kind left s utf8 kind_is joined left_is (
+      ap chars (sym joined) ∙ start_is,
+      piece_is ∙ run_is text start run start_is bytes,
+      subst (IsNameless value) (sym piece_is) nameless,
+      ap begins_name (sym start_is ∙ begins) ∙ other,
+    )
 
 pub url_without_name : (value : List ℕ → List ℕ) (text start run rest piece : List ℕ) (kind : FaultKind) (left : ℕ) → IsSuffix text start → chars start ≡ after_space (chars text)
     → start ≡ run ++ rest → IsUtf8 rest → run ≡ encode_utf8_all (run_of NotSpace (chars start)) → IsBroken text → IsNameless value run
@@ -318,17 +321,21 @@ pub no_name_there : (value : List ℕ → List ℕ) (text start run after piece 
     → run ≡ encode_utf8_all (run_of NotSpace (chars start)) → start ≡ encode_utf8 c ++ after → IsSuffix start after → is_ascii_alphanumeric c ≡ false → ¬ IsNameless value run
     → kind ≡ NoName → start ≡ piece ++ after → left ≡ length start → IsFaultAt value text kind piece left
 no_name_there value text start run after piece kind left c s start_is bytes first t other named_ kind_is joined left_is =
-    fault_in_front value text start piece after NoName kind left s t.utf8 kind_is joined left_is
-    (ap chars (sym joined) ∙ start_is, record { c = c; is = same_front start piece (encode_utf8 c) after joined first; holds = other },
-     λ n. named_ (subst (IsNameless value) (sym (run_is text start run start_is bytes)) n))
+    fault_in_front value text start piece after NoName kind left s t.utf8 kind_is joined left_is (
+      ap chars (sym joined) ∙ start_is,
+      record { c = c; is = same_front start piece (encode_utf8 c) after joined first; holds = other },
+      λ n. named_ (subst (IsNameless value) (sym (run_is text start run start_is bytes)) n),
+    )
 
 pub no_body_there : (value : List ℕ → List ℕ) (text start behind run after piece : List ℕ) (kind : FaultKind) (left c : ℕ) → chars start ≡ after_space (chars text)
     → run ≡ encode_utf8_all (run_of NotSpace (chars start)) → IsBehindExtras text (chars behind) → IsSuffix text behind → behind ≡ encode_utf8 c ++ after → IsSuffix behind after → may_follow_name c ≡ false → ¬ IsNameless value run
     → kind ≡ NoBody → behind ≡ piece ++ after → left ≡ length behind → IsFaultAt value text kind piece left
 no_body_there value text start behind run after piece kind left c start_is bytes extras s first t other named_ kind_is joined left_is =
-    fault_in_front value text behind piece after NoBody kind left s t.utf8 kind_is joined left_is
-    (subst (λ (x : List ℕ). IsBehindExtras text (chars x)) joined extras, record { c = c; is = same_front behind piece (encode_utf8 c) after joined first; holds = other },
-     λ n. named_ (subst (IsNameless value) (sym (run_is text start run start_is bytes)) n))
+    fault_in_front value text behind piece after NoBody kind left s t.utf8 kind_is joined left_is (
+      subst (λ (x : List ℕ). IsBehindExtras text (chars x)) joined extras,
+      record { c = c; is = same_front behind piece (encode_utf8 c) after joined first; holds = other },
+      λ n. named_ (subst (IsNameless value) (sym (run_is text start run start_is bytes)) n),
+    )
 
 -- the name ends with a separator
 pub name_end : (value : List ℕ → List ℕ) (text start run rest piece : List ℕ) (kind : FaultKind) (left c : ℕ) (cs : List ℕ) → IsSuffix text start → chars start ≡ after_space (chars text) → IsUtf8 run
@@ -336,10 +343,13 @@ pub name_end : (value : List ℕ → List ℕ) (text start run rest piece : List
     → kind ≡ NameEnd → piece ≡ drop (length run - 1) run → left ≡ length (piece ++ rest) → IsFaultAt value text kind piece left
 name_end value text start run rest piece kind left c cs s start_is utf8 r begins alphanumeric end kind_is piece_is left_is =
     let here : IsFaultAt value text NameEnd piece left = record {
-        place = record { back = rest; begins = suffix_then s (rest_begins start run end.front rest piece end.c left r.joined r.suffix end.joined end.ascii piece_is left_is); ends = r.suffix.utf8; length_is = sym left_is };
-        found = (record { c = end.c; is = piece_is ∙ last_is run end.front end.c end.joined ∙ sym (encode_ascii end.c end.ascii); holds = end.separator },
-          r.rest_is ∙ ap (after_part parts.Name) start_is, ap begins_name (sym start_is ∙ begins) ∙ alphanumeric);
-      } in
+      place = record { back = rest; begins = suffix_then s (rest_begins start run end.front rest piece end.c left r.joined r.suffix end.joined end.ascii piece_is left_is); ends = r.suffix.utf8; length_is = sym left_is };
+      found = (
+        record { c = end.c; is = piece_is ∙ last_is run end.front end.c end.joined ∙ sym (encode_ascii end.c end.ascii); holds = end.separator },
+        r.rest_is ∙ ap (after_part parts.Name) start_is,
+        ap begins_name (sym start_is ∙ begins) ∙ alphanumeric,
+      );
+    } in
     subst (λ (k : FaultKind). IsFaultAt value text k piece left) (sym kind_is) here
 
 -- ---- what is asked

@@ -56,7 +56,7 @@ not_before {name} {a} {b} {e} {f} h g less =
     let size : length name ≡ length a + suc (length e) = ap length h.joined ∙ length-append a (46 ∷ e) in
     let inside : length b < length name = there.0 in
     let here : get_or e i 0 ≡ 46 =
-        sym (ap (λ (x : List ℕ). get_or x (length b) 0) h.joined ∙ ap (λ (n : ℕ). get_or (a ++ (46 ∷ e)) n 0) place ∙ get_or-append-add a (46 ∷ e) (suc i) 0) ∙ there.1 in
+    sym (ap (λ (x : List ℕ). get_or x (length b) 0) h.joined ∙ ap (λ (n : ℕ). get_or (a ++ (46 ∷ e)) n 0) place ∙ get_or-append-add a (46 ∷ e) (suc i) 0) ∙ there.1 in
     h.no_dot i (short i place size inside) here
   where
     short : (i : ℕ) → length b ≡ length a + suc i → length name ≡ length a + suc (length e) → length b < length name → i < length e

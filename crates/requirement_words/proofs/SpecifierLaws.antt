@@ -84,7 +84,6 @@ pieces_rest {end} {i} {o} {p} (more {next = n} {others = os} s comma h) (more {n
     let same : n ≡ k = tails 44 n k (after_part (parts.Specifier end) i) (after_part (parts.Specifier end) i) refl comma other in
     pieces_rest (subst (λ (x : List ℕ). Pieces end x o os) same h) g
 
-
 -- a refusal that is a fault is no want of memory
 pub not_memory : {E : Type 0} (r : Refusal E) (f : E) → r ≡ refusals.Fault f → r ≡ refusals.OutOfMemory → ⊥
 not_memory r f e g = cc
@@ -131,7 +130,7 @@ pub piece_fault : (end : ℕ) (text left piece rest : List ℕ) (fault : Fault) 
 piece_fault end text left piece rest fault kind utf8 suffix open_ joined rest_utf8 piece_is kind_is is left_is found =
     let same : left ≡ fault.piece.now ++ rest = joined ∙ ap (λ (x : List ℕ). x ++ rest) (sym is) in
     let found_there : Finds fault.kind fault.piece.now rest =
-        subst (λ (x : List ℕ). Finds fault.kind x rest) (sym is) (subst (λ (k : FaultKind). Finds k piece rest) (sym kind_is) found) in
+    subst (λ (x : List ℕ). Finds fault.kind x rest) (sym is) (subst (λ (k : FaultKind). Finds k piece rest) (sym kind_is) found) in
     record {
       part = record {
         place = record { back = rest; begins = subst (IsSuffix text) same suffix; ends = rest_utf8; length_is = ap length (sym same) ∙ sym left_is };

@@ -157,11 +157,19 @@ fn read_enclosed<'a>(
     match read_specifiers(alloc, skip_space(behind), ')') {
         Ok((set, rest)) => match strip(rest, ')') {
             Some(rest) => Ok((Body::Specifiers(set), rest)),
-            None => Err(Refusal::Fault(Fault::before(FaultKind::UnclosedParenthesis, text, behind))),
+            None => Err(Refusal::Fault(Fault::before(
+                FaultKind::UnclosedParenthesis,
+                text,
+                behind,
+            ))),
         },
         Err(Refusal::Fault(fault)) => {
             if fault.left == fault.piece.len() {
-                return Err(Refusal::Fault(Fault::before(FaultKind::UnclosedParenthesis, text, behind)));
+                return Err(Refusal::Fault(Fault::before(
+                    FaultKind::UnclosedParenthesis,
+                    text,
+                    behind,
+                )));
             }
             Err(Refusal::Fault(fault))
         }
@@ -170,10 +178,7 @@ fn read_enclosed<'a>(
 }
 
 // What is asked, and what follows it, where this is not nothing.
-fn read_body<'a>(
-    alloc: Global,
-    text: &'a str,
-) -> Result<(Body<'a>, &'a str), Refusal<Fault<'a>>>
+fn read_body<'a>(alloc: Global, text: &'a str) -> Result<(Body<'a>, &'a str), Refusal<Fault<'a>>>
     requires { (c : ℕ) × (cs : List ℕ) × (chars text.now ≡ c ∷ cs) × (may_follow_name c ≡ true)
         × (c ≢ 59) }
     ensures found { IfOk result (λ x. IsBody (chars text.now) (chars x.1.now) (asked_of x.0)) }
@@ -208,7 +213,7 @@ fn read_nothing<'a>(
         IsAskedIn (chars text.now) (chars behind.now) (chars x.1.now) (asked_of x.0)) }
     ensures refused { IfErr result (λ refusal. (value : List ℕ → List ℕ)
         → IsRefused (IsFault value text.now) ((output : List ℕ) (asked : Asked)
-            → ¬ IsAskedIn (chars text.now) (chars behind.now) output asked) refusal) }
+        → ¬ IsAskedIn (chars text.now) (chars behind.now) output asked) refusal) }
     ensures suffix { IfOk result (λ x. IsSuffix text.now x.1.now) }
     ensures placed { IfOk result (λ x. (piece : List ℕ) → asked_of x.0 ≡ url piece
         → IsSuffix text.now (piece ++ x.1.now)) }
@@ -235,7 +240,7 @@ fn read_asked<'a>(
         IsAskedIn (chars text.now) (chars behind.now) (chars x.1.now) (asked_of x.0)) }
     ensures refused { IfErr result (IsRefused (IsFault (value_of surroundings.now) text.now)
         ((output : List ℕ) (asked : Asked)
-            → ¬ IsAskedIn (chars text.now) (chars behind.now) output asked)) }
+        → ¬ IsAskedIn (chars text.now) (chars behind.now) output asked)) }
     ensures suffix { IfOk result (λ x. IsSuffix text.now x.1.now) }
     ensures placed { IfOk result (λ x. (piece : List ℕ) → asked_of x.0 ≡ url piece
         → IsSuffix text.now (piece ++ x.1.now)) }
@@ -295,7 +300,7 @@ pub fn read_head<'a>(
         x.0.extras.items (asked_of x.0.body)) }
     ensures refused { IfErr result (IsRefused (IsFault (value_of surroundings.now) text.now)
         ((output name : List ℕ) (extras : List (List ℕ)) (asked : Asked)
-            → ¬ IsHead (chars text.now) output name extras asked)) }
+        → ¬ IsHead (chars text.now) output name extras asked)) }
     ensures suffix { IfOk result (λ x. IsSuffix text.now x.1.now) }
 
     // A URL stands right before what follows it.

@@ -35,7 +35,7 @@ pub fn read_unnamed_head<'a>(
         x.0.given.now x.0.url.now x.0.extras.items) }
     ensures refused { IfErr result (IsRefused (IsPartFault text.now)
         ((output given url : List ℕ) (names : List (List ℕ))
-            → ¬ IsUnnamedHead (chars text.now) output given url names)) }
+        → ¬ IsUnnamedHead (chars text.now) output given url names)) }
     ensures suffix { IfOk result (λ x. IsSuffix text.now x.1.now) }
 
     // The URL as it is written stands right before what follows it.
@@ -48,7 +48,14 @@ pub fn read_unnamed_head<'a>(
     };
     let Some((url, _)) = split_extras(given) else {
         let extras = Vec::new(alloc);
-        return Ok((UnnamedHead { given, url: given, extras }, rest));
+        return Ok((
+            UnnamedHead {
+                given,
+                url: given,
+                extras,
+            },
+            rest,
+        ));
     };
     match read_extras(alloc, place.split_at(url.len()).1) {
         Ok((extras, _)) => Ok((UnnamedHead { given, url, extras }, rest)),

@@ -8,8 +8,8 @@ pub returns-then-not-may_follow_extra : goal.returns-then-not-may_follow_extra
 returns-then-not-may_follow_extra c =
     part_of_suffix c.requires.run.suffix
     (part_at_first c.in-Some.next InvalidExtra c.utf8.rest c.in-Some.ensures.suffix c.in-Some.ensures.bytes
-     c.before-then-not-may_follow_extra.ensures.kind c.before-then-not-may_follow_extra.ensures.piece c.before-then-not-may_follow_extra.ensures.left
-     (λ e. record { c = c.in-Some.next; is = e; holds = (no_name_follows c.requires.run c.in-Some.ensures.characters, sym c.may_follow_extra.ensures ∙ c.if-not-may_follow_extra.true) }))
+    c.before-then-not-may_follow_extra.ensures.kind c.before-then-not-may_follow_extra.ensures.piece c.before-then-not-may_follow_extra.ensures.left
+    (λ e. record { c = c.in-Some.next; is = e; holds = (no_name_follows c.requires.run c.in-Some.ensures.characters, sym c.may_follow_extra.ensures ∙ c.if-not-may_follow_extra.true) }))
 
 pub at_last-requires : goal.at_last-requires
 at_last-requires c =

@@ -14,7 +14,7 @@ pub returns-in-Err-read_extras-clause-refused : goal.returns-in-Err-read_extras-
 returns-in-Err-read_extras-clause-refused c =
     refused_to_whole _ _ _ _ _ _ (suffix_then c.in-Ok.ensures.suffix c.skip_space.ensures.suffix)
     (λ h. no_head_extras _ (chars c.in-Ok.read.1.now) c.in-Ok.read.0 c.in-Ok.ensures.found
-      (subst (λ (x : List ℕ). (o : List ℕ) (ns : List (List ℕ)) → ¬ IsExtras x o ns) c.skip_space.ensures.rest h))
+    (subst (λ (x : List ℕ). (o : List ℕ) (ns : List (List ℕ)) → ¬ IsExtras x o ns) c.skip_space.ensures.rest h))
     c.in-Err-read_extras.ensures.refused
 
 pub read_asked-requires-clause-behind : goal.read_asked-requires-clause-behind
@@ -45,6 +45,6 @@ pub returns-in-Err-read_asked-clause-refused : goal.returns-in-Err-read_asked-cl
 returns-in-Err-read_asked-clause-refused c =
     refused_by _ _ _ _
     (no_head_asked _ (chars c.in-Ok.read.1.now) c.in-Ok.read.0 (chars c.in-Ok-read_extras.read.1.now) _ c.in-Ok-read_extras.read.0.items c.in-Ok.ensures.found
-      (subst (λ (x : List ℕ). IsExtras x (chars c.in-Ok-read_extras.read.1.now) c.in-Ok-read_extras.read.0.items) c.skip_space.ensures.rest c.in-Ok-read_extras.ensures.found)
-      c.skip_space-2.ensures.rest)
+    (subst (λ (x : List ℕ). IsExtras x (chars c.in-Ok-read_extras.read.1.now) c.in-Ok-read_extras.read.0.items) c.skip_space.ensures.rest c.in-Ok-read_extras.ensures.found)
+    c.skip_space-2.ensures.rest)
     c.in-Err-read_asked.ensures.refused

@@ -26,7 +26,7 @@ pub at_last-requires : goal.at_last-requires
 at_last-requires c =
     let r = run_of_name _ c.split_part.result.0.now c.split_part.result.1.now c.split_part.ensures.joined c.split_part.ensures.run c.split_part.ensures.rest c.split_part.ensures.suffix in
     let end = run_ends r (front_is_utf8 _ _ _ c.split_part.ensures.joined c.skip_space-start.utf8 c.split_part.ensures.suffix.utf8) (c.in-Some.found, chars c.in-Some.after.now, c.in-Some.ensures.characters, sym c.is_ascii_alphanumeric.ensures.value ∙ c.if-not-is_ascii_alphanumeric.false)
-        (refused_name _ _ _ c.in-Err-Fault.field-0-is c.in-Err-Fault.ensures.refused) in
+    (refused_name _ _ _ c.in-Err-Fault.field-0-is c.in-Err-Fault.ensures.refused) in
     (end.front, end.c, end.joined, end.ascii)
 
 pub returns-in-Err-Fault-clause-refused : goal.returns-in-Err-Fault-clause-refused
@@ -34,7 +34,8 @@ returns-in-Err-Fault-clause-refused c =
     let none = refused_name _ _ _ c.in-Err-Fault.field-0-is c.in-Err-Fault.ensures.refused in
     let r = run_of_name _ c.split_part.result.0.now c.split_part.result.1.now c.split_part.ensures.joined c.split_part.ensures.run c.split_part.ensures.rest c.split_part.ensures.suffix in
     let letter = sym c.is_ascii_alphanumeric.ensures.value ∙ c.if-not-is_ascii_alphanumeric.false in
-    let end = run_ends r (front_is_utf8 _ _ _ c.split_part.ensures.joined c.skip_space-start.utf8 c.split_part.ensures.suffix.utf8) (c.in-Some.found, chars c.in-Some.after.now, c.in-Some.ensures.characters, letter) none in
-    (name_end _ _ _ _ _ _ _ _ _ _ c.skip_space-start.ensures.suffix c.skip_space-start.ensures.rest (front_is_utf8 _ _ _ c.split_part.ensures.joined c.skip_space-start.utf8 c.split_part.ensures.suffix.utf8) r c.in-Some.ensures.characters letter end
-     c.at_last.ensures.kind c.at_last.ensures.piece c.at_last.ensures.left,
-     not_named _ _ _ c.skip_space-start.ensures.rest c.split_part.ensures.bytes none)
+    let end = run_ends r (front_is_utf8 _ _ _ c.split_part.ensures.joined c.skip_space-start.utf8 c.split_part.ensures.suffix.utf8) (c.in-Some.found, chars c.in-Some.after.now, c.in-Some.ensures.characters, letter) none in (
+      name_end _ _ _ _ _ _ _ _ _ _ c.skip_space-start.ensures.suffix c.skip_space-start.ensures.rest (front_is_utf8 _ _ _ c.split_part.ensures.joined c.skip_space-start.utf8 c.split_part.ensures.suffix.utf8) r c.in-Some.ensures.characters letter end
+          c.at_last.ensures.kind c.at_last.ensures.piece c.at_last.ensures.left,
+      not_named _ _ _ c.skip_space-start.ensures.rest c.split_part.ensures.bytes none,
+    )

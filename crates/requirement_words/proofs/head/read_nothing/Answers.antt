@@ -6,10 +6,11 @@ use Rattle.requirement_words.proofs.head.read_nothing.Goals as goal
 
 pub returns-then-is_archive-clause-refused : goal.returns-then-is_archive-clause-refused
 returns-then-is_archive-clause-refused c = λ value.
-    let is = c.is_archive.ensures.yes c.if-is_archive.true in
-    (archive_without_name value _ _ _ c.split_part.result.1.now _ _ _ _ c.skip_space-start.ensures.suffix c.skip_space-start.ensures.rest c.split_part.ensures.joined c.split_part.ensures.suffix.utf8 c.split_part.ensures.bytes
-     c.requires.behind c.requires.bare is c.at_run-fault.ensures.kind c.at_run-fault.ensures.piece c.at_run-fault.ensures.left,
-     not_asked _ _ c.requires.bare (subst IsArchive (written_is _ _ _ c.skip_space-start.ensures.rest c.split_part.ensures.bytes) is))
+    let is = c.is_archive.ensures.yes c.if-is_archive.true in (
+      archive_without_name value _ _ _ c.split_part.result.1.now _ _ _ _ c.skip_space-start.ensures.suffix c.skip_space-start.ensures.rest c.split_part.ensures.joined c.split_part.ensures.suffix.utf8 c.split_part.ensures.bytes
+          c.requires.behind c.requires.bare is c.at_run-fault.ensures.kind c.at_run-fault.ensures.piece c.at_run-fault.ensures.left,
+      not_asked _ _ c.requires.bare (subst IsArchive (written_is _ _ _ c.skip_space-start.ensures.rest c.split_part.ensures.bytes) is),
+    )
 
 pub returns-clause-found : goal.returns-clause-found
 returns-clause-found c =

@@ -25,8 +25,9 @@ pub before-requires : goal.before-requires
 before-requires c = suffix_self _ c.skip_space-place.utf8
 
 pub returns-in-None-clause-refused : goal.returns-in-None-clause-refused
-returns-in-None-clause-refused c =
-    (part_of_suffix (suffix_then c.requires.suffix c.skip_space-place.ensures.suffix)
-     (part_in_front _ _ _ NoUrl _ _ c.skip_space-place.utf8 c.skip_space-place.utf8 c.before-in-None.ensures.kind c.before-in-None.ensures.piece c.before-in-None.ensures.left
+returns-in-None-clause-refused c = (
+  part_of_suffix (suffix_then c.requires.suffix c.skip_space-place.ensures.suffix)
+      (part_in_front _ _ _ NoUrl _ _ c.skip_space-place.utf8 c.skip_space-place.utf8 c.before-in-None.ensures.kind c.before-in-None.ensures.piece c.before-in-None.ensures.left
       (nothing_before _ _ c.before-in-None.ensures.piece, (BehindName, empty_url BehindName (chars c.skip_space-place.result.now) _ c.split_url.ensures.bytes c.in-None.ensures.bytes))),
-     no_url _ _ _ _ c.requires.at c.skip_space-place.ensures.rest c.split_url.ensures.bytes c.in-None.ensures.bytes)
+  no_url _ _ _ _ c.requires.at c.skip_space-place.ensures.rest c.split_url.ensures.bytes c.in-None.ensures.bytes,
+)

@@ -9,14 +9,18 @@ use Rattle.requirement_words.proofs.specifiers.read_specifiers.Goals as goal
 
 pub returns-in-Err-Fault-clause-refused : goal.returns-in-Err-Fault-clause-refused
 returns-in-Err-Fault-clause-refused c =
-    let told = rw c.in-Err-Fault.field-0-is at c.in-Err-Fault.ensures.fault in
-    (piece_fault _ _ _ c.split_part.result.0.now c.split_part.result.1.now _ _ c.utf8.text c.loop-specifier.invariant.reading.suffix c.loop-specifier.invariant.not_ended
-     c.split_part.ensures.joined c.split_part.ensures.suffix.utf8 c.split_part.ensures.bytes
-     c.at_run.ensures.kind c.at_run.ensures.piece c.at_run.ensures.left
-     (c.args.end, c.split_part.ensures.bytes ∙ ap (λ (x : List ℕ). piece_of c.args.end (chars x)) c.split_part.ensures.joined,
-      (λ s h. not_memory _ _ c.in-Err-Fault.field-0-is (c.in-Err-Fault.ensures.only s h)), rw c.in-Err-Fault.field-0-is told),
-     none_piece _ _ _ _ c.loop-specifier.invariant.reading
-     (λ s h. not_memory _ _ c.in-Err-Fault.field-0-is (c.in-Err-Fault.ensures.only s (subst (λ (x : List ℕ). IsSpecifierText x s) (sym c.split_part.ensures.bytes) h))))
+    let told = rw c.in-Err-Fault.field-0-is at c.in-Err-Fault.ensures.fault in (
+      piece_fault _ _ _ c.split_part.result.0.now c.split_part.result.1.now _ _ c.utf8.text c.loop-specifier.invariant.reading.suffix c.loop-specifier.invariant.not_ended
+          c.split_part.ensures.joined c.split_part.ensures.suffix.utf8 c.split_part.ensures.bytes
+          c.at_run.ensures.kind c.at_run.ensures.piece c.at_run.ensures.left (
+            c.args.end,
+            c.split_part.ensures.bytes ∙ ap (λ (x : List ℕ). piece_of c.args.end (chars x)) c.split_part.ensures.joined,
+            (λ s h. not_memory _ _ c.in-Err-Fault.field-0-is (c.in-Err-Fault.ensures.only s h)),
+            rw c.in-Err-Fault.field-0-is told,
+          ),
+      none_piece _ _ _ _ c.loop-specifier.invariant.reading
+          (λ s h. not_memory _ _ c.in-Err-Fault.field-0-is (c.in-Err-Fault.ensures.only s (subst (λ (x : List ℕ). IsSpecifierText x s) (sym c.split_part.ensures.bytes) h))),
+    )
 
 pub returns-in_default-clause-found : goal.returns-in_default-clause-found
 returns-in_default-clause-found c = record {

@@ -13,11 +13,12 @@ pub before-requires : goal.before-requires
 before-requires c = suffix_self _ c.skip_space-place.utf8
 
 pub returns-in_default-clause-refused : goal.returns-in_default-clause-refused
-returns-in_default-clause-refused c =
-    (part_of_suffix c.skip_space-place.ensures.suffix
-     (part_in_front _ _ _ NoUrl _ _ c.skip_space-place.utf8 c.skip_space-place.utf8 c.before-in_default.ensures.kind c.before-in_default.ensures.piece c.before-in_default.ensures.left
+returns-in_default-clause-refused c = (
+  part_of_suffix c.skip_space-place.ensures.suffix
+      (part_in_front _ _ _ NoUrl _ _ c.skip_space-place.utf8 c.skip_space-place.utf8 c.before-in_default.ensures.kind c.before-in_default.ensures.piece c.before-in_default.ensures.left
       (nothing_before _ _ c.before-in_default.ensures.piece, (Alone, empty_url Alone (chars c.skip_space-place.result.now) _ c.split_url.ensures.bytes c.in_default.ensures.bytes))),
-     no_url_alone _ (chars c.skip_space-place.result.now) _ c.skip_space-place.ensures.rest c.split_url.ensures.bytes c.in_default.ensures.bytes)
+  no_url_alone _ (chars c.skip_space-place.result.now) _ c.skip_space-place.ensures.rest c.split_url.ensures.bytes c.in_default.ensures.bytes,
+)
 
 pub returns-in_default-split_extras-clause-found : goal.returns-in_default-split_extras-clause-found
 returns-in_default-split_extras-clause-found c = record {
@@ -50,5 +51,5 @@ returns-in-Err-clause-refused c =
     refused_behind _ _ _ _ _
     (suffix_then c.skip_space-place.ensures.suffix (subst (IsSuffix c.skip_space-place.result.now) (sym same) o.suffix))
     (not_cut _ (chars c.skip_space-place.result.now) _ c.split_url.result.1.now _ _ c.split_at.result.1.now c.skip_space-place.ensures.rest c.split_url.ensures.bytes c.split_url.ensures.rest
-     c.in-Some-split_extras.ensures.found (ap chars same ∙ o.characters))
+    c.in-Some-split_extras.ensures.found (ap chars same ∙ o.characters))
     c.in-Err.ensures.refused
