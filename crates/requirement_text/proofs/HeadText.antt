@@ -1,6 +1,6 @@
 -- The text of a requirement up to its marker reads back.
 use Rattle.std.proofs.Common.{◌≡◌, ◌≢◌, ◌==◌, ◌||◌, not, ℕ, suc, ◌<◌, Bool, true, false, List, [], ◌∷◌, ◌++◌, refl, sym, ap, ◌∙◌, subst, append_assoc, append-nil, arith, lit<}
-use Rattle.std.specs.Prelude.{encode_utf8_all}
+use Rattle.std.specs.Prelude.{encode_utf8_all, codes, if◌then◌else◌}
 use Rattle.std.specs.List.{All, list_all, AllByRecursion, flat_map}
 use Rattle.std.specs.Str.{IsAscii, trim}
 use Rattle.std.proofs.lemmas.Bool.{and_from, and_parts}
@@ -15,7 +15,8 @@ use Rattle.pep508_text.proofs.RunLaws.{trimmed_cons, trimmed_after_space}
 use Rattle.pep508_names.specs.Name.{is_name_character}
 use Rattle.pep440_specifier.specs.declared.operator.Operator.{Operator}
 use Rattle.pep440_specifier.specs.declared.operator.Operator.TheVariants.{Equal, EqualStar, ExactEqual, NotEqual, NotEqualStar, TildeEqual, LessThan, LessThanEqual, GreaterThan, GreaterThanEqual}
-use Rattle.pep440_specifier.specs.Operator.{operator_text}
+use Rattle.pep440_version.specs.Text.{version_text}
+use Rattle.pep440_specifier.specs.Operator.{is_star, operator_text}
 use Rattle.pep440_specifier.specs.Grammar.{IsOperatorBefore, IsSpecifierText, specifier}
 use Rattle.pep440_specifier.specs.Set.{IsSet}
 use Rattle.pep440_specifier.specs.Specifier.{IsWellFormed, Specifier}
@@ -100,14 +101,13 @@ first_of GreaterThan = record { is = refl; unnamed = refl; begins = refl; dark =
 first_of GreaterThanEqual = record { is = refl; unnamed = refl; begins = refl; dark = refl; no_bracket = refl }
 
 -- a specifier's text begins with it
-specifier_first : (s : Specifier) (x : List ℕ) → (w : List ℕ) × (specifier_text s ++ x ≡ first_char s.operator ∷ w)
-specifier_first s x = first_in (specifier_text s) (front_of s) x
-  where
-    front_of : (s : Specifier) → (back : List ℕ) × (specifier_text s ≡ first_char s.operator ∷ back)
-    front_of s = (_, ap (λ (t : List ℕ). t ++ _) (first_of s.operator).is)
+begins_with : (a b back x : List ℕ) (c : ℕ) → a ≡ c ∷ b → (w : List ℕ) × ((a ++ back) ++ x ≡ c ∷ w)
+begins_with a b back x c e = ((b ++ back) ++ x, ap (λ (t : List ℕ). (t ++ back) ++ x) e)
 
-    first_in : {c : ℕ} (t : List ℕ) → ((back : List ℕ) × (t ≡ c ∷ back)) → (x : List ℕ) → (w : List ℕ) × (t ++ x ≡ c ∷ w)
-    first_in t f x = (f.0 ++ x, ap (λ (y : List ℕ). y ++ x) f.1)
+specifier_first : (s : Specifier) (x : List ℕ) → (w : List ℕ) × (specifier_text s ++ x ≡ first_char s.operator ∷ w)
+specifier_first s x =
+    begins_with (operator_text s.operator) (other_chars s.operator) (version_text s.version ++ (if is_star s.operator then codes ".*" else [])) x
+    (first_char s.operator) (first_of s.operator).is
 
 not_nil : (c : ℕ) (w : List ℕ) → c ∷ w ≡ [] → ⊥
 not_nil c w e = cc
