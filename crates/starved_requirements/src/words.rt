@@ -75,7 +75,7 @@ impl Call for WordCall {
                 alloc,
                 vars,
                 "foo >=1, x",
-                "Expected one of `==`, `!=`, `<`, `<=`, `>`, `>=`, `~=` and `===`, found `x` at byte 1 of ` x`",
+                "Expected one of `==`, `!=`, `<`, `<=`, `>`, `>=`, `~=` and `===`, found 'x' at byte 1 of \" x\"",
             ),
             WordCall::RefusedPath => refuses(
                 alloc,
@@ -145,7 +145,7 @@ fn reads_extras(alloc: Global) -> Result<bool, AllocError> {
 }
 
 fn reads_specifiers(alloc: Global) -> Result<bool, AllocError> {
-    match unless_memory(read_specifiers(alloc, ">2, >=1.0.0.0.0+x, <3", ';'))? {
+    match unless_memory(read_specifiers(alloc, ">2, ==1.0.0.0.0+x, <3", ';'))? {
         Some((set, rest)) => Ok(set.as_slice().len() == 3 && rest.is_empty()),
         None => Ok(false),
     }
