@@ -123,9 +123,9 @@ fn reads(
     left: &str,
 ) -> Result<bool, AllocError> {
     match unless_memory(read_head(alloc, text, &surroundings_of(vars)))? {
-        Some((head, rest)) => Ok(head.extras.len() == extras
-            && count_of(&head.body) == specifiers
-            && rest == left),
+        Some((head, rest)) => Ok(
+            head.extras.len() == extras && count_of(&head.body) == specifiers && rest == left,
+        ),
         None => Ok(false),
     }
 }
@@ -153,10 +153,12 @@ fn reads_specifiers(alloc: Global) -> Result<bool, AllocError> {
 
 fn reads_unnamed(alloc: Global) -> Result<bool, AllocError> {
     match unless_memory(read_unnamed_head(alloc, "./x[a, B_c] ;m"))? {
-        Some((head, rest)) => Ok(head.url == "./x"
-            && head.given == "./x[a, B_c]"
-            && are_both(head.extras.as_slice())
-            && rest == " ;m"),
+        Some((head, rest)) => Ok(
+            head.url == "./x"
+                && head.given == "./x[a, B_c]"
+                && are_both(head.extras.as_slice())
+                && rest == " ;m",
+        ),
         None => Ok(false),
     }
 }

@@ -89,7 +89,7 @@ fn is_split(alloc: Global, piece: &str, place: UrlPlace) -> Result<bool, AllocEr
     text.push_str(repeated(alloc, piece, MILLION)?.as_str())?;
     text.push('b')?;
     let (url, rest) = split_url(text.as_str(), place);
-    Ok(url.len() + rest.len() == text.as_str().len())
+    Ok(url.len() == text.as_str().len() && rest.is_empty())
 }
 
 #[test]
