@@ -1,0 +1,3 @@
+pub mod HeadText
+pub mod NameText
+pub mod PlainText

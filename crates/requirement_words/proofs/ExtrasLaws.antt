@@ -1,0 +1,294 @@
+-- Reading a list of extras name by name.
+use Rattle.std.proofs.Common.{◌≡◌, ◌≢◌, ◌||◌, ◌≤◌, ℕ, Bool, true, false, cond, eqb, List, [], ◌∷◌, ◌++◌, length, refl, sym, ap, ◌∙◌, subst, append_assoc, length-append, arith, lit<, IsUtf8}
+use Rattle.std.specs.Prelude.{encode_utf8_all, IsTrue, IsSomeAnd, slice_get}
+use Rattle.std.specs.Char.{is_ascii_alphanumeric, is_whitespace}
+use Rattle.std.specs.List.{list_all}
+use Rattle.std.specs.Str.{chars}
+use Rattle.std.proofs.lemmas.Bool.{eqb-true, false≢true}
+use Rattle.std.proofs.lemmas.List.{nil_from_length}
+use Rattle.std.proofs.lemmas.Str.{encode_ascii}
+use Rattle.pep508_text.specs.Run.{after_space}
+use Rattle.pep508_text.specs.Suffix.{IsSuffix}
+use Rattle.pep508_text.specs.declared.classes.Class.TheVariants.{Space}
+use Rattle.pep508_text.proofs.RunLaws.{after_run-holds, trimmed_after_space}
+use Rattle.pep508_names.specs.Name.{NormalizesTo, word, joined, IsName, is_name_character, is_separator}
+use Rattle.refusal.specs.declared.Refusal.{Refusal}
+use Rattle.refusal.specs.declared.Refusal.TheVariants as refusals
+use Rattle.pep508_names.specs.Fault.{IsNameRefusal}
+use Rattle.pep508_names.proofs.IdentifierLaws.{names_are_identifiers}
+use Rattle.requirement_words.specs.Runs.{part_of, after_part}
+use Rattle.requirement_words.specs.Part.{IsBehindName, IsOpen, IsRunOf, may_follow_extra}
+use Rattle.requirement_words.specs.declared.runs.Part.TheVariants.{Name}
+use Rattle.requirement_words.specs.Extras.{IsNameAt, Names, last, more, IsExtras, left_out, none, some, begins_bracket}
+use Rattle.requirement_words.proofs.Characters.{firsts, tails}
+use Rattle.requirement_words.proofs.NameEnds.{EndsSeparator, ends_separator, name_byte}
+use Rattle.requirement_words.proofs.OpenLaws.{open_start, open_space, open_part, open_one}
+use Rattle.requirement_words.proofs.RunLaws.{longest_first, part_all, part_fails, part_holds, part_longest}
+
+-- what follows a name is determined
+pub name_rest : {i a b m n : List ℕ} → IsNameAt i a m → IsNameAt i b n → a ≡ b
+name_rest x y = sym x.rest ∙ y.rest
+
+-- how the whole goes on: the names so far, and then those that are left
+pub record Reading (text left : List ℕ) (names : List (List ℕ)) : Type 0 where
+  pub suffix : IsSuffix text left
+  pub found : (output : List ℕ) (ns : List (List ℕ)) → Names (chars left) output ns → IsExtras (chars text) output (names ++ ns)
+  pub only : (output : List ℕ) (ns : List (List ℕ)) → IsExtras (chars text) output ns → (others : List (List ℕ)) × Names (chars left) output others
+
+-- the same, and no bracket has closed
+pub record Going (text inside left : List ℕ) (names : List (List ℕ)) : Type 0 where
+  pub reading : Reading text left names
+  pub not_closed : IsOpen 93 (chars inside) (chars left)
+
+-- behind the bracket
+found_start : (i inside output : List ℕ) (ns : List (List ℕ)) → i ≡ 91 ∷ inside → Names inside output ns → IsExtras i output ns
+found_start i inside output ns e h = subst (λ (x : List ℕ). IsExtras x output ns) (sym e) (some h)
+
+only_start : (i inside output : List ℕ) (ns : List (List ℕ)) → i ≡ 91 ∷ inside → ((rest : List ℕ) → after_space inside ≢ 93 ∷ rest) → IsExtras i output ns → (others : List (List ℕ)) × Names inside output others
+only_start i inside output ns e open_ (left_out b) =
+    absurd (false≢true (sym b ∙ ap begins_bracket e))
+only_start i inside output ns e open_ (none {input = input} h) =
+    let same : input ≡ inside = tails 91 input inside (91 ∷ input) (91 ∷ inside) e refl refl in
+    absurd (open_ output (sym (ap after_space same) ∙ h))
+only_start i inside output ns e open_ (some {input = input} h) =
+    let same : input ≡ inside = tails 91 input inside (91 ∷ input) (91 ∷ inside) e refl refl in
+    (ns, subst (λ (x : List ℕ). Names x output ns) same h)
+
+pub reading_start : (text inside : List ℕ) → IsSuffix text inside → chars text ≡ 91 ∷ chars inside → ((rest : List ℕ) → after_space (chars inside) ≢ 93 ∷ rest) → Reading text inside []
+reading_start text inside suffix e open_ = record {
+  suffix = suffix;
+  found = λ output ns h. found_start _ _ output ns e h;
+  only = λ output ns h. only_start _ _ output ns e open_ h;
+}
+
+-- one name, and a comma
+only_more : (i rest next output : List ℕ) (n : List ℕ) (ns : List (List ℕ)) → IsNameAt (after_space i) rest n → after_space rest ≡ 44 ∷ next → Names i output ns → (others : List (List ℕ)) × Names next output others
+only_more i rest next output n ns name comma (last {a = a} other bracket) =
+    absurd (firsts 44 93 next output (after_space rest) (after_space a) (sym (ap after_space (name_rest other name))) comma bracket (lit< tt))
+only_more i rest next output n ns name comma (more {a = a} {b = b} {ns = ms} other again h) =
+    let here : b ≡ next = tails 44 b next (after_space a) (after_space rest) (ap after_space (name_rest other name)) again comma in
+    (ms, subst (λ (x : List ℕ). Names x output ms) here h)
+
+pub reading_more : (text left rest next : List ℕ) (n : List ℕ) (names : List (List ℕ)) → Reading text left names → IsSuffix text next → IsNameAt (after_space (chars left)) (chars rest) n → after_space (chars rest) ≡ 44 ∷ chars next → Reading text next (names ++ (n ∷ []))
+reading_more text left rest next n names reading suffix name comma = record {
+  suffix = suffix;
+  found = λ output ns h. subst (IsExtras (chars text) output) (sym (append_assoc names (n ∷ []) ns)) (reading.found output (n ∷ ns) (more name comma h));
+  only = λ output ns h. let g = reading.only output ns h in only_more _ _ _ output n g.0 name comma g.1;
+}
+
+-- one name, and the bracket
+pub reading_closed : (text left rest output : List ℕ) (n : List ℕ) (names : List (List ℕ)) → Reading text left names → IsNameAt (after_space (chars left)) (chars rest) n → after_space (chars rest) ≡ 93 ∷ chars output → IsExtras (chars text) (chars output) (names ++ (n ∷ []))
+reading_closed text left rest output n names reading name bracket = reading.found (chars output) (n ∷ []) (last name bracket)
+
+-- one name, and neither
+no_more : (i rest output n : List ℕ) (ns : List (List ℕ)) → IsNameAt (after_space i) rest n → ((x : List ℕ) → after_space rest ≢ 93 ∷ x) → ((x : List ℕ) → after_space rest ≢ 44 ∷ x) → Names i output ns → ⊥
+no_more i rest output n ns name open_ alone (last {a = a} other bracket) =
+    open_ output (sym (ap after_space (name_rest other name)) ∙ bracket)
+no_more i rest output n ns name open_ alone (more {a = a} {b = b} other comma h) =
+    alone b (sym (ap after_space (name_rest other name)) ∙ comma)
+
+pub none_more : (text left rest n : List ℕ) (names : List (List ℕ)) → Reading text left names → IsNameAt (after_space (chars left)) (chars rest) n → ((x : List ℕ) → after_space (chars rest) ≢ 93 ∷ x) → ((x : List ℕ) → after_space (chars rest) ≢ 44 ∷ x) → (output : List ℕ) (ns : List (List ℕ)) → ¬ IsExtras (chars text) output ns
+none_more text left rest n names reading name open_ alone output ns h =
+    let g = reading.only output ns h in
+    no_more _ _ output n g.0 name open_ alone g.1
+
+-- no name
+no_name : (i output : List ℕ) (ns : List (List ℕ)) → ((o n : List ℕ) → ¬ IsNameAt (after_space i) o n) → Names i output ns → ⊥
+no_name i output ns unnamed (last {a = a} {n = n} name bracket) = unnamed a n name
+no_name i output ns unnamed (more {a = a} {n = n} name comma h) = unnamed a n name
+
+pub none_name : (text left : List ℕ) (names : List (List ℕ)) → Reading text left names → ((o n : List ℕ) → ¬ IsNameAt (after_space (chars left)) o n) → (output : List ℕ) (ns : List (List ℕ)) → ¬ IsExtras (chars text) output ns
+none_name text left names reading unnamed output ns h =
+    let g = reading.only output ns h in
+    no_name _ output g.0 unnamed g.1
+
+-- no bracket
+no_bracket : (t : List ℕ) → ((rest : List ℕ) → t ≢ 91 ∷ rest) → begins_bracket t ≡ false
+no_bracket [] h = refl
+no_bracket (c ∷ cs) h = go (eqb c 91) refl
+  where
+    go : (b : Bool) → eqb c 91 ≡ b → b ≡ false
+    go true e = absurd (h cs (ap (λ (x : ℕ). x ∷ cs) (eqb-true c 91 e)))
+    go false e = refl
+
+pub without_bracket : (t : List ℕ) (names : List (List ℕ)) → names ≡ [] → ((rest : List ℕ) → t ≢ 91 ∷ rest) → IsExtras t t names
+without_bracket t names e h = subst (IsExtras t t) (sym e) (left_out (no_bracket t h))
+
+-- nothing between the brackets
+pub none_inside : (i inside inner output : List ℕ) (names : List (List ℕ)) → names ≡ [] → i ≡ 91 ∷ inside → inner ≡ after_space inside → inner ≡ 93 ∷ output → IsExtras i output names
+none_inside i inside inner output names none_yet e skipped bracket =
+    let there : IsExtras (91 ∷ inside) output [] = none (sym skipped ∙ bracket) in
+    let here : IsExtras i output [] = subst (λ (x : List ℕ). IsExtras x output []) (sym e) there in
+    subst (IsExtras i output) (sym none_yet) here
+
+-- what follows extras is determined
+names_rest : {i o p : List ℕ} {ns ms : List (List ℕ)} → Names i o ns → Names i p ms → o ≡ p
+names_rest (last {a = a} {output = o} x bracket) (last {a = b} {output = p} y other) =
+    tails 93 o p (after_space a) (after_space b) (ap after_space (name_rest x y)) bracket other
+names_rest (last {a = a} {output = o} x bracket) (more {a = b} {b = q} y comma more_) =
+    absurd (firsts 44 93 q o (after_space b) (after_space a) (ap after_space (name_rest y x)) comma bracket (lit< tt))
+names_rest (more {a = a} {b = q} x comma more_) (last {a = b} {output = p} y bracket) =
+    absurd (firsts 44 93 q p (after_space a) (after_space b) (ap after_space (name_rest x y)) comma bracket (lit< tt))
+names_rest (more {a = a} {b = q} {output = o} {ns = ns} x comma h) (more {a = b} {b = r} y other g) =
+    let same : q ≡ r = tails 44 q r (after_space a) (after_space b) (ap after_space (name_rest x y)) comma other in
+    names_rest (subst (λ (z : List ℕ). Names z o ns) same h) g
+
+-- no name begins with the bracket
+empty_front : (w t : List ℕ) → w ++ t ≡ [] → w ≡ []
+empty_front [] t e = refl
+empty_front (c ∷ w) t e = absurd cc
+
+unnamed : {t n : List ℕ} → NormalizesTo t n → t ≡ [] → ⊥
+unnamed (word h) e = h.nonempty e
+unnamed (joined {w = w} {s = s} {t = t} h r g) e = h.nonempty (empty_front w (s ++ t) e)
+
+no_name_at : {i o a n : List ℕ} → i ≡ 93 ∷ o → IsNameAt i a n → ⊥
+no_name_at {i} {o} e name = unnamed name.name (ap (λ (x : List ℕ). encode_utf8_all (part_of Name x)) e)
+
+closed_name : {i o p : List ℕ} {ns : List (List ℕ)} → after_space i ≡ 93 ∷ o → Names i p ns → ⊥
+closed_name e (last name bracket) = no_name_at e name
+closed_name e (more name comma h) = no_name_at e name
+
+pub extras_rest : {i o p : List ℕ} {ns ms : List (List ℕ)} → IsExtras i o ns → IsExtras i p ms → o ≡ p
+extras_rest (left_out b) (left_out c) = refl
+extras_rest (left_out b) (none h) = absurd (false≢true (sym b))
+extras_rest (left_out b) (some h) = absurd (false≢true (sym b))
+extras_rest (none h) (left_out b) = absurd (false≢true (sym b))
+extras_rest (none {input = i} {output = o} h) (none {output = p} g) = tails 93 o p (after_space i) (after_space i) refl h g
+extras_rest (none h) (some g) = absurd (closed_name h g)
+extras_rest (some h) (left_out b) = absurd (false≢true (sym b))
+extras_rest (some h) (none g) = absurd (closed_name g h)
+extras_rest (some h) (some g) = names_rest h g
+
+-- ---- what is wrong
+
+-- behind a run stands no more of a name
+pub no_name_follows : {text run rest cs : List ℕ} {c : ℕ} → IsRunOf text run rest → chars rest ≡ c ∷ cs → is_name_character c ≡ false
+no_name_follows {text} {cs = cs} {c = c} r e =
+    longest_first Name c cs (after_part Name (chars text)) (part_longest Name (chars text)) (sym r.rest_is ∙ e)
+
+pub ended_run : {text run rest : List ℕ} → IsRunOf text run rest → after_part Name (chars rest) ≡ chars rest
+ended_run {text} r = ap (after_part Name) r.rest_is ∙ part_longest Name (chars text) ∙ sym r.rest_is
+
+-- a run that begins as a name and is none ends with a separator
+pub run_ends : {text run rest : List ℕ} → IsRunOf text run rest → IsUtf8 run
+    → ((c : ℕ) × (cs : List ℕ) × (chars text ≡ c ∷ cs) × (is_ascii_alphanumeric c ≡ true)) → ¬ IsName run → EndsSeparator run
+run_ends {text} {run} r utf8 begins none_ =
+    let c = begins.0 in
+    let holds_ : is_name_character c ≡ true = ap (λ (b : Bool). b || is_separator c) begins.3 in
+    let first : chars run ≡ c ∷ part_of Name begins.1 = r.run_is ∙ ap (part_of Name) begins.2 ∙ (part_holds Name c begins.1 holds_).0 in
+    ends_separator run (part_of Name begins.1) c utf8 first
+    (ap (list_all is_name_character) r.run_is ∙ part_all Name (chars text)) begins.3 none_
+
+-- the name of an extra, which the reader of names has read
+pub named : (left place run rest n : List ℕ) → chars place ≡ after_space (chars left) → run ≡ encode_utf8_all (part_of Name (chars place)) → chars rest ≡ after_part Name (chars place)
+    → NormalizesTo run n → IsNameAt (after_space (chars left)) (chars rest) n
+named left place run rest n place_is bytes rest_is read =
+    subst (λ (x : List ℕ). IsNameAt x (chars rest) n) place_is (record { name = subst (λ (x : List ℕ). NormalizesTo x n) bytes read; rest = sym rest_is })
+
+-- no name
+pub not_named : (left place run : List ℕ) → chars place ≡ after_space (chars left) → run ≡ encode_utf8_all (part_of Name (chars place)) → ¬ IsName run
+    → (o n : List ℕ) → ¬ IsNameAt (after_space (chars left)) o n
+not_named left place run place_is bytes none_ o n h =
+    let here : IsNameAt (chars place) o n = subst (λ (x : List ℕ). IsNameAt x o n) (sym place_is) h in
+    none_ (n, subst (λ (x : List ℕ). NormalizesTo x n) (sym bytes) here.name)
+
+pub nothing_named : (left place : List ℕ) → chars place ≡ after_space (chars left) → chars place ≡ [] → (o n : List ℕ) → ¬ IsNameAt (after_space (chars left)) o n
+nothing_named left place place_is e o n h = unnamed h.name (ap (λ (x : List ℕ). encode_utf8_all (part_of Name x)) (sym place_is ∙ e))
+
+first_byte : (t : List ℕ) (c : ℕ) (cs : List ℕ) → IsName t → t ≡ c ∷ cs → is_ascii_alphanumeric c ≡ true
+first_byte t c cs h e = subst (λ (x : List ℕ). IsSomeAnd (slice_get x 0) (λ d. IsTrue (is_ascii_alphanumeric d))) e ((names_are_identifiers t).0 h).first
+
+pub begins_unnamed : (t : List ℕ) (c : ℕ) (cs o n : List ℕ) → t ≡ c ∷ cs → is_ascii_alphanumeric c ≡ false → ¬ IsNameAt t o n
+begins_unnamed t c cs o n e other h = go (is_name_character c) refl
+  where
+    go : (b : Bool) → is_name_character c ≡ b → ⊥
+    go true is =
+        let run = (part_holds Name c cs is).0 in
+        let bytes : encode_utf8_all (part_of Name t) ≡ c ∷ encode_utf8_all (part_of Name cs) =
+        ap (λ (x : List ℕ). encode_utf8_all (part_of Name x)) e ∙ ap encode_utf8_all run ∙ ap (λ (x : List ℕ). x ++ encode_utf8_all (part_of Name cs)) (encode_ascii c (name_byte c is)) in
+        false≢true (sym other ∙ first_byte _ c _ (n, h.name) bytes)
+    go false is = unnamed h.name (ap (λ (x : List ℕ). encode_utf8_all (part_of Name x)) e ∙ ap encode_utf8_all (part_fails Name c cs is).0)
+
+pub not_begun : (left place : List ℕ) (c : ℕ) (cs : List ℕ) → chars place ≡ after_space (chars left) → chars place ≡ c ∷ cs → is_ascii_alphanumeric c ≡ false
+    → (o n : List ℕ) → ¬ IsNameAt (after_space (chars left)) o n
+not_begun left place c cs place_is e other o n h = begins_unnamed (chars place) c cs o n e other (subst (λ (x : List ℕ). IsNameAt x o n) (sym place_is) h)
+
+-- ---- the bracket has not closed
+
+pub open_place : {i : List ℕ} (left place : List ℕ) → IsOpen 93 i (chars left) → chars place ≡ after_space (chars left) → IsOpen 93 i (chars place)
+open_place {i} left place o e = subst (IsOpen 93 i) (sym e) (open_space refl o)
+
+pub open_rest : {i : List ℕ} (place rest : List ℕ) → IsOpen 93 i (chars place) → chars rest ≡ after_part Name (chars place) → IsOpen 93 i (chars rest)
+open_rest {i} place rest o e = subst (IsOpen 93 i) (sym e) (open_part Name refl o)
+
+pub going_start : (text inside : List ℕ) (names : List (List ℕ)) → names ≡ [] → IsSuffix text inside → chars text ≡ 91 ∷ chars inside → ((rest : List ℕ) → after_space (chars inside) ≢ 93 ∷ rest) → Going text inside inside names
+going_start text inside names e suffix bracket open_ = record {
+  reading = subst (Reading text inside) (sym e) (reading_start text inside suffix bracket open_);
+  not_closed = open_start 93 (chars inside);
+}
+
+pub going_more : (text inside left place rest behind next n : List ℕ) (names new : List (List ℕ)) → Going text inside left names
+    → chars place ≡ after_space (chars left) → chars rest ≡ after_part Name (chars place) → IsNameAt (after_space (chars left)) (chars rest) n
+    → chars behind ≡ after_space (chars rest) → chars behind ≡ 44 ∷ chars next → IsSuffix text next → new ≡ names ++ (n ∷ []) → Going text inside next new
+going_more text inside left place rest behind next n names new going place_is rest_is name behind_is comma suffix e = record {
+  reading = subst (Reading text next) (sym e) (reading_more text left rest next n names going.reading suffix name (sym behind_is ∙ comma));
+  not_closed = open_one 44 (chars next) (open_place rest behind (open_rest place rest (open_place left place going.not_closed place_is) rest_is) behind_is) comma refl;
+}
+
+-- ---- behind a name
+
+space_shorter : (cs : List ℕ) → length (after_space cs) ≤ length cs
+space_shorter [] = omega arith
+space_shorter (c ∷ cs) = go (is_whitespace c) (space_shorter cs)
+  where
+    go : (b : Bool) → length (after_space cs) ≤ length cs → length (cond b (after_space cs) (c ∷ cs)) ≤ length (c ∷ cs)
+    go true h = omega arith
+    go false h = omega arith
+
+-- what begins with no white space
+pub trimmed_first : (c : ℕ) (cs t : List ℕ) → after_space t ≡ t → t ≡ c ∷ cs → is_whitespace c ≡ false
+trimmed_first c cs t trimmed e = go (is_whitespace c) refl
+  where
+    same : after_space (c ∷ cs) ≡ c ∷ cs
+    same = subst (λ (x : List ℕ). after_space x ≡ x) e trimmed
+
+    go : (b : Bool) → is_whitespace c ≡ b → b ≡ false
+    go true h =
+        let short = space_shorter cs in
+        let size : length (after_space cs) ≡ length (c ∷ cs) = ap length (sym (after_run-holds Space c cs h) ∙ same) in
+        absurd (omega arith)
+    go false h = refl
+
+nothing_skipped : (rest behind : List ℕ) → IsSuffix rest behind → length behind ≡ length rest → behind ≡ rest
+nothing_skipped rest behind s e =
+    let none_ : s.front ≡ [] = nil_from_length s.front (omega (arith, ap length s.joined, length-append s.front behind)) in
+    sym (s.joined ∙ ap (λ (x : List ℕ). x ++ behind) none_)
+
+pub not_eqb : (c d : ℕ) → c ≢ d → eqb c d ≡ false
+not_eqb c d h = go (eqb c d) refl
+  where
+    go : (b : Bool) → eqb c d ≡ b → b ≡ false
+    go true e = absurd (h (eqb-true c d e))
+    go false e = refl
+
+-- right behind a name
+pub follows_at_once : {rest behind cs : List ℕ} {c : ℕ} → IsBehindName rest behind → chars behind ≡ c ∷ cs → c ≢ 44 → c ≢ 93 → length behind ≡ length rest
+    → (is_name_character c ≡ false) × (may_follow_extra c ≡ false)
+follows_at_once {rest} {behind} {cs} {c} b e comma bracket size =
+    let same = nothing_skipped rest behind b.suffix size in
+    let longest : after_part Name (chars behind) ≡ chars behind = subst (λ (x : List ℕ). after_part Name (chars x) ≡ chars x) (sym same) b.longest in
+    let trimmed : after_space (chars behind) ≡ chars behind = ap after_space b.behind_is ∙ trimmed_after_space (chars rest) ∙ sym b.behind_is in
+    let dark : is_whitespace c ≡ false = trimmed_first c cs (chars behind) trimmed e in
+    (longest_first Name c cs (chars behind) longest e, rw (not_eqb c 44 comma, not_eqb c 93 bracket) dark)
+
+pub behind_name : (text rest behind : List ℕ) → chars rest ≡ after_part Name (chars text) → chars behind ≡ after_space (chars rest) → IsSuffix rest behind → IsBehindName rest behind
+behind_name text rest behind rest_is behind_is suffix = record {
+  longest = ap (after_part Name) rest_is ∙ part_longest Name (chars text) ∙ sym rest_is;
+  behind_is = behind_is;
+  suffix = suffix;
+}
+
+-- a text that the reader of names refuses at fault is no name
+pub refused_name : (t x : List ℕ) (r : Refusal (List ℕ)) → r ≡ refusals.Fault x → IsNameRefusal t r → ¬ IsName t
+refused_name t x r e h = (subst (IsNameRefusal t) e h).1

@@ -1,0 +1,119 @@
+-- A text that is cut where a front of it ends, over any functions that tell the front and what follows
+-- it. On the way they may change, as with a count of what was seen.
+use Rattle.std.proofs.Common.{◌≡◌, ℕ, ◌-◌, List, [], ◌∷◌, ◌++◌, length, take, drop, refl, sym, ap, ◌∙◌, subst, append_assoc, arith, length-append, IsUtf8}
+use Rattle.std.specs.Prelude.{encode_utf8, encode_utf8_all}
+use Rattle.std.specs.Str.{chars, IsCharBoundary}
+use Rattle.std.proofs.lemmas.List.{append_cancel_right, take_at, drop_at, append-nil}
+use Rattle.std.proofs.lemmas.Str.{chars-append, chars-nil, IsUtf8-take, IsCharBoundary-at_seam, IsUtf8-past_char, encodes-chars}
+use Rattle.pep508_text.specs.Suffix.{IsSuffix}
+
+-- a text cut where its back is a text has a text in front
+pub front_is_utf8 : (text front rest : List ℕ) → text ≡ front ++ rest → IsUtf8 text → IsUtf8 rest → IsUtf8 front
+front_is_utf8 text front rest e utf8 rest_utf8 =
+    let cut = IsUtf8-take text (length front) utf8 (IsCharBoundary-at_seam text front rest e rest_utf8) in
+    subst IsUtf8 (ap (take (length front)) e ∙ take_at front rest (length front) refl) cut
+
+-- the characters of a text that is cut
+pub chars_joined : (text front rest : List ℕ) → text ≡ front ++ rest → IsUtf8 text → IsUtf8 rest → chars text ≡ chars front ++ chars rest
+chars_joined text front rest e utf8 rest_utf8 = ap chars e ∙ chars-append front rest (front_is_utf8 text front rest e utf8 rest_utf8)
+
+-- the characters of a front and one more
+front_and_one : (text front rest after : List ℕ) (c : ℕ) → IsUtf8 text → text ≡ front ++ rest → IsUtf8 rest → rest ≡ encode_utf8 c ++ after → chars rest ≡ c ∷ chars after
+    → (text ≡ (front ++ encode_utf8 c) ++ after) × (chars (front ++ encode_utf8 c) ≡ chars front ++ (c ∷ [])) × IsUtf8 after
+front_and_one text front rest after c utf8 joined rest_utf8 bytes characters =
+    let after_utf8 = IsUtf8-past_char rest after c rest_utf8 bytes in
+    let longer = front ++ encode_utf8 c in
+    let again : text ≡ longer ++ after = joined ∙ ap (λ (x : List ℕ). front ++ x) bytes ∙ sym (append_assoc front (encode_utf8 c) after) in
+    let old : chars text ≡ chars front ++ chars rest = chars_joined text front rest joined utf8 rest_utf8 in
+    let new : chars text ≡ chars longer ++ chars after = chars_joined text longer after again utf8 after_utf8 in
+    let whole : chars text ≡ (chars front ++ (c ∷ [])) ++ chars after = old ∙ ap (λ (x : List ℕ). chars front ++ x) characters ∙ sym (append_assoc (chars front) (c ∷ []) (chars after)) in
+    (again, append_cancel_right (chars longer) (chars front ++ (c ∷ [])) (chars after) (sym new ∙ whole), after_utf8)
+
+module _ (front_of after_front : List ℕ → List ℕ) where
+  -- the front passes, and `rest` is still to be looked at, by these functions
+  pub record Passed (now after_now : List ℕ → List ℕ) (text rest : List ℕ) : Type 0 where
+    pub front : List ℕ
+    pub joined : text ≡ front ++ rest
+    pub run : front_of (chars text) ≡ chars front ++ now (chars rest)
+    pub after : after_front (chars text) ≡ after_now (chars rest)
+    pub rest_utf8 : IsUtf8 rest
+
+  pub none_passed : (text : List ℕ) → IsUtf8 text → Passed front_of after_front text text
+  none_passed text utf8 = record { front = []; joined = refl; run = ap (λ (x : List ℕ). x ++ front_of (chars text)) (sym chars-nil); after = refl; rest_utf8 = utf8 }
+
+  -- one more character passes
+  pub passed_more : (now after_now next after_next : List ℕ → List ℕ) (text rest after : List ℕ) (c : ℕ) → IsUtf8 text
+      → Passed now after_now text rest → rest ≡ encode_utf8 c ++ after → chars rest ≡ c ∷ chars after
+      → now (c ∷ chars after) ≡ c ∷ next (chars after) → after_now (c ∷ chars after) ≡ after_next (chars after) → Passed next after_next text after
+  passed_more now after_now next after_next text rest after c utf8 passed bytes characters run_on after_on =
+      let one = front_and_one text passed.front rest after c utf8 passed.joined passed.rest_utf8 bytes characters in
+      record {
+        front = passed.front ++ encode_utf8 c;
+        joined = one.0;
+        run = passed.run ∙ ap (λ (x : List ℕ). chars passed.front ++ now x) characters ∙ ap (λ (x : List ℕ). chars passed.front ++ x) run_on ∙ sym (append_assoc (chars passed.front) (c ∷ []) (next (chars after))) ∙ ap (λ (x : List ℕ). x ++ next (chars after)) (sym one.1);
+        after = passed.after ∙ ap after_now characters ∙ after_on;
+        rest_utf8 = one.2;
+      }
+
+  -- one more run passes
+  pub passed_run : (now after_now next after_next : List ℕ → List ℕ) (text rest run after : List ℕ) → IsUtf8 text
+      → Passed now after_now text rest → rest ≡ run ++ after → IsUtf8 after
+      → now (chars rest) ≡ chars run ++ next (chars after) → after_now (chars rest) ≡ after_next (chars after) → Passed next after_next text after
+  passed_run now after_now next after_next text rest run after utf8 passed joined after_utf8 run_on after_on =
+      let front_utf8 = front_is_utf8 text passed.front rest passed.joined utf8 passed.rest_utf8 in
+      record {
+        front = passed.front ++ run;
+        joined = passed.joined ∙ ap (λ (x : List ℕ). passed.front ++ x) joined ∙ sym (append_assoc passed.front run after);
+        run = passed.run ∙ ap (λ (x : List ℕ). chars passed.front ++ x) run_on ∙ sym (append_assoc (chars passed.front) (chars run) (next (chars after))) ∙ ap (λ (x : List ℕ). x ++ next (chars after)) (sym (chars-append passed.front run front_utf8));
+        after = passed.after ∙ after_on;
+        rest_utf8 = after_utf8;
+      }
+
+  -- what is known where the front ends
+  pub record Stopped (text rest : List ℕ) : Type 0 where
+    pub front : List ℕ
+    pub joined : text ≡ front ++ rest
+    pub rest_utf8 : IsUtf8 rest
+    pub run : chars front ≡ front_of (chars text)
+    pub bytes : front ≡ encode_utf8_all (front_of (chars text))
+    pub after : chars rest ≡ after_front (chars text)
+    pub boundary : IsCharBoundary text (length text - length rest)
+    pub front_is : take (length text - length rest) text ≡ front
+    pub rest_is : drop (length text - length rest) text ≡ rest
+
+  ended : (text front rest : List ℕ) → IsUtf8 text → text ≡ front ++ rest → IsUtf8 rest → chars front ≡ front_of (chars text) → chars rest ≡ after_front (chars text) → Stopped text rest
+  ended text front rest utf8 joined rest_utf8 run after =
+      let len : length text - length rest ≡ length front = omega (arith, ap length joined, length-append front rest) in
+      record {
+        front = front;
+        joined = joined;
+        rest_utf8 = rest_utf8;
+        run = run;
+        bytes = sym (encodes-chars front (front_is_utf8 text front rest joined utf8 rest_utf8)) ∙ ap encode_utf8_all run;
+        after = after;
+        boundary = subst (IsCharBoundary text) (sym len) (IsCharBoundary-at_seam text front rest joined rest_utf8);
+        front_is = ap (λ (n : ℕ). take n text) len ∙ ap (take (length front)) joined ∙ take_at front rest (length front) refl;
+        rest_is = ap (λ (n : ℕ). drop n text) len ∙ ap (drop (length front)) joined ∙ drop_at front rest (length front) refl;
+      }
+
+  -- before what is left
+  pub stopped : (now after_now : List ℕ → List ℕ) (text rest : List ℕ) → IsUtf8 text → Passed now after_now text rest
+      → now (chars rest) ≡ [] → after_now (chars rest) ≡ chars rest → Stopped text rest
+  stopped now after_now text rest utf8 passed none all =
+      ended text passed.front rest utf8 passed.joined passed.rest_utf8
+      (sym (passed.run ∙ ap (λ (x : List ℕ). chars passed.front ++ x) none ∙ append-nil (chars passed.front)))
+      (sym (passed.after ∙ all))
+
+  -- behind one more character
+  pub stopped_behind : (now after_now : List ℕ → List ℕ) (text rest after : List ℕ) (c : ℕ) → IsUtf8 text → Passed now after_now text rest
+      → rest ≡ encode_utf8 c ++ after → chars rest ≡ c ∷ chars after
+      → now (c ∷ chars after) ≡ c ∷ [] → after_now (c ∷ chars after) ≡ chars after → Stopped text after
+  stopped_behind now after_now text rest after c utf8 passed bytes characters last left =
+      let one = front_and_one text passed.front rest after c utf8 passed.joined passed.rest_utf8 bytes characters in
+      ended text (passed.front ++ encode_utf8 c) after utf8 one.0 one.2
+      (one.1 ∙ sym (passed.run ∙ ap (λ (x : List ℕ). chars passed.front ++ now x) characters ∙ ap (λ (x : List ℕ). chars passed.front ++ x) last))
+      (sym (passed.after ∙ ap after_now characters ∙ left))
+
+-- what is left of a text that was cut is its end
+pub suffix_of : (front : List ℕ) {text rest : List ℕ} → text ≡ front ++ rest → IsUtf8 rest → IsSuffix text rest
+suffix_of front joined utf8 = record { front = front; joined = joined; utf8 = utf8 }

@@ -1,0 +1,73 @@
+-- A requirement up to its marker: a name, extras, and version specifiers, a URL, or neither (PEP 508,
+-- "Grammar"). Each relation goes from what is left of the text before a part to what is left behind it;
+-- texts are lists of characters.
+use Rattle.std.specs.Prelude.{◌≡◌, ◌≢◌, ℕ, Bool, true, false, List, [], ◌∷◌, ◌||◌, ◌==◌, encode_utf8_all}
+use Rattle.pep508_text.specs.Class.{is_comparison}
+use Rattle.pep508_text.specs.Run.{after_space}
+use Rattle.pep440_specifier.specs.Specifier.{Specifier}
+use Rattle.requirement_words.specs.Archive.{IsArchive}
+use Rattle.requirement_words.specs.Extras.{IsNameAt, IsExtras}
+use Rattle.requirement_words.specs.Runs.{part_of}
+use Rattle.requirement_words.specs.Specifiers.{IsSpecifiers}
+use Rattle.requirement_words.specs.Url.{url_of, after_url}
+use Rattle.requirement_words.specs.declared.head.Body.{Body}
+use Rattle.requirement_words.specs.declared.head.Body.TheVariants as bodies
+use Rattle.requirement_words.specs.declared.runs.Part.TheVariants.{Name}
+use Rattle.requirement_words.specs.declared.url.UrlPlace.{UrlPlace}
+use Rattle.requirement_words.specs.declared.url.UrlPlace.TheVariants.{BehindName}
+
+-- what a requirement asks: nothing, specifiers as a set, or the text of a URL, as its bytes
+pub data Asked : Type 0 where
+  nothing : Asked
+  specifiers : List Specifier → Asked
+  url : List ℕ → Asked
+
+abbrev pub asked_of : Body → Asked
+asked_of bodies.Nothing = nothing
+asked_of (bodies.Specifiers set) = specifiers set
+asked_of (bodies.Url text) = url text.now
+
+-- the text of a URL, which is not empty
+pub record IsUrl (place : UrlPlace) (input output text : List ℕ) : Type 0 where
+  pub text_is : text ≡ encode_utf8_all (url_of place 0 input)
+  pub some : url_of place 0 input ≢ []
+  pub rest : after_url place 0 input ≡ output
+
+abbrev pub begins_specifier : List ℕ → Bool
+begins_specifier [] = false
+begins_specifier (c ∷ cs) = is_comparison c
+
+-- the text ends, or its marker begins: 59 is `;`
+pub data IsBare : List ℕ → Type 0 where
+  ended : IsBare []
+  marked : {output : List ℕ} → IsBare (59 ∷ output)
+
+-- 64 is `@`; 40 and 41 are the parentheses
+pub data IsBody : List ℕ → List ℕ → Asked → Type 0 where
+  left_out : {input : List ℕ} → IsBare input → IsBody input input nothing
+  at_url : {input output text : List ℕ} → IsUrl BehindName (after_space input) output text
+      → IsBody (64 ∷ input) output (url text)
+  bare : {input output : List ℕ} {set : List Specifier} → begins_specifier input ≡ true
+      → IsSpecifiers 59 input output set → IsBody input output (specifiers set)
+  enclosed : {input output : List ℕ} {set : List Specifier}
+      → IsSpecifiers 41 (after_space input) (41 ∷ output) set
+      → IsBody (40 ∷ input) output (specifiers set)
+
+-- the name at the front of a text, behind white space, as it is written
+abbrev pub written_name : List ℕ → List ℕ
+written_name input = encode_utf8_all (part_of Name (after_space input))
+
+-- a body is read behind the name and the extras of a text; where nothing is asked, the name as it is
+-- written is none of an archive
+pub record IsAskedIn (text behind output : List ℕ) (asked : Asked) : Type 0 where
+  pub body : IsBody behind output asked
+  pub no_archive : asked ≡ nothing → ¬ IsArchive (written_name text)
+
+-- a name, extras and a body, with any white space before each
+pub record IsHead (input output : List ℕ) (name : List ℕ) (extras : List (List ℕ)) (asked : Asked)
+    : Type 0 where
+  pub after_name : List ℕ
+  pub after_extras : List ℕ
+  pub named : IsNameAt (after_space input) after_name name
+  pub extras_are : IsExtras (after_space after_name) after_extras extras
+  pub asks : IsAskedIn input (after_space after_extras) output asked

@@ -1,0 +1,12 @@
+pub mod Archive
+pub mod Extras
+pub mod Fault
+pub mod Head
+pub mod Message
+pub mod Nameless
+pub mod Part
+pub mod Runs
+pub mod Specifiers
+pub mod Tail
+pub mod Unnamed
+pub mod Url

@@ -1,0 +1,41 @@
+-- The version specifiers of a requirement (PEP 508; PEP 440, "Version specifiers"), in pieces at commas.
+use Rattle.std.specs.Prelude.{◌≡◌, ℕ, Bool, false, List, [], ◌∷◌, ◌==◌, encode_utf8_all}
+use Rattle.std.specs.List.Sorted.{IsPermutation, IsSortedBy, IsStableBy}
+use Rattle.pep440_specifier.specs.Grammar.{IsSpecifierText}
+use Rattle.pep440_specifier.specs.Set.{is_lower}
+use Rattle.pep440_specifier.specs.Specifier.{Specifier}
+use Rattle.requirement_words.specs.Runs.{part_of, after_part}
+use Rattle.requirement_words.specs.declared.runs.Part.TheVariants as parts
+
+-- the bytes of the piece at the front: up to a comma or the character that ends the specifiers
+abbrev pub piece_of : ℕ → List ℕ → List ℕ
+piece_of end input = encode_utf8_all (part_of (parts.Specifier end) input)
+
+-- what follows it
+abbrev pub after_piece : ℕ → List ℕ → List ℕ
+after_piece end input = after_part (parts.Specifier end) input
+
+abbrev pub begins_comma : List ℕ → Bool
+begins_comma [] = false
+begins_comma (c ∷ cs) = c == 44
+
+-- specifiers with a comma (44) between each two; so no piece is empty
+pub data Pieces (end : ℕ) : List ℕ → List ℕ → List Specifier → Type 0 where
+  last : {input output : List ℕ} {s : Specifier} → IsSpecifierText (piece_of end input) s
+      → after_piece end input ≡ output → begins_comma output ≡ false
+      → Pieces end input output (s ∷ [])
+  more : {input next output : List ℕ} {s : Specifier} {others : List Specifier}
+      → IsSpecifierText (piece_of end input) s → after_piece end input ≡ 44 ∷ next
+      → Pieces end next output others → Pieces end input output (s ∷ others)
+
+-- the set of a list: sorted by version, those of one version in their order
+pub record IsSetOf (list set : List Specifier) : Type 0 where
+  pub same : IsPermutation list set
+  pub sorted : IsSortedBy is_lower set
+  pub stable : IsStableBy is_lower list set
+
+-- specifiers, and the set that they are
+pub record IsSpecifiers (end : ℕ) (input output : List ℕ) (set : List Specifier) : Type 0 where
+  pub list : List Specifier
+  pub pieces : Pieces end input output list
+  pub is_set : IsSetOf list set

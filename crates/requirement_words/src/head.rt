@@ -1,0 +1,322 @@
+//! A requirement up to its marker.
+
+ghost use Rattle.std.specs.Prelude.{IfOk, IfErr, List, ℕ, ⊤, ◌≡◌, ◌≢◌, ◌∷◌, ◌++◌, [], true, false, encode_utf8};
+ghost use Rattle.std.specs.Char.{is_ascii_alphanumeric};
+ghost use Rattle.std.specs.Str.{chars};
+ghost use Rattle.pep508_text.specs.Run.{after_space};
+ghost use Rattle.pep508_text.specs.Suffix.{IsSuffix};
+ghost use Rattle.pep508_urls.specs.Variables.{value_of};
+ghost use Rattle.requirement_words.specs.Fault.{IsBehindExtras, IsFault, may_follow_name};
+ghost use Rattle.pep440_specifier.specs.Specifier.{Specifier as One};
+ghost use Rattle.requirement_words.specs.Archive.{IsArchive};
+ghost use Rattle.requirement_words.specs.Extras.{IsNameAt};
+ghost use Rattle.requirement_words.specs.Head.{Asked, asked_of, IsAskedIn, IsBare, IsBody, IsHead, nothing, specifiers, url, written_name};
+ghost use Rattle.requirement_words.specs.Part.{IsPartFault, IsRefused};
+
+use crate::extras::read_extras;
+use crate::fault::{Fault, FaultKind};
+use crate::nameless::{is_archive, is_nameless};
+use crate::runs::{Part, split_part};
+use crate::specifiers::read_specifiers;
+use crate::url::{UrlPlace, split_url};
+use pep440_specifier::VersionSpecifiers;
+use pep508_errors::Surroundings;
+use pep508_names::{ExtraName, PackageName};
+use pep508_text::{Class, first, skip_space, split_run, strip};
+use refusal::Refusal;
+use std::alloc::Global;
+
+/// What a requirement asks of the versions.
+#[derive(Debug, Drop)]
+pub enum Body<'a> {
+    /// Nothing: any version will do.
+    Nothing,
+    /// Specifiers that all have to hold.
+    Specifiers(VersionSpecifiers),
+    /// The text of a URL.
+    Url(&'a str),
+}
+
+/// A requirement up to its marker.
+#[derive(Debug, Drop)]
+pub struct Head<'a> {
+    pub name: PackageName,
+    pub extras: Vec<ExtraName>,
+    pub body: Body<'a>,
+}
+
+// A text of white space alone.
+fn blank(text: &str) -> Fault<'_>
+    requires { after_space (chars text.now) ≡ [] }
+    ensures { (value : List ℕ → List ℕ) → IsFault value text.now result }
+{
+    match first(text) {
+        Some((_, after)) => Fault::before(FaultKind::Blank, text, after),
+        None => Fault::at_end(FaultKind::Blank),
+    }
+}
+
+// What is wrong where this character stands in place of a name; `start` is the text without white space
+// in front.
+fn no_name<'a>(
+    alloc: Global,
+    text: &'a str,
+    start: &'a str,
+    found: char,
+    after: &str,
+    surroundings: &Surroundings<'_>,
+) -> Refusal<Fault<'a>>
+    requires start { chars start.now ≡ after_space (chars text.now) }
+    requires suffix { IsSuffix text.now start.now }
+    requires first { start.now ≡ encode_utf8 found ++ after.now }
+    requires characters { chars start.now ≡ found ∷ chars after.now }
+    requires rest { IsSuffix start.now after.now }
+    requires no_name { is_ascii_alphanumeric found ≡ false }
+    ensures { IsRefused (IsFault (value_of surroundings.now) text.now) ⊤ result }
+{
+    let (run, _) = split_run(start, Class::NotSpace);
+    let Ok(nameless) = is_nameless(alloc, run, surroundings) else {
+        return Refusal::OutOfMemory;
+    };
+    if nameless {
+        return Refusal::Fault(Fault::at_run(FaultKind::PathWithoutName, run, start));
+    }
+    Refusal::Fault(Fault::before(FaultKind::NoName, start, after))
+}
+
+// What is wrong where this character stands behind the name and the extras, in front of `behind`.
+fn no_body<'a>(
+    alloc: Global,
+    text: &'a str,
+    behind: &'a str,
+    found: char,
+    after: &str,
+    surroundings: &Surroundings<'_>,
+) -> Refusal<Fault<'a>>
+    requires behind { IsBehindExtras text.now (chars behind.now) }
+    requires inside { IsSuffix text.now behind.now }
+    requires first { behind.now ≡ encode_utf8 found ++ after.now }
+    requires characters { chars behind.now ≡ found ∷ chars after.now }
+    requires rest { IsSuffix behind.now after.now }
+    requires no_body { may_follow_name found ≡ false }
+    ensures { IsRefused (IsFault (value_of surroundings.now) text.now) ⊤ result }
+{
+    let start = skip_space(text);
+    let (run, _) = split_run(start, Class::NotSpace);
+    let Ok(nameless) = is_nameless(alloc, run, surroundings) else {
+        return Refusal::OutOfMemory;
+    };
+    if nameless {
+        return Refusal::Fault(Fault::at_run(FaultKind::UrlWithoutName, run, start));
+    }
+    Refusal::Fault(Fault::before(FaultKind::NoBody, behind, after))
+}
+
+fn may_follow_name(c: char) -> bool
+    ensures { result ≡ may_follow_name c }
+{
+    matches!(c, '@' | '(' | ';' | '<' | '=' | '>' | '~' | '!')
+}
+
+// The URL behind an `@`, with any white space before it.
+fn read_url<'a>(text: &'a str, behind: &'a str) -> Result<(Body<'a>, &'a str), Refusal<Fault<'a>>>
+    requires at { chars text.now ≡ 64 ∷ chars behind.now }
+    requires suffix { IsSuffix text.now behind.now }
+    ensures found { IfOk result (λ x. IsBody (chars text.now) (chars x.1.now) (asked_of x.0)) }
+    ensures refused { IfErr result (IsRefused (IsPartFault text.now)
+        ((output : List ℕ) (asked : Asked) → ¬ IsBody (chars text.now) output asked)) }
+    ensures suffix { IfOk result (λ x. IsSuffix text.now x.1.now) }
+    ensures some { IfOk result (λ x. asked_of x.0 ≢ nothing) }
+    ensures placed { IfOk result (λ x. (piece : List ℕ) → asked_of x.0 ≡ url piece
+        → IsSuffix text.now (piece ++ x.1.now)) }
+{
+    let place = skip_space(behind);
+    let (url, rest) = split_url(place, UrlPlace::BehindName);
+    match first(url) {
+        Some(_) => Ok((Body::Url(url), rest)),
+        None => Err(Refusal::Fault(Fault::before(FaultKind::NoUrl, place, place))),
+    }
+}
+
+// The specifiers between parentheses, with any white space before them. Where the text ends within the
+// last of them, it is the parenthesis that is told.
+fn read_enclosed<'a>(
+    alloc: Global,
+    text: &'a str,
+    behind: &'a str,
+) -> Result<(Body<'a>, &'a str), Refusal<Fault<'a>>>
+    requires at { chars text.now ≡ 40 ∷ chars behind.now }
+    requires bytes { text.now ≡ encode_utf8 40 ++ behind.now }
+    requires suffix { IsSuffix text.now behind.now }
+    ensures found { IfOk result (λ x. IsBody (chars text.now) (chars x.1.now) (asked_of x.0)) }
+    ensures refused { IfErr result (IsRefused (IsPartFault text.now)
+        ((output : List ℕ) (asked : Asked) → ¬ IsBody (chars text.now) output asked)) }
+    ensures suffix { IfOk result (λ x. IsSuffix text.now x.1.now) }
+    ensures specifiers { IfOk result (λ x. (set : List One) × (asked_of x.0 ≡ specifiers set)) }
+{
+    match read_specifiers(alloc, skip_space(behind), ')') {
+        Ok((set, rest)) => match strip(rest, ')') {
+            Some(rest) => Ok((Body::Specifiers(set), rest)),
+            None => Err(Refusal::Fault(Fault::before(
+                FaultKind::UnclosedParenthesis,
+                text,
+                behind,
+            ))),
+        },
+        Err(Refusal::Fault(fault)) => {
+            if fault.left == fault.piece.len() {
+                return Err(Refusal::Fault(Fault::before(
+                    FaultKind::UnclosedParenthesis,
+                    text,
+                    behind,
+                )));
+            }
+            Err(Refusal::Fault(fault))
+        }
+        Err(_) => Err(Refusal::OutOfMemory),
+    }
+}
+
+// What is asked, and what follows it, where this is not nothing.
+fn read_body<'a>(alloc: Global, text: &'a str) -> Result<(Body<'a>, &'a str), Refusal<Fault<'a>>>
+    requires { (c : ℕ) × (cs : List ℕ) × (chars text.now ≡ c ∷ cs) × (may_follow_name c ≡ true)
+        × (c ≢ 59) }
+    ensures found { IfOk result (λ x. IsBody (chars text.now) (chars x.1.now) (asked_of x.0)) }
+    ensures some { IfOk result (λ x. asked_of x.0 ≢ nothing) }
+    ensures refused { IfErr result (IsRefused (IsPartFault text.now)
+        ((output : List ℕ) (asked : Asked) → ¬ IsBody (chars text.now) output asked)) }
+    ensures suffix { IfOk result (λ x. IsSuffix text.now x.1.now) }
+    ensures placed { IfOk result (λ x. (piece : List ℕ) → asked_of x.0 ≡ url piece
+        → IsSuffix text.now (piece ++ x.1.now)) }
+{
+    if let Some(behind) = strip(text, '@') {
+        return read_url(text, behind);
+    }
+    if let Some(behind) = strip(text, '(') {
+        return read_enclosed(alloc, text, behind);
+    }
+    match read_specifiers(alloc, text, ';') {
+        Ok((set, rest)) => Ok((Body::Specifiers(set), rest)),
+        Err(refusal) => Err(refusal),
+    }
+}
+
+// Nothing is asked, unless the name is that of an archive.
+fn read_nothing<'a>(
+    text: &'a str,
+    behind: &'a str,
+) -> Result<(Body<'a>, &'a str), Refusal<Fault<'a>>>
+    requires behind { IsBehindExtras text.now (chars behind.now) }
+    requires inside { IsSuffix text.now behind.now }
+    requires bare { IsBare (chars behind.now) }
+    ensures found { IfOk result (λ x.
+        IsAskedIn (chars text.now) (chars behind.now) (chars x.1.now) (asked_of x.0)) }
+    ensures refused { IfErr result (λ refusal. (value : List ℕ → List ℕ)
+        → IsRefused (IsFault value text.now) ((output : List ℕ) (asked : Asked)
+        → ¬ IsAskedIn (chars text.now) (chars behind.now) output asked) refusal) }
+    ensures suffix { IfOk result (λ x. IsSuffix text.now x.1.now) }
+    ensures placed { IfOk result (λ x. (piece : List ℕ) → asked_of x.0 ≡ url piece
+        → IsSuffix text.now (piece ++ x.1.now)) }
+{
+    let start = skip_space(text);
+    let (run, _) = split_part(start, Part::Name);
+    if is_archive(run) {
+        let fault = Fault::at_run(FaultKind::ArchiveWithoutName, run, start);
+        return Err(Refusal::Fault(fault));
+    }
+    Ok((Body::Nothing, behind))
+}
+
+// What is asked behind the name and the extras, and what follows it.
+fn read_asked<'a>(
+    alloc: Global,
+    text: &'a str,
+    behind: &'a str,
+    surroundings: &Surroundings<'_>,
+) -> Result<(Body<'a>, &'a str), Refusal<Fault<'a>>>
+    requires behind { IsBehindExtras text.now (chars behind.now) }
+    requires inside { IsSuffix text.now behind.now }
+    ensures found { IfOk result (λ x.
+        IsAskedIn (chars text.now) (chars behind.now) (chars x.1.now) (asked_of x.0)) }
+    ensures refused { IfErr result (IsRefused (IsFault (value_of surroundings.now) text.now)
+        ((output : List ℕ) (asked : Asked)
+        → ¬ IsAskedIn (chars text.now) (chars behind.now) output asked)) }
+    ensures suffix { IfOk result (λ x. IsSuffix text.now x.1.now) }
+    ensures placed { IfOk result (λ x. (piece : List ℕ) → asked_of x.0 ≡ url piece
+        → IsSuffix text.now (piece ++ x.1.now)) }
+{
+    let Some((found, after)) = first(behind) else {
+        return read_nothing(text, behind);
+    };
+    if found == ';' {
+        return read_nothing(text, behind);
+    }
+    if !may_follow_name(found) {
+        return Err(no_body(alloc, text, behind, found, after, surroundings));
+    }
+    match read_body(alloc, behind) {
+        Ok(read) => Ok(read),
+        Err(refusal) => Err(refusal),
+    }
+}
+
+// The name at the front of a text, with any white space before it, and what follows it.
+fn read_name<'a>(
+    alloc: Global,
+    text: &'a str,
+    surroundings: &Surroundings<'_>,
+) -> Result<(PackageName, &'a str), Refusal<Fault<'a>>>
+    ensures found { IfOk result (λ x.
+        IsNameAt (after_space (chars text.now)) (chars x.1.now) x.0) }
+    ensures refused { IfErr result (IsRefused (IsFault (value_of surroundings.now) text.now)
+        ((output n : List ℕ) → ¬ IsNameAt (after_space (chars text.now)) output n)) }
+    ensures suffix { IfOk result (λ x. IsSuffix text.now x.1.now) }
+{
+    let start = skip_space(text);
+    let Some((found, after)) = first(start) else {
+        return Err(Refusal::Fault(blank(text)));
+    };
+    if !found.is_ascii_alphanumeric() {
+        return Err(no_name(alloc, text, start, found, after, surroundings));
+    }
+    let (run, rest) = split_part(start, Part::Name);
+    match PackageName::parse(alloc, run) {
+        Ok(name) => Ok((name, rest)),
+        Err(Refusal::Fault(_)) => {
+            Err(Refusal::Fault(Fault::at_last(FaultKind::NameEnd, run, rest)))
+        }
+        Err(_) => Err(Refusal::OutOfMemory),
+    }
+}
+
+/// A requirement up to its marker, and what follows it. The surroundings say what variables stand for: a
+/// path or URL that stands in place of a name is told as such.
+pub fn read_head<'a>(
+    alloc: Global,
+    text: &'a str,
+    surroundings: &Surroundings<'_>,
+) -> Result<(Head<'a>, &'a str), Refusal<Fault<'a>>>
+    ensures found { IfOk result (λ x. IsHead (chars text.now) (chars x.1.now) x.0.name
+        x.0.extras.items (asked_of x.0.body)) }
+    ensures refused { IfErr result (IsRefused (IsFault (value_of surroundings.now) text.now)
+        ((output name : List ℕ) (extras : List (List ℕ)) (asked : Asked)
+        → ¬ IsHead (chars text.now) output name extras asked)) }
+    ensures suffix { IfOk result (λ x. IsSuffix text.now x.1.now) }
+
+    // A URL stands right before what follows it.
+    ensures placed { IfOk result (λ x. (piece : List ℕ) → asked_of x.0.body ≡ url piece
+        → IsSuffix text.now (piece ++ x.1.now)) }
+{
+    let (name, after_name) = match read_name(alloc, text, surroundings) {
+        Ok(read) => read,
+        Err(refusal) => return Err(refusal),
+    };
+    let (extras, after_extras) = match read_extras(alloc, skip_space(after_name)) {
+        Ok(read) => read,
+        Err(refusal) => return Err(refusal),
+    };
+    match read_asked(alloc, text, skip_space(after_extras), surroundings) {
+        Ok((body, rest)) => Ok((Head { name, extras, body }, rest)),
+        Err(refusal) => Err(refusal),
+    }
+}

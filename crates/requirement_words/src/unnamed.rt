@@ -1,0 +1,64 @@
+//! A requirement without a name, up to its marker.
+
+ghost use Rattle.std.specs.Prelude.{◌++◌, IfErr, IfOk, List, ℕ};
+ghost use Rattle.std.specs.Str.{chars};
+ghost use Rattle.pep508_text.specs.Suffix.{IsSuffix};
+ghost use Rattle.requirement_words.specs.Part.{IsPartFault, IsRefused};
+ghost use Rattle.requirement_words.specs.Unnamed.{IsUnnamedHead};
+
+use crate::extras::read_extras;
+use crate::fault::{Fault, FaultKind};
+use crate::url::{UrlPlace, split_url};
+use pep508_names::ExtraName;
+use pep508_text::{first, skip_space};
+use pep508_urls::split_extras;
+use refusal::Refusal;
+use std::alloc::Global;
+
+/// A requirement without a name, up to its marker.
+#[derive(Debug, Drop)]
+pub struct UnnamedHead<'a> {
+    /// The URL as it is written, with its extras.
+    pub given: &'a str,
+    /// The URL without its extras.
+    pub url: &'a str,
+    pub extras: Vec<ExtraName>,
+}
+
+/// A requirement without a name up to its marker, and what follows it: a URL, with any white space before
+/// it and extras in brackets at its end.
+pub fn read_unnamed_head<'a>(
+    alloc: Global,
+    text: &'a str,
+) -> Result<(UnnamedHead<'a>, &'a str), Refusal<Fault<'a>>>
+    ensures found { IfOk result (λ x. IsUnnamedHead (chars text.now) (chars x.1.now)
+        x.0.given.now x.0.url.now x.0.extras.items) }
+    ensures refused { IfErr result (IsRefused (IsPartFault text.now)
+        ((output given url : List ℕ) (names : List (List ℕ))
+        → ¬ IsUnnamedHead (chars text.now) output given url names)) }
+    ensures suffix { IfOk result (λ x. IsSuffix text.now x.1.now) }
+
+    // The URL as it is written stands right before what follows it.
+    ensures placed { IfOk result (λ x. IsSuffix text.now (x.0.given.now ++ x.1.now)) }
+{
+    let place = skip_space(text);
+    let (given, rest) = split_url(place, UrlPlace::Alone);
+    let Some(_) = first(given) else {
+        return Err(Refusal::Fault(Fault::before(FaultKind::NoUrl, place, place)));
+    };
+    let Some((url, _)) = split_extras(given) else {
+        let extras = Vec::new(alloc);
+        return Ok((
+            UnnamedHead {
+                given,
+                url: given,
+                extras,
+            },
+            rest,
+        ));
+    };
+    match read_extras(alloc, place.split_at(url.len()).1) {
+        Ok((extras, _)) => Ok((UnnamedHead { given, url, extras }, rest)),
+        Err(refusal) => Err(refusal),
+    }
+}

@@ -1,0 +1,98 @@
+//! Where the URL of a requirement ends.
+
+ghost use Rattle.std.specs.Prelude.{◌≡◌, ◌<◌, ◌++◌, encode_utf8_all};
+ghost use Rattle.std.specs.Str.{chars};
+ghost use Rattle.pep508_text.specs.Run.{after_space};
+ghost use Rattle.pep508_text.specs.Suffix.{IsSuffix};
+ghost use Rattle.requirement_words.specs.Url.{after_url, closes, is_url_stop, may_end_before, open_behind, url_of};
+
+use crate::runs::{Part, is_line_break, split_part};
+use pep508_text::{first, skip_space};
+
+/// Where a URL stands in a requirement.
+#[derive(Clone, Copy, Debug, PartialEq, Eq)]
+pub enum UrlPlace {
+    /// Behind a name and `@`.
+    BehindName,
+    /// In place of a name. White space, `;` and `#` do not end such a URL while a `[` is open in it.
+    Alone,
+}
+
+impl UrlPlace {
+    // How many brackets are open behind the character, where so many were before it.
+    fn open_behind(self, c: char, brackets: usize) -> usize
+        requires { brackets < 18446744073709551615 }
+        ensures { result ≡ open_behind self c brackets }
+    {
+        match (self, c) {
+            (UrlPlace::Alone, '[') => brackets + 1,
+            (UrlPlace::Alone, ']') => brackets.saturating_sub(1),
+            _ => brackets,
+        }
+    }
+}
+
+// Whether a URL that has white space behind it ends there.
+fn is_url_stop(text: &str) -> bool
+    ensures { result ≡ is_url_stop (chars text.now) }
+{
+    match first(text) {
+        None => true,
+        Some((c, _)) => c == ';' || c == '#',
+    }
+}
+
+// Whether a URL with so many open brackets may end before this character: it is white space.
+fn may_end_before(brackets: usize, c: char) -> bool
+    ensures { result ≡ may_end_before brackets c }
+{
+    brackets == 0 && c.is_whitespace()
+}
+
+// Whether a URL with so many open brackets ends behind this character.
+fn closes(brackets: usize, c: char, after: &str) -> bool
+    ensures { result ≡ closes brackets c (chars after.now) }
+{
+    if brackets != 0 || !(c == ';' || c == '#') {
+        return false;
+    }
+    match first(after) {
+        None => false,
+        Some((next, _)) => next.is_whitespace(),
+    }
+}
+
+/// The URL at the front of the text, and what follows it. Either may be empty.
+///
+/// It ends at a line break, before white space behind which the text ends or a `;` or `#` stands, right
+/// behind a `;` or `#` that white space follows, and else at the end. Each run of white space is looked
+/// past once.
+pub fn split_url(text: &str, place: UrlPlace) -> (&str, &str)
+    ensures joined { text.now ≡ result.0.now ++ result.1.now }
+    ensures bytes { result.0.now ≡ encode_utf8_all (url_of place 0 (chars text.now)) }
+    ensures url { chars result.0.now ≡ url_of place 0 (chars text.now) }
+    ensures rest { chars result.1.now ≡ after_url place 0 (chars text.now) }
+    ensures suffix { IsSuffix text.now result.1.now }
+{
+    let mut rest = text;
+    let mut brackets = 0;
+    while let Some((c, after)) = first(rest) {
+        if is_line_break(c) {
+            break;
+        }
+        if may_end_before(brackets, c) {
+            if is_url_stop(skip_space(after)) {
+                break;
+            }
+            rest = split_part(after, Part::Blank).1;
+            continue;
+        }
+        let ends = closes(brackets, c, after);
+        brackets = place.open_behind(c, brackets);
+        rest = after;
+        if ends {
+            break;
+        }
+    }
+    text.split_at(text.len() - rest.len())
+}
