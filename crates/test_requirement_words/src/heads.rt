@@ -65,22 +65,27 @@ fn requirements_are_read(rt: HostRuntime) -> Result<(), Fail> {
     Ok(())
 }
 
+// What stands before the first `|`, and what follows it.
+fn split_marker(shown: &str) -> (&str, &str) {
+    match shown.split_once('|') {
+        Some((printed, marker)) => (printed, marker),
+        None => (shown, ""),
+    }
+}
+
 #[test]
 fn printed_texts_read_back(rt: HostRuntime) -> Result<(), Fail> {
     let vars = variables(rt.alloc(), &[])?;
     for (text, _) in ROWS {
         let once = shown(rt.alloc(), text, &vars)?;
-        let (printed, marker) = once.as_str().split_once('|').unwrap_or((once.as_str(), ""));
+        let (printed, marker) = split_marker(once.as_str());
         let mut again = String::from_str(rt.alloc(), printed)?;
         if !marker.is_empty() {
             again.push_str(" ;")?;
             again.push_str(marker)?;
         }
         let twice = shown(rt.alloc(), again.as_str(), &vars)?;
-        let (printed_again, _) = twice
-            .as_str()
-            .split_once('|')
-            .unwrap_or((twice.as_str(), ""));
+        let (printed_again, _) = split_marker(twice.as_str());
         assert_eq!(rt; printed_again, printed, "{text}");
     }
     Ok(())

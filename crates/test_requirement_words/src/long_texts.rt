@@ -18,68 +18,53 @@ fn repeated(alloc: Global, text: &str, count: usize) -> Result<String, AllocErro
     Ok(whole)
 }
 
-#[test]
-fn many_extras(rt: HostRuntime) -> Result<(), Fail> {
-    let alloc = rt.alloc();
+// How long the name of a requirement is, and how many extras and specifiers it has.
+fn sizes_of(alloc: Global, text: &str) -> Result<(usize, usize, usize), AllocError> {
     let vars = variables(alloc, &[])?;
     let surroundings = Surroundings {
         vars: &vars,
         project_root: "/",
         working_dir: None,
     };
+    match read_head(alloc, text, &surroundings) {
+        Ok((head, _rest)) => {
+            let specifiers = match &head.body {
+                Body::Specifiers(set) => set.as_slice().len(),
+                _ => 0,
+            };
+            Ok((head.name.as_str().len(), head.extras.len(), specifiers))
+        }
+        Err(_refusal) => Ok((0, 0, 0)),
+    }
+}
+
+#[test]
+fn many_extras(rt: HostRuntime) -> Result<(), Fail> {
+    let alloc = rt.alloc();
     let mut text = String::from_str(alloc, "foo[")?;
     text.push_str(repeated(alloc, "a-B, ", MANY - 1)?.as_str())?;
     text.push_str("c]")?;
-    match read_head(alloc, text.as_str(), &surroundings) {
-        Ok((head, rest)) => {
-            assert_eq!(rt; head.extras.len(), MANY);
-            assert_eq!(rt; rest, "");
-        }
-        Err(_) => assert!(rt; false, "extras are read"),
-    }
+    let sizes = sizes_of(alloc, text.as_str())?;
+    assert_eq!(rt; sizes, (3, MANY, 0));
     Ok(())
 }
 
 #[test]
 fn many_specifiers(rt: HostRuntime) -> Result<(), Fail> {
     let alloc = rt.alloc();
-    let vars = variables(alloc, &[])?;
-    let surroundings = Surroundings {
-        vars: &vars,
-        project_root: "/",
-        working_dir: None,
-    };
     let mut text = String::from_str(alloc, "foo ")?;
     text.push_str(repeated(alloc, ">=1,", MANY - 1)?.as_str())?;
     text.push_str("<2 ;")?;
-    match read_head(alloc, text.as_str(), &surroundings) {
-        Ok((head, rest)) => {
-            let count = match &head.body {
-                Body::Specifiers(set) => set.as_slice().len(),
-                _ => 0,
-            };
-            assert_eq!(rt; count, MANY);
-            assert_eq!(rt; rest, ";");
-        }
-        Err(_) => assert!(rt; false, "specifiers are read"),
-    }
+    let sizes = sizes_of(alloc, text.as_str())?;
+    assert_eq!(rt; sizes, (3, 0, MANY));
     Ok(())
 }
 
 #[test]
 fn a_long_name(rt: HostRuntime) -> Result<(), Fail> {
-    let alloc = rt.alloc();
-    let vars = variables(alloc, &[])?;
-    let surroundings = Surroundings {
-        vars: &vars,
-        project_root: "/",
-        working_dir: None,
-    };
-    let text = repeated(alloc, "0123456789", MILLION)?;
-    match read_head(alloc, text.as_str(), &surroundings) {
-        Ok((head, _)) => assert_eq!(rt; head.name.as_str().len(), 10 * MILLION),
-        Err(_) => assert!(rt; false, "a name is read"),
-    }
+    let text = repeated(rt.alloc(), "0123456789", MILLION)?;
+    let sizes = sizes_of(rt.alloc(), text.as_str())?;
+    assert_eq!(rt; sizes, (10 * MILLION, 0, 0));
     Ok(())
 }
 
@@ -108,6 +93,14 @@ fn much_white_space(rt: HostRuntime) -> Result<(), Fail> {
     Ok(())
 }
 
+// How long the URL of a requirement without a name is, and what follows it.
+fn unnamed_sizes_of(alloc: Global, text: &str) -> (usize, usize) {
+    match read_unnamed_head(alloc, text) {
+        Ok((head, rest)) => (head.url.len(), rest.len()),
+        Err(_refusal) => (0, 0),
+    }
+}
+
 #[test]
 fn brackets_and_white_space(rt: HostRuntime) -> Result<(), Fail> {
     let alloc = rt.alloc();
@@ -115,12 +108,7 @@ fn brackets_and_white_space(rt: HostRuntime) -> Result<(), Fail> {
     assert!(rt; found);
     let mut text = String::from_str(alloc, "a")?;
     text.push_str(repeated(alloc, "[ ", MILLION)?.as_str())?;
-    match read_unnamed_head(alloc, text.as_str()) {
-        Ok((head, rest)) => {
-            assert_eq!(rt; head.url.len(), 2 * MILLION + 1);
-            assert_eq!(rt; rest, "");
-        }
-        Err(_) => assert!(rt; false, "a URL is read"),
-    }
+    let sizes = unnamed_sizes_of(alloc, text.as_str());
+    assert_eq!(rt; sizes, (2 * MILLION + 1, 0));
     Ok(())
 }
