@@ -20,7 +20,7 @@ const INVALID_EXTRA: &str =
 const TRAILING: &str = "Expected end of input or `;`, found ";
 
 /// Faults whose message ends with the character that is found.
-const FOUND: [(&str, &str, &str, &str); 33] = [
+const FOUND: [(&str, &str, &str, &str); 32] = [
     ("é", "0 2", NO_NAME, "é"),
     (" -foo", "1 1", NO_NAME, "-"),
     ("[a]", "0 1", NO_NAME, "["),
@@ -63,7 +63,6 @@ const FOUND: [(&str, &str, &str, &str); 33] = [
         ",",
     ),
     ("foo(>=1)(", "8 1", TRAILING, "("),
-    ("foo @ a; b;", "7 1", "", ""),
 ];
 
 #[test]
@@ -71,9 +70,6 @@ fn found_characters(rt: HostRuntime) -> Result<(), Fail> {
     let alloc = rt.alloc();
     let vars = variables(alloc, &[])?;
     for (text, span, message, found) in FOUND {
-        if found.is_empty() {
-            continue;
-        }
         let mut expected = String::from_str(alloc, span)?;
         expected.push(' ')?;
         expected.push_str(message)?;
@@ -192,12 +188,8 @@ fn pieces_that_are_no_specifiers(rt: HostRuntime) -> Result<(), Fail> {
         ("foo >=1 x", "4 5", ">=1 x"),
         ("foo =1", "4 2", "=1"),
         ("foo ~=1;m", "4 3", "~=1"),
-        ("foo >=1;", "", ""),
     ];
     for (text, span, piece) in rows {
-        if span.is_empty() {
-            continue;
-        }
         let mut expected = String::from_str(alloc, span)?;
         expected.push(' ')?;
         expected.push_str(said_of(alloc, piece)?.as_str())?;
