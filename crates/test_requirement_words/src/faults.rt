@@ -19,57 +19,55 @@ const INVALID_EXTRA: &str =
 
 const TRAILING: &str = "Expected end of input or `;`, found ";
 
-/// Faults whose message ends with the character that is found.
-const FOUND: [(&str, &str, &str, &str); 32] = [
-    ("é", "0 2", NO_NAME, "é"),
-    (" -foo", "1 1", NO_NAME, "-"),
-    ("[a]", "0 1", NO_NAME, "["),
-    (";", "0 1", NO_NAME, ";"),
-    ("\u{3000}é", "3 2", NO_NAME, "é"),
-    ("fooé", "3 2", NO_BODY, "é"),
-    ("foo bar", "4 1", NO_BODY, "b"),
-    ("foo[a] b", "7 1", NO_BODY, "b"),
-    ("foo[a]]", "6 1", NO_BODY, "]"),
-    ("foo[]é", "5 2", NO_BODY, "é"),
-    ("foo )", "4 1", NO_BODY, ")"),
-    ("foo[a b]", "6 1", NO_SEPARATOR, "b"),
-    ("foo[a é]", "6 2", NO_SEPARATOR, "é"),
-    ("foo[a [", "6 1", NO_SEPARATOR, "["),
-    ("foo[a,b é]", "8 2", NO_SEPARATOR, "é"),
-    ("foo[é]", "4 2", NO_EXTRA, "é"),
-    ("foo[a,]", "6 1", NO_EXTRA, "]"),
-    ("foo[a, ]", "7 1", NO_EXTRA, "]"),
-    ("foo[a,,b]", "6 1", NO_EXTRA, ","),
-    ("foo[-a]", "4 1", NO_EXTRA, "-"),
-    ("foo[aé]", "5 2", INVALID_EXTRA, "é"),
-    ("foo[a[", "5 1", INVALID_EXTRA, "["),
-    ("foo[a-é]", "6 2", INVALID_EXTRA, "é"),
-    ("foo[a;b]", "5 1", INVALID_EXTRA, ";"),
-    ("foo (>=1) x", "10 1", TRAILING, "x"),
-    ("foo (>=1)é", "9 2", TRAILING, "é"),
-    ("foo @ a #b", "8 1", TRAILING, "#"),
-    ("foo @ a\nb", "8 1", TRAILING, "b"),
-    ("foo @ a\n  é", "10 2", TRAILING, "é"),
-    (
-        "foo[,a é",
-        "4 1",
-        "Expected either alphanumerical character (starting the extra name) or `]` (ending the extras section), found ",
-        ",",
-    ),
-    (
-        "foo[ ,]",
-        "5 1",
-        "Expected either alphanumerical character (starting the extra name) or `]` (ending the extras section), found ",
-        ",",
-    ),
-    ("foo(>=1)(", "8 1", TRAILING, "("),
-];
-
 #[test]
 fn found_characters(rt: HostRuntime) -> Result<(), Fail> {
     let alloc = rt.alloc();
     let vars = variables(alloc, &[])?;
-    for (text, span, message, found) in FOUND {
+    let rows = [
+        ("é", "0 2", NO_NAME, "é"),
+        (" -foo", "1 1", NO_NAME, "-"),
+        ("[a]", "0 1", NO_NAME, "["),
+        (";", "0 1", NO_NAME, ";"),
+        ("\u{3000}é", "3 2", NO_NAME, "é"),
+        ("fooé", "3 2", NO_BODY, "é"),
+        ("foo bar", "4 1", NO_BODY, "b"),
+        ("foo[a] b", "7 1", NO_BODY, "b"),
+        ("foo[a]]", "6 1", NO_BODY, "]"),
+        ("foo[]é", "5 2", NO_BODY, "é"),
+        ("foo )", "4 1", NO_BODY, ")"),
+        ("foo[a b]", "6 1", NO_SEPARATOR, "b"),
+        ("foo[a é]", "6 2", NO_SEPARATOR, "é"),
+        ("foo[a [", "6 1", NO_SEPARATOR, "["),
+        ("foo[a,b é]", "8 2", NO_SEPARATOR, "é"),
+        ("foo[é]", "4 2", NO_EXTRA, "é"),
+        ("foo[a,]", "6 1", NO_EXTRA, "]"),
+        ("foo[a, ]", "7 1", NO_EXTRA, "]"),
+        ("foo[a,,b]", "6 1", NO_EXTRA, ","),
+        ("foo[-a]", "4 1", NO_EXTRA, "-"),
+        ("foo[aé]", "5 2", INVALID_EXTRA, "é"),
+        ("foo[a[", "5 1", INVALID_EXTRA, "["),
+        ("foo[a-é]", "6 2", INVALID_EXTRA, "é"),
+        ("foo[a;b]", "5 1", INVALID_EXTRA, ";"),
+        ("foo (>=1) x", "10 1", TRAILING, "x"),
+        ("foo (>=1)é", "9 2", TRAILING, "é"),
+        ("foo @ a #b", "8 1", TRAILING, "#"),
+        ("foo @ a\nb", "8 1", TRAILING, "b"),
+        ("foo @ a\n  é", "10 2", TRAILING, "é"),
+        (
+            "foo[,a é",
+            "4 1",
+            "Expected either alphanumerical character (starting the extra name) or `]` (ending the extras section), found ",
+            ",",
+        ),
+        (
+            "foo[ ,]",
+            "5 1",
+            "Expected either alphanumerical character (starting the extra name) or `]` (ending the extras section), found ",
+            ",",
+        ),
+        ("foo(>=1)(", "8 1", TRAILING, "("),
+    ];
+    for (text, span, message, found) in rows {
         let mut expected = String::from_str(alloc, span)?;
         expected.push(' ')?;
         expected.push_str(message)?;
