@@ -19,6 +19,11 @@ const INVALID_EXTRA: &str =
 
 const TRAILING: &str = "Expected end of input or `;`, found ";
 
+// A place, and a message with what was found there.
+fn told(alloc: Global, span: &str, message: &str, found: &str) -> Result<String, AllocError> {
+    format!(in alloc; "{span} {message}`{found}`")
+}
+
 #[test]
 fn found_characters(rt: HostRuntime) -> Result<(), Fail> {
     let alloc = rt.alloc();
@@ -68,12 +73,7 @@ fn found_characters(rt: HostRuntime) -> Result<(), Fail> {
         ("foo(>=1)(", "8 1", TRAILING, "("),
     ];
     for (text, span, message, found) in rows {
-        let mut expected = String::from_str(alloc, span)?;
-        expected.push(' ')?;
-        expected.push_str(message)?;
-        expected.push('`')?;
-        expected.push_str(found)?;
-        expected.push('`')?;
+        let expected = told(alloc, span, message, found)?;
         let shown = shown(alloc, text, &vars)?;
         assert_eq!(rt; shown.as_str(), expected.as_str(), "{text}");
     }
