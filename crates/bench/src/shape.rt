@@ -1,8 +1,8 @@
 //! Shapes of markers, of which resolvers make many.
 
+use marker_grammar::read;
 use marker_graph::{Interner, MarkerTree};
-use marker_session::tree_of;
-use pep508_markers::read;
+use pep508_markers::tree_of;
 use std::alloc::{AllocError, Global};
 use std::fmt;
 use std::fmt::Display;
@@ -51,8 +51,8 @@ impl Shape {
     }
 }
 
-// The marker of a text.
-fn marker(alloc: Global, interner: &mut Interner, text: &str) -> Result<MarkerTree, Unmade> {
+/// The marker of a text.
+pub fn marker(alloc: Global, interner: &mut Interner, text: &str) -> Result<MarkerTree, Unmade> {
     let Ok(reading) = read(alloc, text) else {
         return Err(Unmade);
     };

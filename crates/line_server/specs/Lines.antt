@@ -1,4 +1,4 @@
--- How bytes are parted into lines (this project): a line ends at a line feed alone, and a last line
+-- How bytes are parted into lines: a line ends at a line feed alone, and a last line
 -- without one counts where it is not empty.
 use Rattle.std.specs.Prelude.{◌≡◌, ◌≢◌, ℕ, List, [], ◌∷◌, ◌++◌, Option, All, ◌⊎◌}
 use Rattle.std.specs.List.{flat_map}

@@ -1,4 +1,4 @@
--- What a failed write may have done (this project).
+-- What a failed write may have done.
 use Rattle.std.specs.Prelude.{◌≡◌, ℕ, List, ◌++◌, Option}
 use Rattle.std.specs.Io.KnownBytes.{Appends}
 

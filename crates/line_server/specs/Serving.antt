@@ -1,4 +1,4 @@
--- Lines that are answered one after another (this project). A step leads from a state by a line and
+-- Lines that are answered one after another. A step leads from a state by a line and
 -- a reply, both without the line feed that ends them, to a state.
 use Rattle.std.specs.Prelude.{◌≡◌, ℕ, List, [], ◌∷◌, ◌++◌, Option}
 use Rattle.std.specs.List.{flat_map}

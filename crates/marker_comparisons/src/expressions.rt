@@ -8,7 +8,7 @@ ghost use Rattle.pep440_version.specs.Order.{version_cmp};
 ghost use Rattle.marker_words.specs.Compare.{beside, holds_beside};
 ghost use Rattle.marker_environment.specs.Valuation.{Valuation};
 ghost use Rattle.marker_parts.specs.Expression as asked;
-ghost use Rattle.marker_parts.specs.Expression.{IsAtEnd, asked_version, extra_of, holds, holds_extra, test_of};
+ghost use Rattle.marker_parts.specs.Expression.{Overflows, asked_version, extra_of, holds, holds_extra, test_of};
 ghost use Rattle.marker_nodes.specs.Variable.{answer};
 ghost use Rattle.marker_diagrams.specs.Diagram.{IsStore, Keeps};
 ghost use Rattle.marker_nodes.specs.Node.{markers};
@@ -44,12 +44,12 @@ pub fn expression(
     ensures kept { Keeps markers nodes.old nodes.new }
     ensures rules { IsStore markers nodes.old → IsStore markers nodes.new }
     ensures asks { IfOk result (IsTruthOf nodes.new (holds (test_of expression))) }
-    ensures not_at_end { OnOk result (¬ IsAtEnd (test_of expression)) }
+    ensures no_overflow { OnOk result (¬ Overflows (test_of expression)) }
     ensures not_invalid { OnOk result (¬ IsInvalid (test_of expression)) }
     ensures err { IfErr result (IsUnmade (test_of expression)) }
 {
     if let Some((variable, range)) = version_range(nodes.allocator(), &expression)? {
-        return Ok(asks_version(nodes, variable, &range)?);
+        return Ok(asks_version(nodes, variable, range)?);
     }
     match expression {
         MarkerExpression::Version {
@@ -93,7 +93,7 @@ fn compares_text(
         | MarkerOperator::LessThan
         | MarkerOperator::LessEqual => {
             let range = range_beside(nodes.allocator(), operator, value)?;
-            Ok(asks_text(nodes, variable, &range)?)
+            Ok(asks_text(nodes, variable, range)?)
         }
         MarkerOperator::TildeEqual => Err(Refusal::Fault(InvalidExpression)),
         MarkerOperator::In => Ok(asks(nodes, TruthVariable::In(variable, value))?),
@@ -135,7 +135,7 @@ fn version_range(
         ≡ contains_point version_cmp range.1 (v.version range.0))) }
     ensures none { IfOk result (λ found. IfNone found
         (asked_version (test_of expression.now) ≡ None)) }
-    ensures not_at_end { OnOk result (¬ IsAtEnd (test_of expression.now)) }
+    ensures no_overflow { OnOk result (¬ Overflows (test_of expression.now)) }
     ensures err { IfErr result (IsUnmade (test_of expression.now)) }
 {
     match expression.version_range(alloc) {

@@ -28,14 +28,14 @@ pub fn asks(nodes: &mut NodeTable, variable: TruthVariable) -> Result<NodeId, Al
 pub fn asks_version(
     nodes: &mut NodeTable,
     variable: VersionVariable,
-    range: &Ranges<Version>,
+    range: Ranges<Version>,
 ) -> Result<NodeId, AllocError>
     ensures kept { Keeps markers nodes.old nodes.new }
     ensures rules { IsStore markers nodes.old → IsStore markers nodes.new }
     ensures asks { IfOk result
-        (IsTruthOf nodes.new (λ v. contains_point version_cmp range.now (v.version variable))) }
+        (IsTruthOf nodes.new (λ v. contains_point version_cmp range (v.version variable))) }
 {
-    let edges = Cuts::from_ranges(nodes.allocator(), range, NodeId::TRUE, NodeId::FALSE)?;
+    let edges = Cuts::from_ranges(range, NodeId::TRUE, NodeId::FALSE)?;
     nodes.place_node(Branches::Version(variable, edges))
 }
 
@@ -43,13 +43,13 @@ pub fn asks_version(
 pub fn asks_text(
     nodes: &mut NodeTable,
     variable: TextVariable,
-    range: &Ranges<String>,
+    range: Ranges<String>,
 ) -> Result<NodeId, AllocError>
     ensures kept { Keeps markers nodes.old nodes.new }
     ensures rules { IsStore markers nodes.old → IsStore markers nodes.new }
     ensures asks { IfOk result
-        (IsTruthOf nodes.new (λ v. contains_by string_bytes text_cmp range.now (v.text variable))) }
+        (IsTruthOf nodes.new (λ v. contains_by string_bytes text_cmp range (v.text variable))) }
 {
-    let edges = Cuts::from_ranges(nodes.allocator(), range, NodeId::TRUE, NodeId::FALSE)?;
+    let edges = Cuts::from_ranges(range, NodeId::TRUE, NodeId::FALSE)?;
     nodes.place_node(Branches::Text(variable, edges))
 }

@@ -1,4 +1,4 @@
--- A list of nodes, and what is known of the conjunctions of its ids. (This project's own.)
+-- A list of nodes, and what is known of the conjunctions of its ids.
 use Rattle.std.specs.Prelude.{◌≡◌, ℕ, Bool, ◌&&◌, List, [], Some}
 use Rattle.std.specs.Map.{lookup}
 use Rattle.marker_diagrams.specs.declared.node_id.NodeId.{NodeId}
@@ -19,7 +19,8 @@ nothing = record { nodes = []; memo = []; expansions = 0 }
 
 -- a table of nodes, and the conjunctions of its ids
 abbrev pub contents : List Node → Conjunctions → Contents
-contents nodes conjunctions = record { nodes = nodes; memo = conjunctions.memo.entries; expansions = conjunctions.expansions }
+contents nodes conjunctions = record
+    { nodes = nodes; memo = conjunctions.memo.entries; expansions = conjunctions.expansions }
 
 -- what stood among the old nodes stands among the new ones, and means what it meant
 abbrev pub IsKept : Contents → Contents → Type 0
@@ -32,4 +33,5 @@ same_pair p q = same_id p.0 q.0 && same_id p.1 q.1
 -- the nodes keep the rules of diagrams, and what is known is so
 pub record IsWellKept (c : Contents) : Type 0 where
   pub nodes : diagram.IsStore markers c.nodes
-  pub known : (a b t : NodeId) → lookup (same_pair (a, b)) c.memo ≡ Some t → diagram.IsHeld c.nodes a × (diagram.IsHeld c.nodes b × IsAnd c.nodes a b t)
+  pub known : (a b t : NodeId) → lookup (same_pair (a, b)) c.memo ≡ Some t
+      → diagram.IsHeld c.nodes a × (diagram.IsHeld c.nodes b × IsAnd c.nodes a b t)

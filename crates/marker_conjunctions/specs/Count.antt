@@ -1,4 +1,4 @@
--- Which conjunctions are computed, and how many. (This project's own.)
+-- Which conjunctions are computed, and how many.
 use Rattle.std.specs.Prelude.{◌≡◌, ℕ, ◌+◌, ◌≤◌, ◌<◌, true, List, [], ◌∷◌, is_some, if◌then◌else◌}
 use Rattle.std.specs.List.{list_any}
 use Rattle.std.specs.Map.{lookup}
@@ -12,19 +12,26 @@ use Rattle.marker_conjunctions.specs.Contents.{Contents, same_pair}
 -- how many of the pairs have no known conjunction
 abbrev pub unknown : List (NodeId × NodeId) → List ((NodeId × NodeId) × NodeId) → ℕ
 unknown [] memo = 0
-unknown (p ∷ pairs) memo = (if is_some (lookup (same_pair p) memo) then 0 else 1) + unknown pairs memo
+unknown (p ∷ pairs) memo =
+    (if is_some (lookup (same_pair p) memo) then 0 else 1) + unknown pairs memo
 
 -- the list has each pair of a subtree of a and one of b
 abbrev pub Covers : List Node → NodeId → NodeId → List (NodeId × NodeId) → Type 0
-Covers nodes a b pairs = (x y : NodeId) → IsSubtree markers nodes a x → IsSubtree markers nodes b y → list_any (same_pair (x, y)) pairs ≡ true
+Covers nodes a b pairs =
+    (x y : NodeId) → IsSubtree markers nodes a x → IsSubtree markers nodes b y
+    → list_any (same_pair (x, y)) pairs ≡ true
 
--- From c to d each conjunction that was counted made a pair of subtrees of a and b known, and none of the pairs from a
--- size on; the count did not fall.
+-- From c to d each conjunction that was counted made a pair of subtrees of a and b known, and none
+-- of the pairs from a size on; the count did not fall.
 pub record Spends (c d : Contents) (size : ℕ) (a b : NodeId) : Type 0 where
-  pub above : (k : NodeId × NodeId) → size ≤ place_of k.0 + place_of k.1 → lookup (same_pair k) d.memo ≡ lookup (same_pair k) c.memo
-  pub spent : (pairs : List (NodeId × NodeId)) → Covers c.nodes a b pairs → d.expansions + unknown pairs d.memo ≤ c.expansions + unknown pairs c.memo
+  pub above : (k : NodeId × NodeId) → size ≤ place_of k.0 + place_of k.1
+      → lookup (same_pair k) d.memo ≡ lookup (same_pair k) c.memo
+  pub spent : (pairs : List (NodeId × NodeId)) → Covers c.nodes a b pairs
+      → d.expansions + unknown pairs d.memo ≤ c.expansions + unknown pairs c.memo
   pub rises : c.expansions ≤ d.expansions
 
 -- an id that is new was counted, where the count did not stand at its greatest value
 abbrev pub IsCounted : Contents → Contents → NodeId → Type 0
-IsCounted old new t = (diagram.IsHeld old.nodes t → ⊥) → old.expansions < 18446744073709551615 → old.expansions < new.expansions
+IsCounted old new t =
+    (diagram.IsHeld old.nodes t → ⊥) → old.expansions < 18446744073709551615
+    → old.expansions < new.expansions

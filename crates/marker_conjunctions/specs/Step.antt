@@ -1,4 +1,4 @@
--- One step of a conjunction: which pairs of ids it waits for. (This project's own.)
+-- One step of a conjunction: which pairs of ids it waits for.
 use Rattle.std.specs.Prelude.{◌≡◌, ⊤, ℕ, ◌+◌, ◌<◌, ◌⊎◌, ◌++◌, true, List, [], ◌∷◌, Some, is_some, slice_get}
 use Rattle.std.specs.Map.{lookup}
 use Rattle.marker_environment.specs.Valuation.{Valuation}
@@ -45,7 +45,8 @@ ArePairs nodes a b [] = ⊤
 ArePairs nodes a b (p ∷ pairs) = IsPair nodes a b p × ArePairs nodes a b pairs
 
 -- the pair is one of children of a and b, whose conjunction is still to be computed
-pub record IsWanted (nodes : List Node) (memo : Memo) (a b : NodeId) (p : NodeId × NodeId) : Type 0 where
+pub record IsWanted (nodes : List Node) (memo : Memo) (a b : NodeId) (p : NodeId × NodeId)
+    : Type 0 where
   pub pair : IsPair nodes a b p
   pub below : place_of p.0 + place_of p.1 < place_of a + place_of b
   pub unsettled : IsOpen memo p
@@ -67,7 +68,8 @@ pub record IsDue (nodes : List Node) (memo : Memo) (p : NodeId × NodeId) : Type
   pub children : HasChildren nodes memo p.0 p.1
 
 -- pairs of subtrees of a and b were added to a list
-pub record Waits (nodes : List Node) (a b : NodeId) (old new : List (NodeId × NodeId)) : Type 0 where
+pub record Waits (nodes : List Node) (a b : NodeId) (old new : List (NodeId × NodeId))
+    : Type 0 where
   pub more : List (NodeId × NodeId)
   pub added : new ≡ old ++ more
   pub pairs : ArePairs nodes a b more

@@ -35,7 +35,8 @@ impl Conjunctions {
         }
     }
 
-    /// How many conjunctions of nodes were computed. Where it has reached its greatest value it stays there.
+    /// How many conjunctions of nodes were computed. Where it has reached its greatest value it
+    /// stays there.
     pub fn expansions(&self) -> u64
         ensures { result ≡ self.now.expansions }
     {
@@ -44,12 +45,13 @@ impl Conjunctions {
 
     /// The conjunction of two ids of the table.
     ///
-    /// Only memory can run out. What the ids of the table mean stays, also then, and so does what is known. At most as many
-    /// conjunctions are counted as there are pairs of a subtree of each. None is, and no memory is taken, where the
-    /// conjunction is known, where one of the ids is `TRUE` or `FALSE`, where both are the same, and where one is the
-    /// negation of the other.
+    /// Only memory can run out. What the ids of the table mean stays, also then, and so does what
+    /// is known. At most as many conjunctions are counted as there are pairs of a subtree of each.
+    /// None is, and no memory is taken, where the conjunction is known, where one of the ids is
+    /// `TRUE` or `FALSE`, where both are the same, and where one is the negation of the other.
     ///
-    /// Pairs that wait for those of their children stand in a list, so that depth costs memory and no stack.
+    /// Pairs that wait for those of their children stand in a list, so that depth costs memory and
+    /// no stack.
     pub fn and(&mut self, nodes: &mut NodeTable, a: NodeId, b: NodeId) -> Result<NodeId, AllocError>
         requires rules { IsWellKept (contents nodes.old self.old) }
         requires a { IsHeld nodes.old a }
@@ -100,7 +102,8 @@ impl Conjunctions {
         self.memo.get(&(a, b)).copied()
     }
 
-    // The last pair of a list whose conjunction is still to be computed. It leaves the list, and so do those above it.
+    // The last pair of a list whose conjunction is still to be computed. It leaves the list, and
+    // so do those above it.
     fn next_open(&self, pending: &mut Vec<(NodeId, NodeId)>) -> Option<(NodeId, NodeId)>
         ensures unsettled { IfSome result (IsOpen self.now.memo.entries) }
         ensures pairs { (nodes : List Node) (a b : NodeId) → ArePairs nodes a b pending.old.items
@@ -114,8 +117,8 @@ impl Conjunctions {
         None
     }
 
-    // A pair that waits for nothing: this one, or one below it. The pairs on the way to it, and those that they wait for,
-    // are added to the list.
+    // A pair that waits for nothing: this one, or one below it. The pairs on the way to it, and
+    // those that they wait for, are added to the list.
     fn descend(
         &self,
         nodes: &NodeTable,

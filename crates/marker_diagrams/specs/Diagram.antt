@@ -1,5 +1,4 @@
--- Decision diagrams over any kind of nodes. Nodes stand in a list, the newest first. (This
--- project's own.)
+-- Decision diagrams over any kind of nodes. Nodes stand in a list, the newest first.
 use Rattle.std.proofs.Common.{suc}
 use Rattle.std.specs.Prelude.{◌≡◌, ◌≢◌, ◌⊎◌, ℕ, ◌≤◌, ◌<◌, ◌==◌, Bool, true, false, List, [], ◌∷◌, Option, Some, None, length, if◌then◌else◌}
 use Rattle.std.specs.Ordering.{is_eq}

@@ -1,4 +1,4 @@
--- Ids of nodes, with a sign. (This project's own.)
+-- Ids of nodes, with a sign.
 use Rattle.std.specs.Prelude.{ℕ, ◌+◌, ◌-◌, ◌==◌, Bool, true, not, ◌&&◌, Option, Some, None, if◌then◌else◌}
 use mathlib.Core.Bool.{beq}
 use Rattle.marker_diagrams.specs.declared.node_id.NodeId.{NodeId}

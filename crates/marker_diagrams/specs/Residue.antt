@@ -1,4 +1,4 @@
--- Subtrees of an id, and residues of a truth. (This project's own.)
+-- Subtrees of an id, and residues of a truth.
 use Rattle.std.specs.Prelude.{◌≡◌, ◌≢◌, ℕ, Bool, List, Some, slice_get}
 use Rattle.std.specs.Ordering.{is_lt}
 use Rattle.marker_diagrams.specs.declared.node_id.NodeId.{NodeId}

@@ -1,4 +1,5 @@
--- What an environment shows, and its valuation with a list of extras (PEP 508, "Environment Markers").
+-- What an environment shows, and its valuation with a list of extras (PEP 508, "Environment
+-- Markers").
 use Rattle.std.specs.Prelude.{◌≡◌, ◌≢◌, ℕ, false, List, string_bytes, bytes_eq, ⊤}
 use Rattle.std.specs.List.{list_any}
 use Rattle.refusal.specs.declared.Refusal.{Refusal}
@@ -25,7 +26,9 @@ pub record Values : Type 0 where
 
 -- the values are the same, key by key
 abbrev pub HasSameValues : Values → Values → Type 0
-HasSameValues v w = ((variable : TextVariable) → v.text variable ≡ w.text variable) × ((key : MarkerValueVersion) → v.version key ≡ w.version key)
+HasSameValues v w =
+    ((variable : TextVariable) → v.text variable ≡ w.text variable)
+    × ((key : MarkerValueVersion) → v.version key ≡ w.version key)
 
 -- the bytes of each variable's value
 abbrev pub text_of : MarkerEnvironment → TextVariable → List ℕ
@@ -68,7 +71,9 @@ version_texts_of b PythonVersion = b.python_version.now
 abbrev pub IsRefusal : MarkerEnvironmentBuilder → Refusal VersionParseError → Type 0
 IsRefusal b OutOfMemory = ⊤
 IsRefusal b SegmentAtEnd = ⊥
-IsRefusal b (Fault fault) = (key : MarkerValueVersion) × (string_bytes fault.text ≡ version_texts_of b key) × ((v : Parts) → IsVersionText (version_texts_of b key) v → ⊥)
+IsRefusal b (Fault fault) =
+    (key : MarkerValueVersion) × (string_bytes fault.text ≡ version_texts_of b key)
+    × ((v : Parts) → IsVersionText (version_texts_of b key) v → ⊥)
 
 -- one text variable has the value, and all other keys keep theirs
 pub record SetsText (old new : Values) (variable : TextVariable) (value : List ℕ) : Type 0 where
@@ -77,13 +82,14 @@ pub record SetsText (old new : Values) (variable : TextVariable) (value : List �
   pub versions : new.version ≡ old.version
 
 -- one version key has the value, and all other keys keep theirs
-pub record SetsVersion (old new : Values) (key : MarkerValueVersion) (value : Written) : Type 0 where
+pub record SetsVersion (old new : Values) (key : MarkerValueVersion) (value : Written) :
+    Type 0 where
   pub changed : new.version key ≡ value
   pub others : (other : MarkerValueVersion) → other ≢ key → new.version other ≡ old.version other
   pub texts : new.text ≡ old.text
 
--- Each variable is at its value, substring tests are computed on the values, the listed extras are true, and all
--- others and each arbitrary one false. The value of `python_version` is not read.
+-- Each variable is at its value, substring tests are computed on the values, the listed extras are
+-- true, and all others and each arbitrary one false. The value of `python_version` is not read.
 abbrev pub valuation_of : Values → List (List ℕ) → Valuation
 valuation_of values extras = record {
   version = λ variable. at (values.version (version_variable_key variable)).version;

@@ -1,12 +1,12 @@
--- What a marker asks about, and the answers. (This project.)
+-- What a marker asks about, and the answers.
 use Rattle.std.specs.Prelude.{ℕ, Bool, List}
 use Rattle.version_ranges.specs.Point.{Point}
 use Rattle.pep440_version.specs.Parts.{Parts}
 use Rattle.marker_words.specs.declared.key.TextVariable.{TextVariable}
 use Rattle.marker_words.specs.declared.key.VersionVariable.{VersionVariable}
 
--- A valuation gives each version variable a point of the versions, each text variable a point of the texts, ordered by
--- their bytes, and each substring test and each extra a truth.
+-- A valuation gives each version variable a point of the versions, each text variable a point of
+-- the texts, ordered by their bytes, and each substring test and each extra a truth.
 pub record Valuation : Type 0 where
   pub version : VersionVariable → Point Parts
   pub text : TextVariable → Point (List ℕ)

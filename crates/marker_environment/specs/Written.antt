@@ -1,4 +1,4 @@
--- Versions with the texts that they were read from. Texts are bytes. (This project.)
+-- Versions with the texts that they were read from. Texts are bytes.
 use Rattle.std.specs.Prelude.{◌≡◌, ℕ, List, Result, Ok, Err, string_bytes}
 use Rattle.refusal.specs.declared.Refusal.{Refusal}
 use Rattle.refusal.specs.declared.Refusal.TheVariants.{OutOfMemory}
@@ -25,6 +25,7 @@ pub record Says (text : List ℕ) (w : Written) : Type 0 where
   pub version : IsVersionText text w.version
 
 -- this text and version, or out of memory
-abbrev pub IsSaidUnlessMemory : {E : Type 0} → Result StringVersion (Refusal E) → List ℕ → Parts → Type 0
+abbrev pub IsSaidUnlessMemory : {E : Type 0} →
+    Result StringVersion (Refusal E) → List ℕ → Parts → Type 0
 IsSaidUnlessMemory (Ok s) text v = written s ≡ record { string = text; version = v }
 IsSaidUnlessMemory (Err e) text v = e ≡ OutOfMemory

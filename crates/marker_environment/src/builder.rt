@@ -37,7 +37,8 @@ impl MarkerEnvironmentBuilder<'_> {
         alloc: Global,
         key: MarkerValueVersion,
     ) -> Result<StringVersion, Refusal<VersionParseError>>
-        ensures says { IfOk result (λ version. Says (version_texts_of self.now key) (written version)) }
+        ensures says { IfOk result (λ version.
+            Says (version_texts_of self.now key) (written version)) }
         ensures refused { IfErr result (IsRefusal self.now) }
     {
         let text = match key {

@@ -9,6 +9,14 @@ use serde::{Deserialize, Serialize};
 use std::alloc::{AllocError, Global};
 
 /// The values of an interpreter and its platform, one for each modern key.
+///
+/// ```
+/// let linux = MarkerEnvironment::try_from(alloc, LINUX)?;
+/// let dev = [ExtraName::parse(alloc, "dev")?];
+/// let with_dev = marker.evaluate(&interner, &linux, &dev);
+/// let without = marker.evaluate(&interner, &linux, &[]);
+/// println!(rt; "on Linux with dev: {with_dev}, without: {without}")?;
+/// ```
 #[derive(Debug, PartialEq, Eq, Hash, Drop, Serialize, Deserialize)]
 pub struct MarkerEnvironment {
     implementation_name: String,
@@ -32,15 +40,18 @@ impl MarkerEnvironment {
     ghost use Rattle.marker_environment.specs.Written.{written, Says};
     ghost use Rattle.marker_environment.specs.Environment.{text_of, version_of, values_of, texts_of, version_texts_of, IsRefusal, SetsText, SetsVersion};
 
-    /// An environment with copies of the builder's texts, and the versions that those of the version keys say.
+    /// An environment with copies of the builder's texts, and the versions that those of the
+    /// version keys say.
     ///
     /// Where one of these is no version, its fault is the refusal. `SegmentAtEnd` never comes.
     pub fn try_from(
         alloc: Global,
         builder: MarkerEnvironmentBuilder<'_>,
     ) -> Result<MarkerEnvironment, Refusal<VersionParseError>>
-        ensures texts { IfOk result (λ environment. (variable : TextVariable) → text_of environment variable ≡ texts_of builder.entry variable) }
-        ensures versions { IfOk result (λ environment. (key : MarkerValueVersion) → Says (version_texts_of builder.entry key) (version_of environment key)) }
+        ensures texts { IfOk result (λ environment. (variable : TextVariable) →
+            text_of environment variable ≡ texts_of builder.entry variable) }
+        ensures versions { IfOk result (λ environment. (key : MarkerValueVersion) →
+            Says (version_texts_of builder.entry key) (version_of environment key)) }
         ensures refused { IfErr result (IsRefusal builder.entry) }
     {
         Ok(MarkerEnvironment {
@@ -114,7 +125,8 @@ impl MarkerEnvironment {
 
     /// The value of `implementation_version`, as of Python's `sys.implementation.version`.
     pub fn implementation_version(&self) -> &StringVersion
-        ensures { written result.now ≡ version_of self.now MarkerValueVersion.ImplementationVersion }
+        ensures { written result.now
+            ≡ version_of self.now MarkerValueVersion.ImplementationVersion }
     {
         &self.implementation_version
     }
@@ -133,7 +145,8 @@ impl MarkerEnvironment {
         &self.platform_machine
     }
 
-    /// The value of `platform_python_implementation`, as of Python's `platform.python_implementation()`.
+    /// The value of `platform_python_implementation`, as of Python's
+    /// `platform.python_implementation()`.
     pub fn platform_python_implementation(&self) -> &str
         ensures { result.now ≡ text_of self.now TextVariable.PlatformPythonImplementation }
     {
@@ -168,7 +181,8 @@ impl MarkerEnvironment {
         &self.python_full_version
     }
 
-    /// The value of `python_version`, as of the first two of Python's `platform.python_version_tuple()`.
+    /// The value of `python_version`, as of the first two of Python's
+    /// `platform.python_version_tuple()`.
     pub fn python_version(&self) -> &StringVersion
         ensures { written result.now ≡ version_of self.now MarkerValueVersion.PythonVersion }
     {
@@ -182,22 +196,41 @@ impl MarkerEnvironment {
         &self.sys_platform
     }
 
+    /// Changes the value of the variable.
+    pub fn set_string(&mut self, variable: TextVariable, value: String)
+        ensures { SetsText (values_of self.old) (values_of self.new) variable (string_bytes value) }
+    {
+        match variable {
+            TextVariable::ImplementationName => self.implementation_name = value,
+            TextVariable::OsName => self.os_name = value,
+            TextVariable::PlatformMachine => self.platform_machine = value,
+            TextVariable::PlatformPythonImplementation => {
+                self.platform_python_implementation = value;
+            }
+            TextVariable::PlatformRelease => self.platform_release = value,
+            TextVariable::PlatformSystem => self.platform_system = value,
+            TextVariable::PlatformVersion => self.platform_version = value,
+            TextVariable::SysPlatform => self.sys_platform = value,
+        }
+    }
+
+    /// Changes the value of the version key.
+    pub fn set_version(&mut self, key: MarkerValueVersion, value: StringVersion)
+        ensures { SetsVersion (values_of self.old) (values_of self.new) key (written value) }
+    {
+        match key {
+            MarkerValueVersion::ImplementationVersion => self.implementation_version = value,
+            MarkerValueVersion::PythonFullVersion => self.python_full_version = value,
+            MarkerValueVersion::PythonVersion => self.python_version = value,
+        }
+    }
+
     /// The same environment with another value of the variable.
     pub fn with_string(self, variable: TextVariable, value: String) -> MarkerEnvironment
         ensures { SetsText (values_of self) (values_of result) variable (string_bytes value) }
     {
         let mut environment = self;
-        match variable {
-            TextVariable::ImplementationName => environment.implementation_name = value,
-            TextVariable::OsName => environment.os_name = value,
-            TextVariable::PlatformMachine => environment.platform_machine = value,
-            TextVariable::PlatformPythonImplementation =>
-                environment.platform_python_implementation = value,
-            TextVariable::PlatformRelease => environment.platform_release = value,
-            TextVariable::PlatformSystem => environment.platform_system = value,
-            TextVariable::PlatformVersion => environment.platform_version = value,
-            TextVariable::SysPlatform => environment.sys_platform = value,
-        }
+        environment.set_string(variable, value);
         environment
     }
 
@@ -206,87 +239,94 @@ impl MarkerEnvironment {
         ensures { SetsVersion (values_of self) (values_of result) key (written value) }
     {
         let mut environment = self;
-        match key {
-            MarkerValueVersion::ImplementationVersion => environment.implementation_version = value,
-            MarkerValueVersion::PythonFullVersion => environment.python_full_version = value,
-            MarkerValueVersion::PythonVersion => environment.python_version = value,
-        }
+        environment.set_version(key, value);
         environment
     }
 
     /// The same environment with another value of `implementation_name`.
     pub fn with_implementation_name(self, value: String) -> MarkerEnvironment
-        ensures { SetsText (values_of self) (values_of result) TextVariable.ImplementationName (string_bytes value) }
+        ensures { SetsText (values_of self) (values_of result)
+            TextVariable.ImplementationName (string_bytes value) }
     {
         self.with_string(TextVariable::ImplementationName, value)
     }
 
     /// The same environment with another value of `implementation_version`.
     pub fn with_implementation_version(self, value: StringVersion) -> MarkerEnvironment
-        ensures { SetsVersion (values_of self) (values_of result) MarkerValueVersion.ImplementationVersion (written value) }
+        ensures { SetsVersion (values_of self) (values_of result)
+            MarkerValueVersion.ImplementationVersion (written value) }
     {
         self.with_version(MarkerValueVersion::ImplementationVersion, value)
     }
 
     /// The same environment with another value of `os_name`.
     pub fn with_os_name(self, value: String) -> MarkerEnvironment
-        ensures { SetsText (values_of self) (values_of result) TextVariable.OsName (string_bytes value) }
+        ensures { SetsText (values_of self) (values_of result)
+            TextVariable.OsName (string_bytes value) }
     {
         self.with_string(TextVariable::OsName, value)
     }
 
     /// The same environment with another value of `platform_machine`.
     pub fn with_platform_machine(self, value: String) -> MarkerEnvironment
-        ensures { SetsText (values_of self) (values_of result) TextVariable.PlatformMachine (string_bytes value) }
+        ensures { SetsText (values_of self) (values_of result)
+            TextVariable.PlatformMachine (string_bytes value) }
     {
         self.with_string(TextVariable::PlatformMachine, value)
     }
 
     /// The same environment with another value of `platform_python_implementation`.
     pub fn with_platform_python_implementation(self, value: String) -> MarkerEnvironment
-        ensures { SetsText (values_of self) (values_of result) TextVariable.PlatformPythonImplementation (string_bytes value) }
+        ensures { SetsText (values_of self) (values_of result)
+            TextVariable.PlatformPythonImplementation (string_bytes value) }
     {
         self.with_string(TextVariable::PlatformPythonImplementation, value)
     }
 
     /// The same environment with another value of `platform_release`.
     pub fn with_platform_release(self, value: String) -> MarkerEnvironment
-        ensures { SetsText (values_of self) (values_of result) TextVariable.PlatformRelease (string_bytes value) }
+        ensures { SetsText (values_of self) (values_of result)
+            TextVariable.PlatformRelease (string_bytes value) }
     {
         self.with_string(TextVariable::PlatformRelease, value)
     }
 
     /// The same environment with another value of `platform_system`.
     pub fn with_platform_system(self, value: String) -> MarkerEnvironment
-        ensures { SetsText (values_of self) (values_of result) TextVariable.PlatformSystem (string_bytes value) }
+        ensures { SetsText (values_of self) (values_of result)
+            TextVariable.PlatformSystem (string_bytes value) }
     {
         self.with_string(TextVariable::PlatformSystem, value)
     }
 
     /// The same environment with another value of `platform_version`.
     pub fn with_platform_version(self, value: String) -> MarkerEnvironment
-        ensures { SetsText (values_of self) (values_of result) TextVariable.PlatformVersion (string_bytes value) }
+        ensures { SetsText (values_of self) (values_of result)
+            TextVariable.PlatformVersion (string_bytes value) }
     {
         self.with_string(TextVariable::PlatformVersion, value)
     }
 
     /// The same environment with another value of `python_full_version`.
     pub fn with_python_full_version(self, value: StringVersion) -> MarkerEnvironment
-        ensures { SetsVersion (values_of self) (values_of result) MarkerValueVersion.PythonFullVersion (written value) }
+        ensures { SetsVersion (values_of self) (values_of result)
+            MarkerValueVersion.PythonFullVersion (written value) }
     {
         self.with_version(MarkerValueVersion::PythonFullVersion, value)
     }
 
     /// The same environment with another value of `python_version`.
     pub fn with_python_version(self, value: StringVersion) -> MarkerEnvironment
-        ensures { SetsVersion (values_of self) (values_of result) MarkerValueVersion.PythonVersion (written value) }
+        ensures { SetsVersion (values_of self) (values_of result)
+            MarkerValueVersion.PythonVersion (written value) }
     {
         self.with_version(MarkerValueVersion::PythonVersion, value)
     }
 
     /// The same environment with another value of `sys_platform`.
     pub fn with_sys_platform(self, value: String) -> MarkerEnvironment
-        ensures { SetsText (values_of self) (values_of result) TextVariable.SysPlatform (string_bytes value) }
+        ensures { SetsText (values_of self) (values_of result)
+            TextVariable.SysPlatform (string_bytes value) }
     {
         self.with_string(TextVariable::SysPlatform, value)
     }
@@ -296,7 +336,8 @@ impl MarkerEnvironment {
 impl Clone for MarkerEnvironment {
     ghost use Rattle.marker_environment.specs.Environment.{values_of, HasSameValues};
 
-    ghost is_clone = { λ environment clone. HasSameValues (values_of clone) (values_of environment) };
+    ghost is_clone = { λ environment clone.
+        HasSameValues (values_of clone) (values_of environment) };
 
     fn clone(&self) -> Result<MarkerEnvironment, AllocError> {
         Ok(MarkerEnvironment {

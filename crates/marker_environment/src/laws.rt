@@ -19,7 +19,9 @@ pub fn a_part_stands_between_a_front_and_a_back()
 
 /// What a marker sees of an environment does not change with the value of `python_version`.
 pub fn python_version_is_not_read()
-    ensures { (old new : Values) (value : Written) (extras : List (List ℕ)) → SetsVersion old new PythonVersion value → valuation_of new extras ≡ valuation_of old extras }
+    ensures { (old new : Values) (value : Written) (extras : List (List ℕ)) →
+        SetsVersion old new PythonVersion value →
+        valuation_of new extras ≡ valuation_of old extras }
 {}
 
 /// Values that are the same key by key are the same.
@@ -29,10 +31,12 @@ pub fn values_are_what_the_keys_show()
 
 /// Versions with the same text that say the same are equal.
 pub fn same_written_versions_are_equal()
-    ensures { (v w : StringVersion) → written v ≡ written w → ⟦<StringVersion as PartialEq>⟧.eq v w ≡ true }
+    ensures { (v w : StringVersion) →
+        written v ≡ written w → ⟦<StringVersion as PartialEq>⟧.eq v w ≡ true }
 {}
 
 /// Environments whose values are the same key by key are equal.
 pub fn same_values_make_equal_environments()
-    ensures { (e f : MarkerEnvironment) → HasSameValues (values_of e) (values_of f) → ⟦<MarkerEnvironment as PartialEq>⟧.eq e f ≡ true }
+    ensures { (e f : MarkerEnvironment) → HasSameValues (values_of e) (values_of f) →
+        ⟦<MarkerEnvironment as PartialEq>⟧.eq e f ≡ true }
 {}

@@ -1,6 +1,7 @@
 //! The values that the keys of markers stand for (PEP 508, "Environment Markers").
 //!
-//! An environment has a text or a version for each modern key. A valuation is what a marker sees of it.
+//! An environment has a text or a version for each modern key. A valuation is what a marker sees of
+//! it.
 #![tactic(auto)]
 
 mod builder;

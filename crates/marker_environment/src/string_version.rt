@@ -30,15 +30,18 @@ pub struct StringVersion {
 impl StringVersion {
     /// Reads a version as `Version::parse` does, and keeps the text as it is.
     ///
-    /// A text that is no version is a `Fault`, which says what was expected at which byte. `SegmentAtEnd` never comes.
+    /// A text that is no version is a `Fault`, which says what was expected at which byte.
+    /// `SegmentAtEnd` never comes.
     pub fn parse(alloc: Global, text: &str) -> Result<StringVersion, Refusal<VersionParseError>>
         // The text is kept, and the version is what it says.
         ensures found { IfOk result (λ version. Says text.now (written version)) }
 
         // What the text says is read, unless memory runs out.
-        ensures only { (v : Parts) → IsVersionText text.now v → IsSaidUnlessMemory result text.now v }
+        ensures only { (v : Parts) →
+            IsVersionText text.now v → IsSaidUnlessMemory result text.now v }
         ensures at_end { IfErr result (λ e. e ≢ SegmentAtEnd) }
-        ensures fault { IfErr result (λ e. IfFault e (λ fault. string_bytes fault.text ≡ text.now)) }
+        ensures fault { IfErr result (λ e.
+            IfFault e (λ fault. string_bytes fault.text ≡ text.now)) }
     {
         let version = Version::parse(alloc, text)?;
         let string = String::from_str(alloc, text)?;
@@ -85,14 +88,15 @@ impl Serialize for StringVersion {
     }
 }
 
-/// Reads a text that is a version, as `StringVersion::parse` does. The error tells want of memory, or what was expected
-/// and where.
+/// Reads a text that is a version, as `StringVersion::parse` does. The error tells want of memory,
+/// or what was expected and where.
 impl DeserializeOwned for StringVersion {
     fn deserialize_owned<F: Format>(
         alloc: Global,
         from: &mut Deserializer<'_, '_, F>,
     ) -> Result<StringVersion, F::Error>
-        ensures { IfOk result (λ version. (t : List ℕ) × Gives F.gives from.old (text t) from.new × Says t (written version)) }
+        ensures { IfOk result (λ version. (t : List ℕ)
+            × Gives F.gives from.old (text t) from.new × Says t (written version)) }
     {
         let text = from.string(alloc)?;
         match StringVersion::parse(alloc, text.as_str()) {
@@ -111,7 +115,8 @@ impl<'de> Deserialize<'de> for StringVersion {
         alloc: Global,
         from: &mut Deserializer<'de, '_, F>,
     ) -> Result<StringVersion, F::Error>
-        ensures { IfOk result (λ version. (t : List ℕ) × Gives F.gives from.old (text t) from.new × Says t (written version)) }
+        ensures { IfOk result (λ version. (t : List ℕ)
+            × Gives F.gives from.old (text t) from.new × Says t (written version)) }
     {
         StringVersion::deserialize_owned(alloc, from)
     }

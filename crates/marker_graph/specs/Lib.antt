@@ -2,6 +2,9 @@ pub mod Contents
 pub mod Tree
 pub mod Extras
 pub mod Ranged
+pub mod Edges
+pub mod Kind
+pub mod ContentsTree
 -- what the crates below say of truths over valuations
 pub use Rattle.marker_comparisons.specs.Expression
 pub use Rattle.marker_walks.specs.Possible

@@ -6,7 +6,7 @@ ghost use Rattle.version_ranges.specs.Point.{Point};
 ghost use Rattle.version_ranges.specs.Clamp.{IsBetween, bound_of};
 ghost use Rattle.pep440_version.specs.Parts.{Parts};
 ghost use Rattle.pep440_version.specs.Order.{version_cmp};
-ghost use Rattle.marker_parts.specs.Expression.{IsAtEnd, holds, test_of};
+ghost use Rattle.marker_parts.specs.Expression.{Overflows, holds, test_of};
 ghost use Rattle.marker_diagrams.specs.Diagram as diagram;
 ghost use Rattle.marker_diagrams.specs.Diagram.{IsStore};
 ghost use Rattle.marker_diagrams.specs.Id.{place_of};
@@ -38,6 +38,12 @@ use std::ops::Bound;
 ///
 /// An interner only grows: what a marker means stays, also where a call is refused for want of
 /// memory.
+///
+/// ```
+/// let mut interner = Interner::new(alloc);
+/// let text = "sys_platform == 'linux' and extra == 'dev'";
+/// let marker = MarkerTree::parse_str::<VerbatimUrl>(text, &mut interner)?;
+/// ```
 #[derive(Drop)]
 pub struct Interner {
     pub(crate) nodes: NodeTable,
@@ -95,6 +101,15 @@ impl Interner {
         self.conjunctions.expansions()
     }
 
+    /// The nodes, which keep the rules of diagrams: for the crates that compare markers of two
+    /// interners.
+    pub fn table(&self) -> &NodeTable
+        ensures table { result.now ≡ self.now.nodes }
+        ensures rules { IsStore markers self.now.nodes }
+    {
+        &self.nodes
+    }
+
     /// The nodes keep the rules of diagrams, and each conjunction that is known is one of nodes
     /// that stand here. This is a law, and the call does nothing.
     pub fn keeps_the_rules(&self)
@@ -139,7 +154,7 @@ impl Interner {
         ensures kept { IsKept self.old self.new }
         ensures conjunctions { HasOnlyNodes self.old self.new }
         ensures asks { IfOk result (IsTruthOf self.new.nodes (holds (test_of comparison))) }
-        ensures not_at_end { OnOk result (¬ IsAtEnd (test_of comparison)) }
+        ensures no_overflow { OnOk result (¬ Overflows (test_of comparison)) }
         ensures not_invalid { OnOk result (¬ IsInvalid (test_of comparison)) }
         ensures err { IfErr result (IsUnmade (test_of comparison)) }
     {

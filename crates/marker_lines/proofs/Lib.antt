@@ -1,3 +1,4 @@
 pub mod WordLaws
 pub mod AskLaws
 pub mod SessionLaws
+mod KeyLaws

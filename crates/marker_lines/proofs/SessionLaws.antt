@@ -4,8 +4,7 @@ use denote.Ref.{Bor}
 use Rattle.std.proofs.lemmas.List.{take_more}
 use Rattle.std.proofs.lemmas.List.Elements.{All-nil}
 use Rattle.pep440_version.specs.Grammar.{IsVersionText, IsNumber, no_mark, no_epoch, last, no_pre, no_post, no_dev, no_local, version}
-use Rattle.pep440_version.specs.Parts.{Parts, release_only}
-use Rattle.std.specs.declared.ops.Bound.{Bound}
+use Rattle.pep440_version.specs.Parts.{release_only}
 use Rattle.pep440_version.proofs.Complete.{version-again}
 use Rattle.pep440_version.proofs.Sound.{some-value}
 use Rattle.pep440_version.proofs.ReadBack.{version-text}
@@ -14,12 +13,11 @@ use Rattle.marker_words.specs.declared.key.MarkerValueVersion.{MarkerValueVersio
 use Rattle.pep508_names.specs.Name.{NormalizesTo, IsName}
 use Rattle.marker_environment.specs.Written.{Written, Says}
 use Rattle.marker_environment.specs.Environment.{Values, SetsText, SetsVersion}
-use Rattle.marker_session.specs.Machine as Machine
-use Rattle.marker_session.specs.Machine.{Cells, Answer, Step}
+use Rattle.pep508_markers.specs.Machine as Machine
+use Rattle.pep508_markers.specs.Machine.{Cells, Answer, Step}
 use Rattle.marker_lines.specs.declared.line_session.LineSession.{LineSession}
-use Rattle.marker_lines.specs.Line.{Request, simplify, complexify, extras, evaluate, possible}
-use Rattle.marker_lines.specs.Reply.{reply_text}
-use Rattle.marker_lines.specs.LineStep.{State, start, zero_version, Names, no_more, name, SaysBound, RequestStep, is_complexified, is_evaluated, is_granted, is_possible, is_simplified, LineStep}
+use Rattle.marker_lines.specs.Line.{Request}
+use Rattle.marker_lines.specs.LineStep.{State, start, zero_version, Names, no_more, name, MachineStep, RequestStep, LineStep}
 use Rattle.marker_lines.specs.LineView.{texts_of}
 use Rattle.line_server.specs.Serving.{Answers, AnswersBeginning, AnswersEachLine, AnswersWholeLines, AnswersFirstLines, Exchanges}
 use Rattle.marker_lines.specs.SessionView.{state_of}
@@ -79,24 +77,9 @@ sets_version {old} {same} {new} {key} {value} p s = subst (λ (v : Values). Sets
 pub for_request : {old new : State} {reply : List ℕ} {r s : Request} → r ≡ s → RequestStep old s reply new → RequestStep old r reply new
 for_request {old} {new} {reply} e step = subst (λ (x : Request). RequestStep old x reply new) (sym e) step
 
--- an evaluation with the names of a list
-pub evaluated : {old new : State} {cell : ℕ} {words names extras : List (List ℕ)} (answer : Answer) → Names words names → extras ≡ names → Step old.cells (Machine.evaluate cell old.values extras) answer new.cells → new.values ≡ old.values → RequestStep old (evaluate cell words) (reply_text answer) new
-evaluated {old} {new} {cell} {words} {names} {extras} answer n e step same = is_evaluated answer (subst (Names words) (sym e) n) step same
-
--- a cell with extras set true, and whether one is true with extras
-pub granted : {old new : State} {cell : ℕ} {words names given : List (List ℕ)} (answer : Answer) → Names words names → given ≡ names → Step old.cells (Machine.simplify_extras cell given) answer new.cells → new.values ≡ old.values → RequestStep old (extras cell words) (reply_text answer) new
-granted {old} {new} {cell} {words} {names} {given} answer n e step same = is_granted answer (subst (Names words) (sym e) n) step same
-
-pub sought : {old new : State} {cell : ℕ} {words names given : List (List ℕ)} (answer : Answer) → Names words names → given ≡ names → Step old.cells (Machine.evaluate_extras cell given) answer new.cells → new.values ≡ old.values → RequestStep old (possible cell words) (reply_text answer) new
-sought {old} {new} {cell} {words} {names} {given} answer n e step same = is_possible answer (subst (Names words) (sym e) n) step same
-
--- a cell under a range
-module _ {old new : State} {cell : ℕ} {lower upper : Bound (List ℕ)} {from until lent_from lent_until : Bound Parts} (answer : Answer) (says_from : SaysBound lower from) (says_until : SaysBound upper until) (from_is : lent_from ≡ from) (until_is : lent_until ≡ until) where
-  pub simplified : Step old.cells (Machine.simplify_python cell lent_from lent_until) answer new.cells → new.values ≡ old.values → RequestStep old (simplify cell lower upper) (reply_text answer) new
-  simplified step same = is_simplified answer (subst (SaysBound lower) (sym from_is) says_from) (subst (SaysBound upper) (sym until_is) says_until) step same
-
-  pub complexified : Step old.cells (Machine.complexify_python cell lent_from lent_until) answer new.cells → new.values ≡ old.values → RequestStep old (complexify cell lower upper) (reply_text answer) new
-  complexified step same = is_complexified answer (subst (SaysBound lower) (sym from_is) says_from) (subst (SaysBound upper) (sym until_is) says_until) step same
+-- the machine answers what it is asked in another way
+pub asked_as : {old new : State} {asked other : Machine.Request} {answer : Answer} → asked ≡ other → Step old.cells asked answer new.cells → new.values ≡ old.values → MachineStep old other answer new
+asked_as {old} {new} {answer = answer} e step same = record { step = subst (λ (x : Machine.Request). Step old.cells x answer new.cells) e step; values = same }
 
 pub ok_is_no_err : {T E : Type 0} {x : T} {e : E} → Ok x ≡ Err e → ⊥
 ok_is_no_err p = cc

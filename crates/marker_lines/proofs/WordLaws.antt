@@ -15,7 +15,7 @@ use Rattle.std.specs.Int.{IsInRange}
 use Rattle.std.specs.Result.{OkIff, result_unwrap_or}
 use Rattle.std.specs.Str.Parse.{IsNumeral, AllDigits, digits_value, ParsesUnsigned}
 use Rattle.std.proofs.lemmas.Str.Parse.{IsNumeralModel, numerals_by_value, tells_by_index, tells_digits, parse_digits}
-use Rattle.marker_lines.specs.Line.{HasNoSpace, spaced, Words, last, more, cell_number}
+use Rattle.marker_lines.specs.Line.{HasNoSpace, with_space, Words, last, more, cell_number}
 
 by_index : IsNumeralModel (λ ds. (i : ℕ) → i < length ds → IsInRange 48 57 (get_or ds i 0)) (digits_value 10)
 by_index = numerals_by_value (λ ds. (i : ℕ) → i < length ds → IsInRange 48 57 (get_or ds i 0)) tells_by_index
@@ -66,19 +66,19 @@ no_words (more {word = []} parts is later) e = is.some refl
 no_words (more {word = b ∷ word} parts is later) e = not_cons (sym e ∙ parts)
 
 -- what `split_once` answers at a space
-pub split_at_space : (text : List ℕ) (r : Option (Bor (List ℕ) × Bor (List ℕ))) → IsSplitOnceResult 32 text r → MatchOption r (HasNoSpace text) (λ parts. HasNoSpace parts.0.now × (text ≡ spaced parts.0.now parts.1.now))
+pub split_at_space : (text : List ℕ) (r : Option (Bor (List ℕ) × Bor (List ℕ))) → IsSplitOnceResult 32 text r → MatchOption r (HasNoSpace text) (λ parts. HasNoSpace parts.0.now × (text ≡ with_space parts.0.now parts.1.now))
 split_at_space text None h = All-from_get_or (λ (b : ℕ). b ≢ 32) text 0 (split_parts 32 text None h (omega arith))
 split_at_space text (Some x) h =
     let p = split_parts 32 text (Some x) h (omega arith) in
     (All-from_get_or (λ (b : ℕ). b ≢ 32) x.0.now 0 p.1, p.0)
 
 -- a text with a space has one
-pub spaced_has : (before after : List ℕ) → HasNoSpace (spaced before after) → ⊥
+pub spaced_has : (before after : List ℕ) → HasNoSpace (with_space before after) → ⊥
 spaced_has [] after h = All-head (λ (b : ℕ). b ≢ 32) 32 after h refl
-spaced_has (b ∷ before) after h = spaced_has before after (All-tail (λ (c : ℕ). c ≢ 32) b (spaced before after) h)
+spaced_has (b ∷ before) after h = spaced_has before after (All-tail (λ (c : ℕ). c ≢ 32) b (with_space before after) h)
 
 -- the first space is one
-pub spaced_same : (w v r s : List ℕ) → HasNoSpace w → HasNoSpace v → spaced w r ≡ spaced v s → (w ≡ v) × (r ≡ s)
+pub spaced_same : (w v r s : List ℕ) → HasNoSpace w → HasNoSpace v → with_space w r ≡ with_space v s → (w ≡ v) × (r ≡ s)
 spaced_same [] [] r s hw hv e = (refl, tail_same e)
 spaced_same [] (c ∷ v) r s hw hv e = absurd (All-head (λ (b : ℕ). b ≢ 32) c v hv (sym (head_same e)))
 spaced_same (b ∷ w) [] r s hw hv e = absurd (All-head (λ (x : ℕ). x ≢ 32) b w hw (head_same e))
@@ -90,7 +90,7 @@ spaced_same (b ∷ w) (c ∷ v) r s hw hv e =
 pub words_of_nothing : {words : List (List ℕ)} → Words [] words → ⊥
 words_of_nothing w = no_words w refl
 
-pub words_of_space : {text rest : List ℕ} {words : List (List ℕ)} → Words text words → text ≡ spaced [] rest → ⊥
+pub words_of_space : {text rest : List ℕ} {words : List (List ℕ)} → Words text words → text ≡ with_space [] rest → ⊥
 words_of_space {rest = rest} (last is) e = spaced_has [] rest (subst HasNoSpace e is.no_space)
 words_of_space {rest = rest} (more {word = word} {rest = others} parts is later) e = is.some (spaced_same word [] others rest is.no_space (All-nil (λ (b : ℕ). b ≢ 32)) (sym parts ∙ e)).0
 
@@ -100,27 +100,27 @@ words_of_one (last is) h = refl
 words_of_one (more {word = word} {rest = rest} parts is later) h = absurd (spaced_has word rest (subst HasNoSpace parts h))
 
 -- the words of a text whose first space is here
-pub words_cut : {text word rest : List ℕ} {words : List (List ℕ)} → Words text words → text ≡ spaced word rest → HasNoSpace word → (others : List (List ℕ)) × (words ≡ word ∷ others) × Words rest others
+pub words_cut : {text word rest : List ℕ} {words : List (List ℕ)} → Words text words → text ≡ with_space word rest → HasNoSpace word → (others : List (List ℕ)) × (words ≡ word ∷ others) × Words rest others
 words_cut {word = word} {rest = rest} (last is) e h = absurd (spaced_has word rest (subst HasNoSpace e is.no_space))
 words_cut {word = word} {rest = rest} (more {word = first} {rest = after} {words = others} parts is later) e h =
     let same = spaced_same first word after rest is.no_space h (sym parts ∙ e) in
     (others, ap (λ (x : List ℕ). x ∷ others) same.0, subst (λ (x : List ℕ). Words x others) same.1 later)
 
 -- what follows a space is text
-pub utf8_after : {text : List ℕ} (word after : List ℕ) → IsUtf8 text → text ≡ spaced word after → IsUtf8 after
+pub utf8_after : {text : List ℕ} (word after : List ℕ) → IsUtf8 text → text ≡ with_space word after → IsUtf8 after
 utf8_after {text} word after u e =
-    let whole : IsUtf8 (spaced word after) = subst IsUtf8 e u in
-    let at : get_or (spaced word after) (length word) 0 ≡ 32 = get_or-append_seam word 32 after 0 in
-    let long : length word < length (spaced word after) = omega (arith, length-append word (32 ∷ after)) in
-    subst IsUtf8 (drop-append-add word (32 ∷ after) 1) (IsUtf8-drop (spaced word after) (length word + 1) whole (IsCharBoundary-after_ascii (spaced word after) (length word) whole long (omega arith)))
+    let whole : IsUtf8 (with_space word after) = subst IsUtf8 e u in
+    let at : get_or (with_space word after) (length word) 0 ≡ 32 = get_or-append_seam word 32 after 0 in
+    let long : length word < length (with_space word after) = omega (arith, length-append word (32 ∷ after)) in
+    subst IsUtf8 (drop-append-add word (32 ∷ after) 1) (IsUtf8-drop (with_space word after) (length word + 1) whole (IsCharBoundary-after_ascii (with_space word after) (length word) whole long (omega arith)))
 
 -- one more word is read
-pub words_grow : {text rest after : List ℕ} {new : List (List ℕ)} (old : List (List ℕ)) (word : List ℕ) → ((others : List (List ℕ)) → Words rest others → Words text (old ++ others)) → rest ≡ spaced word after → HasNoSpace word → word ≢ [] → new ≡ old ++ (word ∷ []) → (others : List (List ℕ)) → Words after others → Words text (new ++ others)
+pub words_grow : {text rest after : List ℕ} {new : List (List ℕ)} (old : List (List ℕ)) (word : List ℕ) → ((others : List (List ℕ)) → Words rest others → Words text (old ++ others)) → rest ≡ with_space word after → HasNoSpace word → word ≢ [] → new ≡ old ++ (word ∷ []) → (others : List (List ℕ)) → Words after others → Words text (new ++ others)
 words_grow {text} old word grows e h some told others w =
     subst (λ (x : List (List ℕ)). Words text (x ++ others)) (sym told)
     (subst (Words text) (sym (append_assoc old (word ∷ []) others)) (grows (word ∷ others) (more e (record { some = some; no_space = h }) w)))
 
-pub words_left : {text rest after : List ℕ} (word : List ℕ) → ((all : List (List ℕ)) → Words text all → (others : List (List ℕ)) × Words rest others) → rest ≡ spaced word after → HasNoSpace word → (all : List (List ℕ)) → Words text all → (others : List (List ℕ)) × Words after others
+pub words_left : {text rest after : List ℕ} (word : List ℕ) → ((all : List (List ℕ)) → Words text all → (others : List (List ℕ)) × Words rest others) → rest ≡ with_space word after → HasNoSpace word → (all : List (List ℕ)) → Words text all → (others : List (List ℕ)) × Words after others
 words_left word left e h all w =
     let l = left all w in
     let cut = words_cut l.1 e h in
@@ -141,7 +141,7 @@ pub others_same : {a b : List ℕ} {as' bs : List (List ℕ)} → a ∷ as' ≡ 
 others_same e = cc
 
 -- the first word and the others
-pub cell_cut : {text word rest cell : List ℕ} {names : List (List ℕ)} → Words text (cell ∷ names) → text ≡ spaced word rest → HasNoSpace word → (cell ≡ word) × Words rest names
+pub cell_cut : {text word rest cell : List ℕ} {names : List (List ℕ)} → Words text (cell ∷ names) → text ≡ with_space word rest → HasNoSpace word → (cell ≡ word) × Words rest names
 cell_cut {rest = rest} w e h =
     let cut = words_cut w e h in
     (first_same cut.1, subst (Words rest) (sym (others_same cut.1)) cut.2)
@@ -155,7 +155,7 @@ word_alone h some = last (record { some = some; no_space = h })
 pub numeral_some : {word : List ℕ} → IsNumeral 10 word → word ≢ []
 numeral_some {word} n e = let z : length word ≡ 0 = ap length e in let p : 0 < length word = n.0 in omega arith
 
-pub word_first : {text word rest : List ℕ} {words : List (List ℕ)} → text ≡ spaced word rest → HasNoSpace word → word ≢ [] → Words rest words → Words text (word ∷ words)
+pub word_first : {text word rest : List ℕ} {words : List (List ℕ)} → text ≡ with_space word rest → HasNoSpace word → word ≢ [] → Words rest words → Words text (word ∷ words)
 word_first e h some w = more e (record { some = some; no_space = h }) w
 
 -- A text has its words in one way.

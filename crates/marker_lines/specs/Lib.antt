@@ -1,3 +1,5 @@
+pub mod Key
+pub mod Word
 pub mod Line
 pub mod LineView
 pub mod Reply

@@ -1,16 +1,22 @@
--- What a line of the program `markers` asks (this project). A line is UTF-8, and is given here
+-- What a line of the program `markers` asks. A line is UTF-8, and is given here
 -- without its line feed, as bytes.
 use Rattle.std.specs.Prelude.{◌≡◌, ◌≢◌, ℕ, ◌-◌, ◌^◌, min, List, [], ◌∷◌, ◌++◌, All, codes}
 use Rattle.std.specs.Str.Parse.{IsNumeral, digits_value}
 use Rattle.std.specs.declared.ops.Bound.{Bound}
 use Rattle.std.specs.declared.ops.Bound.TheVariants.{Included, Excluded, Unbounded}
-use Rattle.marker_session.specs.Machine as Machine
+use Rattle.pep508_markers.specs.Machine as Machine
+use Rattle.pep508_markers.specs.Machine.{make}
 use Rattle.marker_lines.specs.declared.word.Word.{Word}
-use Rattle.marker_lines.specs.declared.word.Word.TheVariants.{Env, Parse, Not, And, Or, Simplify, Complexify, Extras, Equal, Disjoint, Eval, Possible}
+use Rattle.marker_lines.specs.declared.word.Word.TheVariants.{Env, Parse, OnOne, OnTwo, WithNames, WithRange}
+use Rattle.marker_lines.specs.declared.word.CellCommand.{CellCommand}
+use Rattle.marker_lines.specs.declared.word.PairCommand.{PairCommand}
+use Rattle.marker_lines.specs.declared.word.NamesCommand.{NamesCommand}
+use Rattle.marker_lines.specs.declared.word.RangeCommand.{RangeCommand}
+use Rattle.marker_lines.specs.Word.{word_text, cell_request, pair_request}
 
--- a space, and what comes before and after it
-abbrev pub spaced : List ℕ → List ℕ → List ℕ
-spaced before after = before ++ (32 ∷ after)
+-- two texts, parted by one space
+abbrev pub with_space : List ℕ → List ℕ → List ℕ
+with_space before after = before ++ (32 ∷ after)
 
 -- no byte is a space
 abbrev pub HasNoSpace : List ℕ → Type 0
@@ -24,7 +30,8 @@ pub record IsWord (bytes : List ℕ) : Type 0 where
 -- The text is these words, one or more, parted by exactly one space.
 pub data Words : List ℕ → List (List ℕ) → Type 0 where
   last : {word : List ℕ} → IsWord word → Words word (word ∷ [])
-  more : {text word rest : List ℕ} {words : List (List ℕ)} → text ≡ spaced word rest → IsWord word → Words rest words → Words text (word ∷ words)
+  more : {text word rest : List ℕ} {words : List (List ℕ)} → text ≡ with_space word rest
+      → IsWord word → Words rest words → Words text (word ∷ words)
 
 -- The number of a cell, in ASCII digits (leading zeros do not count). Every number from the
 -- greatest usize on, which no cell has, is read as that one.
@@ -40,73 +47,65 @@ pub record OneCell (text : List ℕ) (cell : ℕ) : Type 0 where
 pub record TwoCells (text : List ℕ) (left right : ℕ) : Type 0 where
   pub first : List ℕ
   pub second : List ℕ
-  pub parts : text ≡ spaced first second
+  pub parts : text ≡ with_space first second
   pub is_left : OneCell first left
   pub is_right : OneCell second right
 
 -- how a bound is written, with the text of its version
-abbrev pub written_bound : Bound (List ℕ) → List ℕ
-written_bound (Included version) = codes "incl:" ++ version
-written_bound (Excluded version) = codes "excl:" ++ version
-written_bound Unbounded = codes "none"
+abbrev pub bound_word : Bound (List ℕ) → List ℕ
+bound_word (Included version) = codes "incl:" ++ version
+bound_word (Excluded version) = codes "excl:" ++ version
+bound_word Unbounded = codes "none"
 
 -- the text is the number of this cell and these two bounds, parted by one space each
-pub record CellAndBounds (text : List ℕ) (cell : ℕ) (lower upper : Bound (List ℕ)) : Type 0 where
+pub record CellAndBounds (text : List ℕ) (cell : ℕ)
+    (lower upper : Bound (List ℕ)) : Type 0 where
   pub number : List ℕ
-  pub parts : text ≡ spaced number (spaced (written_bound lower) (written_bound upper))
+  pub parts : text ≡ with_space number (with_space (bound_word lower) (bound_word upper))
   pub is_cell : OneCell number cell
-  pub lower_word : HasNoSpace (written_bound lower)
-  pub upper_word : HasNoSpace (written_bound upper)
+  pub lower_word : HasNoSpace (bound_word lower)
+  pub upper_word : HasNoSpace (bound_word upper)
+
+-- the text is the number of this cell and these names, parted by one space each
+pub record CellAndNames (text : List ℕ) (cell : ℕ) (names : List (List ℕ)) : Type 0 where
+  pub number : List ℕ
+  pub words : Words text (number ∷ names)
+  pub is_cell : OneCell number cell
 
 -- what a line may ask
 pub data Request : Type 0 where
   set : (key value : List ℕ) → Request
   -- what the machine is asked as it stands
   run : Machine.Request → Request
+  with_names : NamesCommand → (cell : ℕ) (names : List (List ℕ)) → Request
   -- bounds with the texts of their versions
-  simplify : (cell : ℕ) (lower upper : Bound (List ℕ)) → Request
-  complexify : (cell : ℕ) (lower upper : Bound (List ℕ)) → Request
-  extras : (cell : ℕ) (names : List (List ℕ)) → Request
-  evaluate : (cell : ℕ) (names : List (List ℕ)) → Request
-  possible : (cell : ℕ) (names : List (List ℕ)) → Request
-
-abbrev pub word_text : Word → List ℕ
-word_text Env = codes "env"
-word_text Parse = codes "parse"
-word_text Not = codes "not"
-word_text And = codes "and"
-word_text Or = codes "or"
-word_text Simplify = codes "simplify"
-word_text Complexify = codes "complexify"
-word_text Extras = codes "extras"
-word_text Equal = codes "equal"
-word_text Disjoint = codes "disjoint"
-word_text Eval = codes "eval"
-word_text Possible = codes "possible"
+  with_range : RangeCommand → (cell : ℕ) (lower upper : Bound (List ℕ)) → Request
 
 -- Behind this word the text asks this.
 pub data Takes : Word → List ℕ → Request → Type 0 where
   -- env KEY VALUE: the value is the rest of the line as it is
-  key_and_value : {text key value : List ℕ} → text ≡ spaced key value → HasNoSpace key → Takes Env text (set key value)
+  key_and_value : {text key value : List ℕ} → text ≡ with_space key value → HasNoSpace key
+      → Takes Env text (set key value)
   -- parse TEXT: the text is the rest of the line as it is
-  marker : {text : List ℕ} → Takes Parse text (run (Machine.parse text))
-  -- not A, and A B, or A B, equal A B, disjoint A B
-  negated : {text : List ℕ} {cell : ℕ} → OneCell text cell → Takes Not text (run (Machine.negation cell))
-  both : {text : List ℕ} {left right : ℕ} → TwoCells text left right → Takes And text (run (Machine.conjunction left right))
-  either : {text : List ℕ} {left right : ℕ} → TwoCells text left right → Takes Or text (run (Machine.disjunction left right))
-  compared : {text : List ℕ} {left right : ℕ} → TwoCells text left right → Takes Equal text (run (Machine.equal left right))
-  parted : {text : List ℕ} {left right : ℕ} → TwoCells text left right → Takes Disjoint text (run (Machine.disjoint left right))
-  -- simplify A LOWER UPPER, complexify A LOWER UPPER
-  assumed : {text : List ℕ} {cell : ℕ} {lower upper : Bound (List ℕ)} → CellAndBounds text cell lower upper → Takes Simplify text (simplify cell lower upper)
-  required : {text : List ℕ} {cell : ℕ} {lower upper : Bound (List ℕ)} → CellAndBounds text cell lower upper → Takes Complexify text (complexify cell lower upper)
+  marker : {text : List ℕ} → Takes Parse text (run (make (Machine.parse text)))
+  -- not A, text A
+  one_cell : {command : CellCommand} {text : List ℕ} {cell : ℕ} → OneCell text cell
+      → Takes (OnOne command) text (run (cell_request command cell))
+  -- and A B, or A B, equal A B, disjoint A B
+  two_cells : {command : PairCommand} {text : List ℕ} {left right : ℕ} → TwoCells text left right
+      → Takes (OnTwo command) text (run (pair_request command left right))
   -- extras A NAME .., eval A NAME .., possible A NAME ..
-  granted : {text cell : List ℕ} {names : List (List ℕ)} → Words text (cell ∷ names) → IsNumeral 10 cell → Takes Extras text (extras (cell_number cell) names)
-  cell_and_names : {text cell : List ℕ} {names : List (List ℕ)} → Words text (cell ∷ names) → IsNumeral 10 cell → Takes Eval text (evaluate (cell_number cell) names)
-  searched : {text cell : List ℕ} {names : List (List ℕ)} → Words text (cell ∷ names) → IsNumeral 10 cell → Takes Possible text (possible (cell_number cell) names)
+  cell_and_names : {command : NamesCommand} {text : List ℕ} {cell : ℕ} {names : List (List ℕ)}
+      → CellAndNames text cell names
+      → Takes (WithNames command) text (with_names command cell names)
+  -- simplify A LOWER UPPER, complexify A LOWER UPPER
+  cell_and_bounds : {command : RangeCommand} {text : List ℕ} {cell : ℕ}
+      {lower upper : Bound (List ℕ)} → CellAndBounds text cell lower upper
+      → Takes (WithRange command) text (with_range command cell lower upper)
 
 -- The line asks this. A line of no such form is malformed.
 pub record Asks (line : List ℕ) (request : Request) : Type 0 where
   pub word : Word
   pub text : List ℕ
-  pub parts : line ≡ spaced (word_text word) text
+  pub parts : line ≡ with_space (word_text word) text
   pub takes : Takes word text request

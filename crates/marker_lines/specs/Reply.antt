@@ -1,10 +1,11 @@
--- How the program `markers` writes what the machine answers (this project), without the line feed that ends it.
-use Rattle.std.specs.Prelude.{ℕ, true, false, List, ◌++◌, codes}
+-- How the program `markers` writes what the machine answers, without the line feed
+-- that ends it.
+use Rattle.std.specs.Prelude.{ℕ, true, false, List, ◌++◌, Some, None, codes}
 use Rattle.std.specs.Fmt.{decimal}
 use Rattle.std.specs.List.{flat_map}
 use Rattle.marker_warnings.specs.declared.warning.MarkerWarningKind.{MarkerWarningKind}
 use Rattle.marker_warnings.specs.declared.warning.MarkerWarningKind.TheVariants.{DeprecatedMarkerName, ExtraInvalidComparison, LexicographicComparison, MarkerMarkerComparison, Pep440Error, StringStringComparison}
-use Rattle.marker_session.specs.Machine.{Answer, cell, truth_is, no_such_cell, out_of_memory, segment_at_end, invalid_expression, marker}
+use Rattle.pep508_markers.specs.Machine.{Answer, cell, truth_is, text_is, refused, Reason, no_such_cell, out_of_memory, segment_at_end, invalid_expression, marker}
 
 abbrev pub kind_name : MarkerWarningKind → List ℕ
 kind_name DeprecatedMarkerName = codes "DeprecatedMarkerName"
@@ -15,17 +16,24 @@ kind_name Pep440Error = codes "Pep440Error"
 kind_name StringStringComparison = codes "StringStringComparison"
 
 -- a kind behind a number
-abbrev pub told_kind : MarkerWarningKind → List ℕ
-told_kind kind = codes " " ++ kind_name kind
+abbrev pub kind_text : MarkerWarningKind → List ℕ
+kind_text kind = codes " " ++ kind_name kind
 
--- a new cell is told with the kinds of its text's warnings, a fault with its start and length in bytes; no line asks for a
--- comparison that the machine could refuse as invalid
+abbrev pub reason_text : Reason → List ℕ
+reason_text no_such_cell = codes "error cell"
+reason_text out_of_memory = codes "error memory"
+reason_text segment_at_end = codes "error segment"
+reason_text invalid_expression = codes "error expression"
+reason_text (marker start len message) =
+    codes "error marker "
+    ++ (decimal start ++ (codes " " ++ (decimal len ++ (codes " " ++ message))))
+
+-- a new cell is told with the kinds of its text's warnings, a fault with its start and length in
+-- bytes; no line asks for a comparison that the machine could refuse as invalid
 abbrev pub reply_text : Answer → List ℕ
-reply_text (cell n kinds) = (codes "cell " ++ decimal n) ++ flat_map told_kind kinds
+reply_text (cell n kinds) = (codes "cell " ++ decimal n) ++ flat_map kind_text kinds
 reply_text (truth_is true) = codes "true"
 reply_text (truth_is false) = codes "false"
-reply_text no_such_cell = codes "error cell"
-reply_text out_of_memory = codes "error memory"
-reply_text segment_at_end = codes "error segment"
-reply_text invalid_expression = codes "error expression"
-reply_text (marker start len message) = codes "error marker " ++ (decimal start ++ (codes " " ++ (decimal len ++ (codes " " ++ message))))
+reply_text (text_is (Some text)) = codes "text " ++ text
+reply_text (text_is None) = codes "text"
+reply_text (refused reason) = reason_text reason

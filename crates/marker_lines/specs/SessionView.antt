@@ -1,8 +1,16 @@
--- The state that a session of lines stands for.
+-- The state that a session of lines stands for, and what it adds to the replies.
+use Rattle.std.specs.Prelude.{◌≡◌, ℕ, List, ◌++◌}
 use Rattle.marker_environment.specs.Environment.{values_of}
-use Rattle.marker_session.specs.Session.{cells_of}
+use Rattle.pep508_markers.specs.Session.{cells_of}
 use Rattle.marker_lines.specs.declared.line_session.LineSession.{LineSession}
-use Rattle.marker_lines.specs.LineStep.{State}
+use Rattle.marker_lines.specs.Line.{Request}
+use Rattle.marker_lines.specs.LineStep.{State, RequestStep}
 
 abbrev pub state_of : LineSession → State
 state_of s = record { cells = cells_of s.session; values = values_of s.environment }
+
+-- the session answers the request, and is the new one then; the reply comes behind `before`
+abbrev pub Replies : LineSession → Request → LineSession → List ℕ → List ℕ → Type 0
+Replies old request new before after =
+    (reply : List ℕ) × RequestStep (state_of old) request reply (state_of new)
+    × (after ≡ before ++ reply)

@@ -1,84 +1,70 @@
 //! What a line of the program `markers` asks.
 
-ghost use Rattle.std.specs.Prelude.{◌≡◌, ◌≢◌, ◌<◌, ◌↔◌, ℕ, List, ◌∷◌, Err, IsTrue, IfOk, MatchOption, EachIndex, length, slice_index};
+ghost use Rattle.std.specs.Prelude.{◌≡◌, ◌≢◌, ◌<◌, ◌↔◌, ℕ, List, Err, IsTrue, IfOk, MatchOption, EachIndex, length, slice_index};
 ghost use Rattle.std.specs.Int.{IsInRange};
 ghost use Rattle.std.specs.Str.{IsUtf8};
 ghost use Rattle.std.specs.Str.Parse.{IsNumeral};
 ghost use Rattle.std.specs.declared.ops.Bound.{Bound};
-ghost use Rattle.marker_lines.specs.Line.{HasNoSpace, Words, Request, Asks, Takes, TwoCells, CellAndBounds, cell_number, spaced, written_bound};
+ghost use Rattle.marker_lines.specs.Line.{HasNoSpace, Words, Request, Asks, Takes, OneCell, TwoCells, CellAndBounds, CellAndNames, with_space, bound_word};
 ghost use Rattle.marker_lines.specs.LineView.{bound_text_of, texts_of, request_of};
 
-use crate::word::Word;
-use marker_session::Command;
+use crate::word::{NamesCommand, RangeCommand, Word};
+use pep508_markers::Command;
 use std::alloc::Global;
 use std::ops::Bound;
 
-/// Why a line asks nothing.
-#[derive(Clone, Copy, Debug, PartialEq, Eq, Hash)]
-pub enum LineFault {
-    /// The line's bytes are not UTF-8.
+// Why a line asks nothing.
+#[derive(Clone, Copy)]
+pub(crate) enum LineFault {
+    // The line's bytes are not UTF-8.
     NotUtf8,
-    /// The line has none of the forms of [`LineCommand`].
+    // The line has none of the forms of `LineCommand`.
     Malformed,
-    /// Room for the line's words was refused.
+    // Room for the line's words was refused.
     OutOfMemory,
 }
 
-/// What a line asks. Words are parted by exactly one space. Keys, names, texts and those
-/// of versions are as they stand in the line, and not judged. A and B are numbers of cells in ASCII digits; one beyond
-/// `usize::MAX` is read as that.
-#[derive(Debug, Drop)]
-pub enum LineCommand<'a> {
-    /// `env KEY VALUE`, the value being the rest of the line as it is.
+// What a line asks. Keys, names, texts and those of versions are as they stand in the line, and not
+// judged.
+#[derive(Drop)]
+pub(crate) enum LineCommand<'a> {
+    // `env KEY VALUE`
     Set {
         key: &'a str,
         value: &'a str,
     },
-    /// `parse TEXT`, the text being the rest of the line as it is, `not A`, `and A B`, `or A B`,
-    /// `equal A B` or `disjoint A B`.
+    // `parse TEXT`, and what is asked of one cell or two: `not A`, `text A`, `and A B`, ..
     Run(Command<'a>),
-    /// `simplify A LOWER UPPER`, where a bound is `none`, `incl:V` or `excl:V` with the text of a version.
-    Simplify {
+    // `extras A NAME ..`, `eval A NAME ..`, `possible A NAME ..`
+    WithNames {
+        command: NamesCommand,
+        cell: usize,
+        names: Vec<&'a str>,
+    },
+    // `simplify A LOWER UPPER`, `complexify A LOWER UPPER`, with the texts of the versions
+    WithRange {
+        command: RangeCommand,
         cell: usize,
         lower: Bound<&'a str>,
         upper: Bound<&'a str>,
-    },
-    /// `complexify A LOWER UPPER`, with such bounds.
-    Complexify {
-        cell: usize,
-        lower: Bound<&'a str>,
-        upper: Bound<&'a str>,
-    },
-    /// `extras A NAME ..`, with any number of names.
-    Extras {
-        cell: usize,
-        names: Vec<&'a str>,
-    },
-    /// `eval A NAME ..`, with any number of names.
-    Evaluate {
-        cell: usize,
-        names: Vec<&'a str>,
-    },
-    /// `possible A NAME ..`, with any number of names.
-    Possible {
-        cell: usize,
-        names: Vec<&'a str>,
     },
 }
 
 impl<'a> LineCommand<'a> {
-    /// Reads a line, which is given without its line feed.
-    ///
-    /// A line that is not UTF-8 is `NotUtf8`. Any other that has none of the forms above is
-    /// `Malformed`: another command word, a wrong number of words, two spaces in a row or a space
-    /// at the end outside of a value or a text, a cell that is no number, a word that is no bound.
-    pub fn read(alloc: Global, line: &'a [u8]) -> Result<LineCommand<'a>, LineFault>
+    // Reads a line, which is given without its line feed.
+    //
+    // A line that is not UTF-8 is `NotUtf8`. Any other that has none of the forms above is
+    // `Malformed`: another command word, a wrong number of words, two spaces in a row or a space at
+    // the end outside of a value or a text, a cell that is no number, a word that is no bound.
+    pub(crate) fn read(alloc: Global, line: &'a [u8]) -> Result<LineCommand<'a>, LineFault>
         ensures asks { IfOk result (λ command. Asks line.now (request_of command)) }
-        ensures only { IfOk result (λ command. (request : Request) → Asks line.now request → request ≡ request_of command) }
+        ensures only { IfOk result (λ command. (request : Request)
+            → Asks line.now request → request ≡ request_of command) }
         ensures utf8 { result ≢ Err LineFault.NotUtf8 → IsUtf8 line.now }
 
         ensures not_utf8 { result ≡ Err LineFault.NotUtf8 → IsUtf8 line.now → ⊥ }
-        ensures malformed { result ≡ Err LineFault.Malformed → (request : Request) → Asks line.now request → ⊥ }
+        ensures malformed { result ≡ Err LineFault.Malformed
+            → (request : Request) → Asks line.now request → ⊥ }
     {
         let Ok(text) = str::from_utf8(line) else {
             return Err(LineFault::NotUtf8);
@@ -97,7 +83,8 @@ impl<'a> LineCommand<'a> {
 fn read_behind<'a>(alloc: Global, word: Word, text: &'a str) -> Result<LineCommand<'a>, LineFault>
     ensures takes { IfOk result (λ command. Takes word text.now (request_of command)) }
     ensures text { result ≢ Err LineFault.NotUtf8 }
-    ensures malformed { result ≡ Err LineFault.Malformed → (request : Request) → Takes word text.now request → ⊥ }
+    ensures malformed { result ≡ Err LineFault.Malformed
+        → (request : Request) → Takes word text.now request → ⊥ }
 {
     match word {
         Word::Env => match split_word(text) {
@@ -105,52 +92,38 @@ fn read_behind<'a>(alloc: Global, word: Word, text: &'a str) -> Result<LineComma
             None => Err(LineFault::Malformed),
         },
         Word::Parse => Ok(LineCommand::Run(Command::Parse(text))),
-        Word::Not => match read_cell(text) {
-            Some(cell) => Ok(LineCommand::Run(Command::Not(cell))),
+        Word::OnOne(command) => match read_cell(text) {
+            Some(cell) => Ok(LineCommand::Run(command.on(cell))),
             None => Err(LineFault::Malformed),
         },
-        Word::And => match two_cells(text) {
-            Some((left, right)) => Ok(LineCommand::Run(Command::And(left, right))),
+        Word::OnTwo(command) => match two_cells(text) {
+            Some((left, right)) => Ok(LineCommand::Run(command.on(left, right))),
             None => Err(LineFault::Malformed),
         },
-        Word::Or => match two_cells(text) {
-            Some((left, right)) => Ok(LineCommand::Run(Command::Or(left, right))),
-            None => Err(LineFault::Malformed),
-        },
-        Word::Simplify => match cell_and_bounds(text) {
-            Some((cell, lower, upper)) => Ok(LineCommand::Simplify { cell, lower, upper }),
-            None => Err(LineFault::Malformed),
-        },
-        Word::Complexify => match cell_and_bounds(text) {
-            Some((cell, lower, upper)) => Ok(LineCommand::Complexify { cell, lower, upper }),
-            None => Err(LineFault::Malformed),
-        },
-        Word::Extras => {
+        Word::WithNames(command) => {
             let (cell, names) = cell_and_names(alloc, text)?;
-            Ok(LineCommand::Extras { cell, names })
+            Ok(LineCommand::WithNames {
+                command,
+                cell,
+                names,
+            })
         }
-        Word::Equal => match two_cells(text) {
-            Some((left, right)) => Ok(LineCommand::Run(Command::Equal(left, right))),
+        Word::WithRange(command) => match cell_and_bounds(text) {
+            Some((cell, lower, upper)) => Ok(LineCommand::WithRange {
+                command,
+                cell,
+                lower,
+                upper,
+            }),
             None => Err(LineFault::Malformed),
         },
-        Word::Disjoint => match two_cells(text) {
-            Some((left, right)) => Ok(LineCommand::Run(Command::Disjoint(left, right))),
-            None => Err(LineFault::Malformed),
-        },
-        Word::Eval => {
-            let (cell, names) = cell_and_names(alloc, text)?;
-            Ok(LineCommand::Evaluate { cell, names })
-        }
-        Word::Possible => {
-            let (cell, names) = cell_and_names(alloc, text)?;
-            Ok(LineCommand::Possible { cell, names })
-        }
     }
 }
 
 // The numbers of two cells.
 fn two_cells(text: &str) -> Option<(usize, usize)>
-    ensures { MatchOption result ((left right : ℕ) → TwoCells text.now left right → ⊥) (λ cells. TwoCells text.now cells.0 cells.1) }
+    ensures { MatchOption result ((left right : ℕ) → TwoCells text.now left right → ⊥)
+        (λ cells. TwoCells text.now cells.0 cells.1) }
 {
     let Some((first, second)) = split_word(text) else {
         return None;
@@ -166,7 +139,8 @@ fn two_cells(text: &str) -> Option<(usize, usize)>
 
 // The number of a cell, and two bounds.
 fn cell_and_bounds(text: &str) -> Option<(usize, Bound<&str>, Bound<&str>)>
-    ensures { MatchOption result ((cell : ℕ) (lower upper : Bound (List ℕ)) → CellAndBounds text.now cell lower upper → ⊥)
+    ensures { MatchOption result
+        ((cell : ℕ) (lower upper : Bound (List ℕ)) → CellAndBounds text.now cell lower upper → ⊥)
         (λ read. CellAndBounds text.now read.0 (bound_text_of read.1) (bound_text_of read.2)) }
 {
     let Some((number, bounds)) = split_word(text) else {
@@ -192,7 +166,8 @@ fn cell_and_bounds(text: &str) -> Option<(usize, Bound<&str>, Bound<&str>)>
 
 // The bound that a word is, with the text of its version.
 fn read_bound(word: &str) -> Option<Bound<&str>>
-    ensures { MatchOption result ((bound : Bound (List ℕ)) → word.now ≡ written_bound bound → ⊥) (λ bound. word.now ≡ written_bound (bound_text_of bound)) }
+    ensures { MatchOption result ((bound : Bound (List ℕ)) → word.now ≡ bound_word bound → ⊥)
+        (λ bound. word.now ≡ bound_word (bound_text_of bound)) }
 {
     if word == "none" {
         return Some(Bound::Unbounded);
@@ -208,8 +183,9 @@ fn read_bound(word: &str) -> Option<Bound<&str>>
 
 // The number of a cell, and any number of names.
 fn cell_and_names<'a>(alloc: Global, rest: &'a str) -> Result<(usize, Vec<&'a str>), LineFault>
-    ensures read { IfOk result (λ pair. (cell : List ℕ) × Words rest.now (cell ∷ texts_of pair.1.items) × IsNumeral 10 cell × (pair.0 ≡ cell_number cell)) }
-    ensures malformed { result ≡ Err LineFault.Malformed → (cell : List ℕ) (names : List (List ℕ)) → Words rest.now (cell ∷ names) → IsNumeral 10 cell → ⊥ }
+    ensures read { IfOk result (λ read. CellAndNames rest.now read.0 (texts_of read.1.items)) }
+    ensures malformed { result ≡ Err LineFault.Malformed
+        → (cell : ℕ) (names : List (List ℕ)) → CellAndNames rest.now cell names → ⊥ }
     ensures text { result ≢ Err LineFault.NotUtf8 }
 {
     let Some((number, names)) = split_word(rest) else {
@@ -227,7 +203,8 @@ fn cell_and_names<'a>(alloc: Global, rest: &'a str) -> Result<(usize, Vec<&'a st
 // The words of a text.
 fn words<'a>(alloc: Global, text: &'a str) -> Result<Vec<&'a str>, LineFault>
     ensures words { IfOk result (λ words. Words text.now (texts_of words.items)) }
-    ensures malformed { result ≡ Err LineFault.Malformed → (words : List (List ℕ)) → Words text.now words → ⊥ }
+    ensures malformed { result ≡ Err LineFault.Malformed
+        → (words : List (List ℕ)) → Words text.now words → ⊥ }
     ensures text { result ≢ Err LineFault.NotUtf8 }
 {
     let mut words = Vec::new(alloc);
@@ -252,14 +229,15 @@ fn words<'a>(alloc: Global, text: &'a str) -> Result<Vec<&'a str>, LineFault>
 
 // What comes before the first space, and after it.
 fn split_word(text: &str) -> Option<(&str, &str)>
-    ensures { MatchOption result (HasNoSpace text.now) (λ parts. HasNoSpace parts.0.now × (text.now ≡ spaced parts.0.now parts.1.now)) }
+    ensures { MatchOption result (HasNoSpace text.now)
+        (λ parts. HasNoSpace parts.0.now × (text.now ≡ with_space parts.0.now parts.1.now)) }
 {
     text.split_once(' ')
 }
 
 // The number of a cell.
 fn read_cell(word: &str) -> Option<usize>
-    ensures { MatchOption result (IsNumeral 10 word.now → ⊥) (λ cell. IsNumeral 10 word.now × (cell ≡ cell_number word.now)) }
+    ensures { MatchOption result (IsNumeral 10 word.now → ⊥) (OneCell word.now) }
 {
     if !is_number(word.as_bytes()) {
         return None;
@@ -269,7 +247,8 @@ fn read_cell(word: &str) -> Option<usize>
 
 // One ASCII digit or more, and nothing else.
 fn is_number(word: &[u8]) -> bool
-    ensures { IsTrue result ↔ ((0 < length word.now) × EachIndex word.now (λ k. IsInRange 48 57 (slice_index word.now k))) }
+    ensures { IsTrue result ↔ ((0 < length word.now)
+        × EachIndex word.now (λ k. IsInRange 48 57 (slice_index word.now k))) }
 {
     !word.is_empty() && word.iter().all(|b| b.is_ascii_digit())
 }

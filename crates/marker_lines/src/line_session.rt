@@ -1,32 +1,29 @@
 //! A session that is spoken to in lines.
 
-ghost use Rattle.std.specs.Prelude.{◌≡◌, ◌≢◌, ◌++◌, [], ℕ, List, Option, IsTrue, Err, IfOk, OnOk, OnErr, MatchOption};
+ghost use Rattle.std.specs.Prelude.{◌≡◌, ◌≢◌, IsTrue, Err, IfOk, OnOk, OnErr, MatchOption};
 ghost use Rattle.std.specs.Io.KnownBytes.{IsAtEnd};
+ghost use Rattle.std.specs.declared.ops.Bound.{Bound};
 ghost use Rattle.line_server.specs.Serving.{AnswersEachLine, AnswersWholeLines, AnswersFirstLines, Exchanges};
 ghost use Rattle.pep440_version.specs.Grammar.{IsVersionText};
 ghost use Rattle.pep440_version.specs.Parts.{Parts};
-ghost use Rattle.marker_words.specs.declared.key.TextVariable.{TextVariable};
-ghost use Rattle.marker_words.specs.declared.key.MarkerValueVersion.{MarkerValueVersion};
-ghost use Rattle.marker_words.specs.Key.{variable_name, version_key_name};
-ghost use Rattle.marker_environment.specs.Written.{Says, written};
 ghost use Rattle.marker_environment.specs.Environment.{values_of};
-ghost use Rattle.std.specs.declared.ops.Bound.{Bound};
-ghost use Rattle.marker_lines.specs.Line.{Request, set, simplify, complexify, extras, evaluate, possible};
+ghost use Rattle.marker_environment.specs.Written.{Says, written};
+ghost use Rattle.marker_lines.specs.Line.{set, with_names, with_range};
+ghost use Rattle.marker_lines.specs.LineStep.{State, start, Names, HasNoNames, SaysBound, SaysNoBound, LineStep};
 ghost use Rattle.marker_lines.specs.LineView.{bound_text_of, texts_of, request_of};
-ghost use Rattle.marker_lines.specs.LineStep.{State, start, zero_version, Names, SaysBound, RequestStep, LineStep};
-ghost use Rattle.marker_lines.specs.SessionView.{state_of};
+ghost use Rattle.marker_lines.specs.SessionView.{state_of, Replies};
 
+use crate::key::EnvironmentKey;
 use crate::line::{LineCommand, LineFault};
 use crate::reply::{put, put_reply};
+use crate::word::{NamesCommand, RangeCommand};
 use line_server::{Answer, ServeFault, Sink, Source, serve_lines};
-use marker_parts::{MarkerEnvironment, MarkerEnvironmentBuilder, StringVersion};
-use marker_session::{Command, Session};
-use marker_words::{MarkerValueVersion, TextVariable};
+use marker_environment::{MarkerEnvironment, MarkerEnvironmentBuilder, StringVersion};
 use pep440_version::Version;
+use pep508_markers::{Command, Session};
 use pep508_names::ExtraName;
 use refusal::unless_fault;
 use std::alloc::{AllocError, Global};
-use std::mem;
 use std::ops::Bound;
 
 // A session, and the environment in which its cells are evaluated.
@@ -51,85 +48,82 @@ impl LineSession {
 
     // Does what a line asks, and adds the reply.
     fn run(&mut self, command: LineCommand<'_>, replies: &mut Vec<u8>) -> Result<(), AllocError>
-        ensures { OnOk result ((reply : List ℕ) × RequestStep (state_of self.old) (request_of command.entry) reply (state_of self.new) × (replies.new.items ≡ replies.old.items ++ reply)) }
+        ensures { OnOk result (Replies self.old (request_of command.entry)
+            self.new replies.old.items replies.new.items) }
     {
         match command {
             LineCommand::Set { key, value } => self.set(key, value, replies),
             LineCommand::Run(command) => {
                 let reply = self.session.execute(command);
-                put_reply(self.alloc, replies, &reply)
+                put_reply(replies, &reply)
             }
-            LineCommand::Simplify { cell, lower, upper } => {
-                self.simplify(cell, lower, upper, replies)
-            }
-            LineCommand::Complexify { cell, lower, upper } => {
-                self.complexify(cell, lower, upper, replies)
-            }
-            LineCommand::Extras { cell, names } => self.grant_extras(cell, &names, replies),
-            LineCommand::Evaluate { cell, names } => self.evaluate(cell, &names, replies),
-            LineCommand::Possible { cell, names } => self.is_possible(cell, &names, replies),
+            LineCommand::WithNames {
+                command,
+                cell,
+                names,
+            } => self.run_with_names(command, cell, &names, replies),
+            LineCommand::WithRange {
+                command,
+                cell,
+                lower,
+                upper,
+            } => self.run_with_range(command, cell, lower, upper, replies),
         }
     }
 
     // Sets a value of the environment. The key is judged before the value.
     fn set(&mut self, key: &str, value: &str, replies: &mut Vec<u8>) -> Result<(), AllocError>
-        ensures { OnOk result ((reply : List ℕ) × RequestStep (state_of self.old) (set key.now value.now) reply (state_of self.new) × (replies.new.items ≡ replies.old.items ++ reply)) }
+        ensures { OnOk result (Replies self.old (set key.now value.now)
+            self.new replies.old.items replies.new.items) }
     {
-        if let Some(variable) = text_variable(key) {
-            let value = String::from_str(self.alloc, value)?;
-            let environment = self.take_environment()?;
-            self.environment = environment.with_string(variable, value);
-            return put(replies, "ok");
+        match EnvironmentKey::parse(key) {
+            Some(EnvironmentKey::Text(variable)) => {
+                let value = String::from_str(self.alloc, value)?;
+                self.environment.set_string(variable, value);
+                put(replies, "ok")
+            }
+            Some(EnvironmentKey::Version(key)) => {
+                let Some(value) = read_version(self.alloc, value)? else {
+                    return put(replies, "error version");
+                };
+                self.environment.set_version(key, value);
+                put(replies, "ok")
+            }
+            None => put(replies, "error key"),
         }
-        let Some(key) = version_key(key) else {
-            return put(replies, "error key");
-        };
-        let Some(value) = read_version(self.alloc, value)? else {
-            return put(replies, "error version");
-        };
-        let environment = self.take_environment()?;
-        self.environment = environment.with_version(key, value);
-        put(replies, "ok")
     }
 
-    // The environment, for which the first one is left.
-    fn take_environment(&mut self) -> Result<MarkerEnvironment, AllocError>
-        ensures taken { IfOk result (λ environment. environment ≡ self.old.environment) }
-        ensures session { self.new.session ≡ self.old.session }
-    {
-        let first = first_environment(self.alloc)?;
-        Ok(mem::replace(&mut self.environment, first))
-    }
-
-    // Evaluates a cell with extras. Names are judged before the cell.
-    fn evaluate(
+    // Runs a command with extras. Their names are judged before the cell.
+    fn run_with_names(
         &mut self,
+        command: NamesCommand,
         cell: usize,
         words: &[&str],
         replies: &mut Vec<u8>,
     ) -> Result<(), AllocError>
-        ensures { OnOk result ((reply : List ℕ) × RequestStep (state_of self.old) (evaluate cell (texts_of words.now)) reply (state_of self.new) × (replies.new.items ≡ replies.old.items ++ reply)) }
+        ensures { OnOk result (Replies self.old (with_names command cell (texts_of words.now))
+            self.new replies.old.items replies.new.items) }
     {
         let Some(extras) = read_names(self.alloc, words)? else {
             return put(replies, "error name");
         };
-        let reply = self
-            .session
-            .execute(Command::Evaluate(cell, &self.environment, &extras));
-        put_reply(self.alloc, replies, &reply)
+        let command = command.on(cell, &self.environment, &extras);
+        let reply = self.session.execute(command);
+        put_reply(replies, &reply)
     }
-}
 
-impl LineSession {
-    // Makes a cell of another one, where the Python version is taken to lie in a range. Bounds are judged before the cell.
-    fn simplify(
+    // Runs a command with a range of Python versions. Its bounds are judged before the cell.
+    fn run_with_range(
         &mut self,
+        command: RangeCommand,
         cell: usize,
         lower: Bound<&str>,
         upper: Bound<&str>,
         replies: &mut Vec<u8>,
     ) -> Result<(), AllocError>
-        ensures { OnOk result ((reply : List ℕ) × RequestStep (state_of self.old) (simplify cell (bound_text_of lower.entry) (bound_text_of upper.entry)) reply (state_of self.new) × (replies.new.items ≡ replies.old.items ++ reply)) }
+        ensures { OnOk result (Replies self.old
+            (with_range command cell (bound_text_of lower.entry) (bound_text_of upper.entry))
+            self.new replies.old.items replies.new.items) }
     {
         let Some(lower) = read_bound(self.alloc, lower)? else {
             return put(replies, "error version");
@@ -137,64 +131,9 @@ impl LineSession {
         let Some(upper) = read_bound(self.alloc, upper)? else {
             return put(replies, "error version");
         };
-        let command = Command::SimplifyPython(cell, lower.as_ref(), upper.as_ref());
+        let command = command.on(cell, lower.as_ref(), upper.as_ref());
         let reply = self.session.execute(command);
-        put_reply(self.alloc, replies, &reply)
-    }
-
-    // Makes a cell of the conjunction of another one with a range of Python versions.
-    fn complexify(
-        &mut self,
-        cell: usize,
-        lower: Bound<&str>,
-        upper: Bound<&str>,
-        replies: &mut Vec<u8>,
-    ) -> Result<(), AllocError>
-        ensures { OnOk result ((reply : List ℕ) × RequestStep (state_of self.old) (complexify cell (bound_text_of lower.entry) (bound_text_of upper.entry)) reply (state_of self.new) × (replies.new.items ≡ replies.old.items ++ reply)) }
-    {
-        let Some(lower) = read_bound(self.alloc, lower)? else {
-            return put(replies, "error version");
-        };
-        let Some(upper) = read_bound(self.alloc, upper)? else {
-            return put(replies, "error version");
-        };
-        let command = Command::ComplexifyPython(cell, lower.as_ref(), upper.as_ref());
-        let reply = self.session.execute(command);
-        put_reply(self.alloc, replies, &reply)
-    }
-
-    // Makes a cell of another one with extras set true. Names are judged before the cell.
-    fn grant_extras(
-        &mut self,
-        cell: usize,
-        words: &[&str],
-        replies: &mut Vec<u8>,
-    ) -> Result<(), AllocError>
-        ensures { OnOk result ((reply : List ℕ) × RequestStep (state_of self.old) (extras cell (texts_of words.now)) reply (state_of self.new) × (replies.new.items ≡ replies.old.items ++ reply)) }
-    {
-        let Some(granted) = read_names(self.alloc, words)? else {
-            return put(replies, "error name");
-        };
-        let reply = self
-            .session
-            .execute(Command::SimplifyExtras(cell, &granted));
-        put_reply(self.alloc, replies, &reply)
-    }
-
-    // Tells whether a cell is true in some valuation with exactly these extras. Names are judged before the cell.
-    fn is_possible(
-        &mut self,
-        cell: usize,
-        words: &[&str],
-        replies: &mut Vec<u8>,
-    ) -> Result<(), AllocError>
-        ensures { OnOk result ((reply : List ℕ) × RequestStep (state_of self.old) (possible cell (texts_of words.now)) reply (state_of self.new) × (replies.new.items ≡ replies.old.items ++ reply)) }
-    {
-        let Some(listed) = read_names(self.alloc, words)? else {
-            return put(replies, "error name");
-        };
-        let reply = self.session.execute(Command::EvaluateExtras(cell, &listed));
-        put_reply(self.alloc, replies, &reply)
+        put_reply(replies, &reply)
     }
 }
 
@@ -237,45 +176,19 @@ fn first_environment(alloc: Global) -> Result<MarkerEnvironment, AllocError>
     }
 }
 
-// The text variable whose modern name this is.
-fn text_variable(key: &str) -> Option<TextVariable>
-    ensures { MatchOption result ((variable : TextVariable) → key.now ≢ variable_name variable) (λ variable. key.now ≡ variable_name variable) }
-{
-    match key {
-        "implementation_name" => Some(TextVariable::ImplementationName),
-        "os_name" => Some(TextVariable::OsName),
-        "platform_machine" => Some(TextVariable::PlatformMachine),
-        "platform_python_implementation" => Some(TextVariable::PlatformPythonImplementation),
-        "platform_release" => Some(TextVariable::PlatformRelease),
-        "platform_system" => Some(TextVariable::PlatformSystem),
-        "platform_version" => Some(TextVariable::PlatformVersion),
-        "sys_platform" => Some(TextVariable::SysPlatform),
-        _ => None,
-    }
-}
-
-// The version key of this name.
-fn version_key(key: &str) -> Option<MarkerValueVersion>
-    ensures { MatchOption result ((version_key : MarkerValueVersion) → key.now ≢ version_key_name version_key) (λ version_key. key.now ≡ version_key_name version_key) }
-{
-    match key {
-        "implementation_version" => Some(MarkerValueVersion::ImplementationVersion),
-        "python_full_version" => Some(MarkerValueVersion::PythonFullVersion),
-        "python_version" => Some(MarkerValueVersion::PythonVersion),
-        _ => None,
-    }
-}
-
 // The version that a value says, or nothing where it is none.
 fn read_version(alloc: Global, value: &str) -> Result<Option<StringVersion>, AllocError>
-    ensures { IfOk result (λ read. MatchOption read ((version : Parts) → IsVersionText value.now version → ⊥) (λ version. Says value.now (written version))) }
+    ensures { IfOk result (λ read. MatchOption read
+        ((version : Parts) → IsVersionText value.now version → ⊥)
+        (λ version. Says value.now (written version))) }
 {
     unless_fault(StringVersion::parse(alloc, value))
 }
 
 // The bound with the version that its text says, or nothing where it says none.
 fn read_bound(alloc: Global, bound: Bound<&str>) -> Result<Option<Bound<Version>>, AllocError>
-    ensures { IfOk result (λ read. MatchOption read ((version : Bound Parts) → SaysBound (bound_text_of bound.entry) version → ⊥) (SaysBound (bound_text_of bound.entry))) }
+    ensures { IfOk result (λ read. MatchOption read
+        (SaysNoBound (bound_text_of bound.entry)) (SaysBound (bound_text_of bound.entry))) }
 {
     match bound {
         Bound::Included(text) => match unless_fault(Version::parse(alloc, text))? {
@@ -292,7 +205,8 @@ fn read_bound(alloc: Global, bound: Bound<&str>) -> Result<Option<Bound<Version>
 
 // The names of extras, or nothing where a word is no name.
 fn read_names(alloc: Global, words: &[&str]) -> Result<Option<Vec<ExtraName>>, AllocError>
-    ensures { IfOk result (λ read. MatchOption read ((names : List (List ℕ)) → Names (texts_of words.now) names → ⊥) (λ names. Names (texts_of words.now) names.items)) }
+    ensures { IfOk result (λ read. MatchOption read
+        (HasNoNames (texts_of words.now)) (λ names. Names (texts_of words.now) names.items)) }
 {
     let mut names = Vec::new(alloc);
     for word in words {
@@ -305,9 +219,24 @@ fn read_names(alloc: Global, words: &[&str]) -> Result<Option<Vec<ExtraName>>, A
 }
 
 /// Answers each line that the reader gives with a line to the writer, in order, until no line is
-/// left, as [`LineCommand`] has the forms of lines, beginning with no cells and an environment of
-/// empty texts and of versions `0`. The replies to all whole lines read so far are written before
-/// the reader is asked again.
+/// left, beginning with no cells and an environment of empty texts and of versions `0`. The replies
+/// to all whole lines read so far are written before the reader is asked again.
+///
+/// | Line | What it asks |
+/// |---|---|
+/// | `env KEY VALUE` | sets a key, by its modern name; the value is the rest of the line as it is |
+/// | `parse TEXT` | reads a marker into a new cell; the text is the rest of the line as it is |
+/// | `not A`, `and A B`, `or A B` | make a cell of others |
+/// | `equal A B`, `disjoint A B` | compare cells |
+/// | `text A` | the text of a cell, or none where it is true everywhere |
+/// | `extras A NAME ..` | makes a cell of another one with extras set true |
+/// | `eval A NAME ..` | whether a cell is true in the environment with these extras |
+/// | `possible A NAME ..` | whether a cell is true in some valuation with exactly these extras |
+/// | `simplify A LOWER UPPER` | makes a cell of another one, for Python in a range |
+/// | `complexify A LOWER UPPER` | makes a cell of the conjunction of another one with a range |
+///
+/// Words are parted by exactly one space. A and B are numbers of cells in ASCII digits; one beyond
+/// `usize::MAX` is read as that. A bound is `none`, `incl:V` or `excl:V` with a version's text.
 ///
 /// `Err` is `Input` where the reader failed, `Output` where the writer failed, and else `Memory`,
 /// where room for a line, its words or its reply was refused. After a failed read the replies to

@@ -1,20 +1,26 @@
 //! How the program `markers` writes what a session replies.
 
-ghost use Rattle.std.specs.Prelude.{◌≡◌, ◌++◌, OnOk};
+ghost use Rattle.std.specs.Prelude.{◌≡◌, ◌++◌, IfSome, OnOk};
 ghost use Rattle.std.specs.List.{flat_map};
-ghost use Rattle.marker_session.specs.Session.{answer_of};
-ghost use Rattle.marker_lines.specs.Reply.{kind_name, told_kind, reply_text};
+ghost use Rattle.pep508_markers.specs.Session.{answer_of, reason_of};
+ghost use Rattle.marker_lines.specs.Reply.{kind_name, kind_text, reason_text, reply_text};
 
-use marker_parts::MarkerWarningKind;
-use marker_session::{Reason, Reply};
-use std::alloc::{AllocError, Global};
+use marker_warnings::MarkerWarningKind;
+use pep508_markers::{Reason, Reply};
+use std::alloc::AllocError;
+use std::fmt::Display;
+use std::io::Write;
 
 // Adds a text to the replies.
-pub(crate) fn put(replies: &mut Vec<u8>, text: &str) -> Result<(), AllocError>
-    ensures { OnOk result (replies.new.items ≡ replies.old.items ++ text.now) }
+pub(crate) fn put<D: Display + Drop>(replies: &mut Vec<u8>, text: D) -> Result<(), AllocError>
+    ensures { OnOk result (IfSome (D.output text)
+        (λ bytes. replies.new.items ≡ replies.old.items ++ bytes)) }
 {
-    replies.extend_from_slice(text.as_bytes())?;
-    Ok(())
+    match replies.write_fmt(text) {
+        Ok(()) => Ok(()),
+        // A list has no other fault than want of memory.
+        Err(_) => Err(AllocError),
+    }
 }
 
 // The name of a kind of warnings.
@@ -33,7 +39,8 @@ fn name_of_kind(kind: MarkerWarningKind) -> &'static str
 
 // Adds a space and the name of each kind.
 fn put_kinds(replies: &mut Vec<u8>, kinds: &[MarkerWarningKind]) -> Result<(), AllocError>
-    ensures { OnOk result (replies.new.items ≡ replies.old.items ++ flat_map told_kind kinds.now) }
+    ensures { OnOk result
+        (replies.new.items ≡ replies.old.items ++ flat_map kind_text kinds.now) }
 {
     for kind in kinds {
         put(replies, " ")?;
@@ -43,27 +50,27 @@ fn put_kinds(replies: &mut Vec<u8>, kinds: &[MarkerWarningKind]) -> Result<(), A
 }
 
 // Adds a reply to the replies, without the line feed that ends it.
-pub(crate) fn put_reply(
-    alloc: Global,
-    replies: &mut Vec<u8>,
-    reply: &Reply,
-) -> Result<(), AllocError>
-    ensures { OnOk result (replies.new.items ≡ replies.old.items ++ reply_text (answer_of reply.now)) }
+pub(crate) fn put_reply(replies: &mut Vec<u8>, reply: &Reply) -> Result<(), AllocError>
+    ensures { OnOk result
+        (replies.new.items ≡ replies.old.items ++ reply_text (answer_of reply.now)) }
 {
     match reply {
         Reply::Cell(index, kinds) => {
-            put(replies, &format!(in alloc; "cell {index}")?)?;
+            put(replies, format_args!("cell {index}"))?;
             put_kinds(replies, kinds)
         }
         Reply::Truth(true) => put(replies, "true"),
         Reply::Truth(false) => put(replies, "false"),
-        Reply::Refused(reason) => put_reason(alloc, replies, reason),
+        Reply::Text(Some(text)) => put(replies, format_args!("text {text}")),
+        Reply::Text(None) => put(replies, "text"),
+        Reply::Refused(reason) => put_reason(replies, reason),
     }
 }
 
 // Adds the reply to a refused command.
-fn put_reason(alloc: Global, replies: &mut Vec<u8>, reason: &Reason) -> Result<(), AllocError>
-    ensures { OnOk result (replies.new.items ≡ replies.old.items ++ reply_text (answer_of (Reply.Refused reason.now))) }
+fn put_reason(replies: &mut Vec<u8>, reason: &Reason) -> Result<(), AllocError>
+    ensures { OnOk result
+        (replies.new.items ≡ replies.old.items ++ reason_text (reason_of reason.now)) }
 {
     match reason {
         Reason::NoSuchCell => put(replies, "error cell"),
@@ -76,7 +83,7 @@ fn put_reason(alloc: Global, replies: &mut Vec<u8>, reason: &Reason) -> Result<(
             message,
         } => put(
             replies,
-            &format!(in alloc; "error marker {start} {len} {message}")?,
+            format_args!("error marker {start} {len} {message}"),
         ),
     }
 }

@@ -1,56 +1,156 @@
-//! The first words of lines.
+//! The first words of lines, by what stands behind them.
 
 ghost use Rattle.std.specs.Prelude.{◌≡◌, ◌≢◌, MatchOption};
-ghost use Rattle.marker_lines.specs.Line.{word_text};
+ghost use Rattle.version_ranges.specs.Clamp.{bound_of};
+ghost use Rattle.marker_environment.specs.Environment.{values_of};
+ghost use Rattle.pep508_markers.specs.Session.{request_of};
+ghost use Rattle.marker_lines.specs.Word.{word_text, cell_request, pair_request, names_request, range_request};
 
-/// The word that a line begins with, which tells what the line asks.
-#[derive(Clone, Copy, Debug, PartialEq, Eq, Hash)]
-pub enum Word {
-    /// `env`
+use marker_environment::MarkerEnvironment;
+use pep440_version::Version;
+use pep508_markers::Command;
+use pep508_names::ExtraName;
+use std::ops::Bound;
+
+// The word that a line begins with, which tells what the line asks.
+#[derive(Clone, Copy)]
+pub(crate) enum Word {
+    // `env`
     Env,
-    /// `parse`
+    // `parse`
     Parse,
-    /// `not`
+    OnOne(CellCommand),
+    OnTwo(PairCommand),
+    WithNames(NamesCommand),
+    WithRange(RangeCommand),
+}
+
+// What is asked of a cell.
+#[derive(Clone, Copy)]
+pub(crate) enum CellCommand {
+    // `not`
     Not,
-    /// `and`
+    // `text`
+    Text,
+}
+
+// What is asked of two cells.
+#[derive(Clone, Copy)]
+pub(crate) enum PairCommand {
+    // `and`
     And,
-    /// `or`
+    // `or`
     Or,
-    /// `simplify`
-    Simplify,
-    /// `complexify`
-    Complexify,
-    /// `extras`
-    Extras,
-    /// `equal`
+    // `equal`
     Equal,
-    /// `disjoint`
+    // `disjoint`
     Disjoint,
-    /// `eval`
-    Eval,
-    /// `possible`
+}
+
+// What is asked of a cell with names of extras.
+#[derive(Clone, Copy)]
+pub(crate) enum NamesCommand {
+    // `extras`
+    Extras,
+    // `eval`
+    Evaluate,
+    // `possible`
     Possible,
 }
 
+// What is asked of a cell with a range of Python versions.
+#[derive(Clone, Copy)]
+pub(crate) enum RangeCommand {
+    // `simplify`
+    Simplify,
+    // `complexify`
+    Complexify,
+}
+
 impl Word {
-    /// The word of this text, in small letters as it stands above, or nothing where it is none.
-    pub fn parse(text: &str) -> Option<Word>
-        ensures { MatchOption result ((word : Word) → text.now ≢ word_text word) (λ word. text.now ≡ word_text word) }
+    // The word of this text, in small letters as it stands above, or nothing where it is none.
+    pub(crate) fn parse(text: &str) -> Option<Word>
+        ensures { MatchOption result ((word : Word) → text.now ≢ word_text word)
+            (λ word. text.now ≡ word_text word) }
     {
         match text {
             "env" => Some(Word::Env),
             "parse" => Some(Word::Parse),
-            "not" => Some(Word::Not),
-            "and" => Some(Word::And),
-            "or" => Some(Word::Or),
-            "simplify" => Some(Word::Simplify),
-            "complexify" => Some(Word::Complexify),
-            "extras" => Some(Word::Extras),
-            "equal" => Some(Word::Equal),
-            "disjoint" => Some(Word::Disjoint),
-            "eval" => Some(Word::Eval),
-            "possible" => Some(Word::Possible),
+            "not" => Some(Word::OnOne(CellCommand::Not)),
+            "text" => Some(Word::OnOne(CellCommand::Text)),
+            "and" => Some(Word::OnTwo(PairCommand::And)),
+            "or" => Some(Word::OnTwo(PairCommand::Or)),
+            "equal" => Some(Word::OnTwo(PairCommand::Equal)),
+            "disjoint" => Some(Word::OnTwo(PairCommand::Disjoint)),
+            "extras" => Some(Word::WithNames(NamesCommand::Extras)),
+            "eval" => Some(Word::WithNames(NamesCommand::Evaluate)),
+            "possible" => Some(Word::WithNames(NamesCommand::Possible)),
+            "simplify" => Some(Word::WithRange(RangeCommand::Simplify)),
+            "complexify" => Some(Word::WithRange(RangeCommand::Complexify)),
             _ => None,
+        }
+    }
+}
+
+impl CellCommand {
+    // The command on this cell.
+    pub(crate) fn on<'a>(self, cell: usize) -> Command<'a>
+        ensures { request_of result ≡ cell_request self cell }
+    {
+        match self {
+            CellCommand::Not => Command::Not(cell),
+            CellCommand::Text => Command::Text(cell),
+        }
+    }
+}
+
+impl PairCommand {
+    // The command on these cells.
+    pub(crate) fn on<'a>(self, left: usize, right: usize) -> Command<'a>
+        ensures { request_of result ≡ pair_request self left right }
+    {
+        match self {
+            PairCommand::And => Command::And(left, right),
+            PairCommand::Or => Command::Or(left, right),
+            PairCommand::Equal => Command::Equal(left, right),
+            PairCommand::Disjoint => Command::Disjoint(left, right),
+        }
+    }
+}
+
+impl NamesCommand {
+    // The command on the cell with these extras, in the environment where it asks for one.
+    pub(crate) fn on<'a>(
+        self,
+        cell: usize,
+        environment: &'a MarkerEnvironment,
+        extras: &'a [ExtraName],
+    ) -> Command<'a>
+        ensures { request_of result
+            ≡ names_request self cell (values_of environment.now) extras.now }
+    {
+        match self {
+            NamesCommand::Extras => Command::SimplifyExtras(cell, extras),
+            NamesCommand::Evaluate => Command::Evaluate(cell, environment, extras),
+            NamesCommand::Possible => Command::EvaluateExtras(cell, extras),
+        }
+    }
+}
+
+impl RangeCommand {
+    // The command on the cell with this range.
+    pub(crate) fn on<'a>(
+        self,
+        cell: usize,
+        lower: Bound<&'a Version>,
+        upper: Bound<&'a Version>,
+    ) -> Command<'a>
+        ensures { request_of result
+            ≡ range_request self cell (bound_of lower.entry) (bound_of upper.entry) }
+    {
+        match self {
+            RangeCommand::Simplify => Command::SimplifyPython(cell, lower, upper),
+            RangeCommand::Complexify => Command::ComplexifyPython(cell, lower, upper),
         }
     }
 }

@@ -1,4 +1,4 @@
--- The conjunction of two ids. (This project's own.)
+-- The conjunction of two ids.
 use Rattle.std.specs.Prelude.{◌≡◌, ◌&&◌, ◌⊎◌, List}
 use Rattle.marker_environment.specs.Valuation.{Valuation}
 use Rattle.marker_diagrams.specs.declared.node_id.NodeId.{NodeId}

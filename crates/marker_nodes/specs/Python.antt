@@ -1,4 +1,4 @@
--- Where the Python version stands in a valuation. (This project's own.)
+-- Where the Python version stands in a valuation.
 use Rattle.version_ranges.specs.Point.{Point}
 use Rattle.pep440_version.specs.Parts.{Parts}
 use Rattle.marker_words.specs.declared.key.VersionVariable.{VersionVariable}

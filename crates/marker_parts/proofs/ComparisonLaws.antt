@@ -8,9 +8,9 @@ use Rattle.marker_words.specs.Lexical.{Value, Sides}
 use Rattle.marker_words.proofs.LexicalLaws.{sides_same}
 use Rattle.marker_warnings.specs.declared.warning.MarkerWarningKind.{MarkerWarningKind}
 use Rattle.marker_parts.specs.Expression.{Extra, name, Test}
-use Rattle.marker_parts.specs.Comparison.{Meaning, extra_meaning, IsExtra, named, unnamed, Means, key_and_text, text_and_key, extra_and_text, text_and_extra, two_keys, key_and_extra, extra_and_key, two_extras, two_texts, MeansBehind, asks, asks_nothing, MeansBefore, asks_before, asks_nothing_before, version_and_text, text_and_version, version_and_key, version_and_extra, two_versions, key_and_version, extra_and_version, kept, Compared, compared}
+use Rattle.marker_parts.specs.Comparison.{Meaning, extra_meaning, IsExtra, named, unnamed, Means, key_and_text, text_and_key, extra_and_text, text_and_extra, two_keys, key_and_extra, extra_and_key, two_extras, two_texts, MeansBehind, asks, asks_nothing, MeansBefore, asks_before, asks_nothing_before, version_and_text, text_and_version, version_and_key, version_and_extra, two_versions, key_and_version, extra_and_version, kept_with, Compared, compared}
 use Rattle.marker_parts.proofs.AskLaws.{Asks-same, AsksBefore-same}
-use Rattle.marker_parts.specs.declared.outcome.Outcome.{Outcome}
+use Rattle.marker_parts.specs.declared.meaning.Outcome.{Outcome}
 use Rattle.marker_parts.specs.Read.{meaning_of, ReadsComparison, HasNoComparison}
 
 -- a text is one extra, and is warned of in one way
@@ -25,13 +25,13 @@ extra_meaning-same operator g h = let e = IsExtra-same g h in λ i. extra_meanin
 
 -- a version key asks one thing of a text, or nothing
 MeansBehind-same : {key : MarkerValueVersion} {operator : MarkerOperator} {t : List ℕ} {m n : Meaning} → MeansBehind key operator t m → MeansBehind key operator t n → m ≡ n
-MeansBehind-same (asks g) (asks h) = ap (λ (x : Test). kept x []) (Asks-same g h)
+MeansBehind-same (asks g) (asks h) = ap (λ (x : Test). kept_with x []) (Asks-same g h)
 MeansBehind-same (asks g) (asks_nothing h) = absurd (h _ g)
 MeansBehind-same (asks_nothing g) (asks h) = absurd (g _ h)
 MeansBehind-same (asks_nothing g) (asks_nothing h) = refl
 
 MeansBefore-same : {key : MarkerValueVersion} {operator : MarkerOperator} {t : List ℕ} {m n : Meaning} → MeansBefore key operator t m → MeansBefore key operator t n → m ≡ n
-MeansBefore-same (asks_before g) (asks_before h) = ap (λ (x : Test). kept x []) (AsksBefore-same g h)
+MeansBefore-same (asks_before g) (asks_before h) = ap (λ (x : Test). kept_with x []) (AsksBefore-same g h)
 MeansBefore-same (asks_before g) (asks_nothing_before h) = absurd (h _ g)
 MeansBefore-same (asks_nothing_before g) (asks_before h) = absurd (g _ h)
 MeansBefore-same (asks_nothing_before g) (asks_nothing_before h) = refl

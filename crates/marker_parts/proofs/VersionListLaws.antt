@@ -5,6 +5,7 @@ use Rattle.std.proofs.lemmas.Str.{length-le-encodes}
 use Rattle.pep508_text.specs.Run.{Run, run_of, after_run, after_space, Spaces}
 use Rattle.pep508_text.specs.declared.classes.Class.TheVariants.{Space, NotSpace}
 use Rattle.pep508_text.proofs.RunLaws.{run_same, run_of-first, run_of-holds, after_run-holds, after_run-fails, spaces_end, spaces_from, trimmed_nil, trimmed_by_run}
+use Rattle.pep508_text.proofs.SuffixLaws.{suffix_then}
 use Rattle.pep440_version.specs.Parts.{Parts}
 use Rattle.pep440_version.specs.Grammar.{IsVersionText}
 use Rattle.pep440_version.proofs.Complete.{version-again}
@@ -121,3 +122,6 @@ pub no_entry_here : {input space word : List ℕ} → space ≡ after_space inpu
 no_entry_here {input} {space} {word} e f h =
     let empty = no_bytes (run_of NotSpace space) (sym (ap length f) ∙ h) in
     spaces_from (nothing_left input (subst (λ (x : List ℕ). run_of NotSpace x ≡ []) e empty))
+
+-- whether an entry is next, and that the end of the text follows it
+pub ruleset next_entry = (entry_here, no_entry_here, suffix_then)

@@ -20,8 +20,11 @@ use Rattle.marker_parts.specs.declared.expression.MarkerExpression.{MarkerExpres
 use Rattle.marker_parts.specs.declared.comparison.ComparisonError.{ComparisonError}
 use Rattle.marker_parts.specs.declared.comparison.ComparisonError.TheVariants as errors
 use Rattle.marker_parts.specs.Comparison.{Meaning, Compared}
-use Rattle.marker_parts.specs.Read.{ReadsComparison, IsRefused}
-use Rattle.marker_parts.specs.Whole.{IsRead, IsNoComparison, IsUnread, Tells, Becomes, IsTold, IsRefusal}
+use Rattle.marker_parts.specs.Read.{ReadsComparison}
+use Rattle.marker_parts.specs.Read as front
+use Rattle.marker_parts.specs.Whole.{IsRead, IsNoComparison}
+use Rattle.marker_parts.specs.Whole as whole
+use Rattle.marker_parts.specs.Error.{Tells, Becomes, IsErrorOf, IsRefusal}
 use Rattle.marker_parts.proofs.ComparisonLaws.{compared_same}
 
 second_of : (a b : Bool) → (a && b) ≡ true → b ≡ true
@@ -58,15 +61,15 @@ more_follows compared some n whole =
     let same = compared_same whole.compared compared in
     some (ap after_space (sym same.0) ∙ spaces_end whole.end trimmed_nil)
 
-pub none_at_front : (text : List ℕ) (error : ComparisonError) → IsRefused text error → IsUnread text error
+pub none_at_front : (text : List ℕ) (error : ComparisonError) → front.IsRefusal text error → whole.IsRefusal text error
 none_at_front text errors.OutOfMemory h = tt
 none_at_front text (errors.Fault fault) h = (λ m whole. h.0.no_compared whole.rest m whole.compared, h.1)
 
-pub unread_behind : {text rest : List ℕ} {expression : Option MarkerExpression} {old new : List MarkerWarningKind} (fault : Fault) → ReadsComparison text rest expression old new → IsSuffix text rest → after_space (chars rest) ≢ [] → IsWordFault rest fault → IsUnread text (errors.Fault fault)
+pub unread_behind : {text rest : List ℕ} {expression : Option MarkerExpression} {old new : List MarkerWarningKind} (fault : Fault) → ReadsComparison text rest expression old new → IsSuffix text rest → after_space (chars rest) ≢ [] → IsWordFault rest fault → whole.IsRefusal text (errors.Fault fault)
 unread_behind fault read suffix some at = (more_follows read.compared some, fault_of_suffix suffix at)
 
 -- an error that tells a fault of the text
-pub told_fault : {T E : Type 0} {Open : List ℕ → Type 0} {text : List ℕ} {fault : Fault} {error : Pep508Error T E} → IsFault Open text fault → Tells text fault error → IsTold Open text error
+pub told_fault : {T E : Type 0} {Open : List ℕ → Type 0} {text : List ℕ} {fault : Fault} {error : Pep508Error T E} → IsFault Open text fault → Tells text fault error → IsErrorOf Open text error
 told_fault {Open = Open} {text} {fault} {error} at tells =
     let said = message_of fault.kind fault.piece.now in
     record {
@@ -77,7 +80,7 @@ told_fault {Open = Open} {text} {fault} {error} at tells =
     }
 
 -- a text that is no comparison is refused
-pub refused_text : {T E : Type 0} (text : List ℕ) (error : ComparisonError) (refusal : Refusal (Pep508Error T E)) → IsUnread text error → Becomes text error refusal → IsRefusal text refusal
+pub refused_text : {T E : Type 0} (text : List ℕ) (error : ComparisonError) (refusal : Refusal (Pep508Error T E)) → whole.IsRefusal text error → Becomes text error refusal → IsRefusal text refusal
 refused_text text error refusals.OutOfMemory unread told = tt
 refused_text text error refusals.SegmentAtEnd unread told = told
 refused_text text errors.OutOfMemory (refusals.Fault e) unread told = absurd told

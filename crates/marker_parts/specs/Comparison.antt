@@ -1,5 +1,5 @@
--- One comparison of a marker: how it is written, what it asks, and which kinds of warnings it gives (PEP 508, and this
--- project's rows of what is dropped).
+-- One comparison of a marker: how it is written, what it asks, and which kinds of warnings it gives
+-- (PEP 508, "Environment Markers"; which comparisons are dropped is not in it).
 use Rattle.std.specs.Prelude.{◌≡◌, ℕ, List, [], ◌∷◌, ◌++◌, Option, Some, None, if◌then◌else◌}
 use Rattle.pep508_names.specs.Name.{NormalizesTo, IsName}
 use Rattle.marker_words.specs.declared.key.MarkerValueString.{MarkerValueString}
@@ -16,78 +16,115 @@ use Rattle.marker_warnings.specs.declared.warning.MarkerWarningKind.TheVariants.
 use Rattle.marker_parts.specs.Expression.{Extra, name, arbitrary, Test, text, extra}
 use Rattle.marker_parts.specs.VersionComparison.{version_operator, Asks, AsksBefore, refused_kinds}
 
+abbrev Kinds : Type 0
+Kinds = List MarkerWarningKind
+
 -- what a comparison asks, or nothing where it is dropped, and the kinds of its warnings in order
 pub record Meaning : Type 0 where
   pub test : Option Test
-  pub kinds : List MarkerWarningKind
+  pub kinds : Kinds
 
-abbrev pub dropped : List MarkerWarningKind → Meaning
-dropped kinds = record { test = None; kinds = kinds }
+abbrev pub dropped_with : Kinds → Meaning
+dropped_with kinds = record { test = None; kinds = kinds }
 
-abbrev pub kept : Test → List MarkerWarningKind → Meaning
-kept t kinds = record { test = Some t; kinds = kinds }
+abbrev pub kept_with : Test → Kinds → Meaning
+kept_with t kinds = record { test = Some t; kinds = kinds }
 
 -- a deprecated spelling is warned of where it stands
-abbrev pub key_kinds : MarkerValueString → List MarkerWarningKind
+abbrev pub key_kinds : MarkerValueString → Kinds
 key_kinds key = if is_deprecated key then DeprecatedMarkerName ∷ [] else []
 
 -- what a text that is no name is warned of
-abbrev pub extra_kinds : Extra → List MarkerWarningKind
+abbrev pub extra_kinds : Extra → Kinds
 extra_kinds (name n) = []
 extra_kinds (arbitrary t) = ExtraInvalidComparison ∷ []
 
 -- a text key beside a quoted text: texts are not compared by `~=`
 abbrev pub text_meaning : MarkerValueString → MarkerOperator → List ℕ → Meaning
-text_meaning key TildeEqual value = dropped (key_kinds key ++ (LexicographicComparison ∷ []))
-text_meaning key operator value = kept (text key operator value) (key_kinds key)
+text_meaning key TildeEqual value = dropped_with (key_kinds key ++ (LexicographicComparison ∷ []))
+text_meaning key operator value = kept_with (text key operator value) (key_kinds key)
 
--- which extra a quoted text is, and the kinds of warnings of it: a text that is no name is an arbitrary extra
-pub data IsExtra : List ℕ → Extra → List MarkerWarningKind → Type 0 where
+-- which extra a quoted text is, and the kinds of warnings of it: a text that is no name is an
+-- arbitrary extra
+pub data IsExtra : List ℕ → Extra → Kinds → Type 0 where
   named : {t n : List ℕ} → NormalizesTo t n → IsExtra t (name n) []
   unnamed : {t : List ℕ} → ¬ IsName t → IsExtra t (arbitrary t) (ExtraInvalidComparison ∷ [])
 
 -- `extra` beside a quoted text: extras are only equal or not
-abbrev pub extra_meaning : MarkerOperator → Extra → List MarkerWarningKind → Meaning
-extra_meaning Equal x kinds = kept (extra extra_operators.Equal x) kinds
-extra_meaning NotEqual x kinds = kept (extra extra_operators.NotEqual x) kinds
-extra_meaning operator x kinds = dropped (kinds ++ (ExtraInvalidComparison ∷ []))
+abbrev pub extra_meaning : MarkerOperator → Extra → Kinds → Meaning
+extra_meaning Equal x kinds = kept_with (extra extra_operators.Equal x) kinds
+extra_meaning NotEqual x kinds = kept_with (extra extra_operators.NotEqual x) kinds
+extra_meaning operator x kinds = dropped_with (kinds ++ (ExtraInvalidComparison ∷ []))
 
 -- a version key and a text behind it
-pub data MeansBehind (key : MarkerValueVersion) (operator : MarkerOperator) (t : List ℕ) : Meaning → Type 0 where
-  asks : {test : Test} → Asks key t (version_operator operator) test → MeansBehind key operator t (kept test [])
-  asks_nothing : ((test : Test) → ¬ Asks key t (version_operator operator) test) → MeansBehind key operator t (dropped (refused_kinds (version_operator operator)))
+pub data MeansBehind (key : MarkerValueVersion) (operator : MarkerOperator) (t : List ℕ) :
+    Meaning → Type 0 where
+  asks : {test : Test} →
+      Asks key t (version_operator operator) test → MeansBehind key operator t (kept_with test [])
+  asks_nothing : ((test : Test) → ¬ Asks key t (version_operator operator) test) →
+      MeansBehind key operator t (dropped_with (refused_kinds (version_operator operator)))
 
 -- a version key and a text before it, with the operator turned
-pub data MeansBefore (key : MarkerValueVersion) (operator : MarkerOperator) (t : List ℕ) : Meaning → Type 0 where
-  asks_before : {test : Test} → AsksBefore key t (version_operator operator) test → MeansBefore key operator t (kept test [])
-  asks_nothing_before : ((test : Test) → ¬ AsksBefore key t (version_operator operator) test) → MeansBefore key operator t (dropped (Pep440Error ∷ []))
+pub data MeansBefore (key : MarkerValueVersion) (operator : MarkerOperator) (t : List ℕ) :
+    Meaning → Type 0 where
+  asks_before : {test : Test} → AsksBefore key t (version_operator operator) test →
+      MeansBefore key operator t (kept_with test [])
+  asks_nothing_before : ((test : Test) → ¬ AsksBefore key t (version_operator operator) test) →
+      MeansBefore key operator t (dropped_with (Pep440Error ∷ []))
 
+-- what two sides and the operator between them come to
 pub data Means : Value → MarkerOperator → Value → Meaning → Type 0 where
-  key_and_text : {key : MarkerValueString} {operator : MarkerOperator} {t : List ℕ} → Means (text_key key) operator (quoted t) (text_meaning key operator t)
-  text_and_key : {key : MarkerValueString} {operator : MarkerOperator} {t : List ℕ} → Means (quoted t) operator (text_key key) (text_meaning key (turned operator) t)
-  extra_and_text : {operator : MarkerOperator} {t : List ℕ} {x : Extra} {kinds : List MarkerWarningKind} → IsExtra t x kinds → Means lexical.extra operator (quoted t) (extra_meaning operator x kinds)
-  text_and_extra : {operator : MarkerOperator} {t : List ℕ} {x : Extra} {kinds : List MarkerWarningKind} → IsExtra t x kinds → Means (quoted t) operator lexical.extra (extra_meaning operator x kinds)
-  two_keys : {left right : MarkerValueString} {operator : MarkerOperator} → Means (text_key left) operator (text_key right) (dropped (key_kinds left ++ (key_kinds right ++ (MarkerMarkerComparison ∷ []))))
-  key_and_extra : {key : MarkerValueString} {operator : MarkerOperator} → Means (text_key key) operator lexical.extra (dropped (key_kinds key ++ (MarkerMarkerComparison ∷ [])))
-  extra_and_key : {key : MarkerValueString} {operator : MarkerOperator} → Means lexical.extra operator (text_key key) (dropped (key_kinds key ++ (ExtraInvalidComparison ∷ [])))
-  two_extras : {operator : MarkerOperator} → Means lexical.extra operator lexical.extra (dropped (ExtraInvalidComparison ∷ []))
-  two_texts : {s t : List ℕ} {operator : MarkerOperator} → Means (quoted s) operator (quoted t) (dropped (StringStringComparison ∷ []))
-  version_and_text : {key : MarkerValueVersion} {operator : MarkerOperator} {t : List ℕ} {m : Meaning} → MeansBehind key operator t m → Means (version_key key) operator (quoted t) m
-  text_and_version : {key : MarkerValueVersion} {operator : MarkerOperator} {t : List ℕ} {m : Meaning} → MeansBefore key (turned operator) t m → Means (quoted t) operator (version_key key) m
-  version_and_key : {left : MarkerValueVersion} {right : MarkerValueString} {operator : MarkerOperator} → Means (version_key left) operator (text_key right) (dropped (key_kinds right ++ (Pep440Error ∷ [])))
-  version_and_extra : {key : MarkerValueVersion} {operator : MarkerOperator} → Means (version_key key) operator lexical.extra (dropped (Pep440Error ∷ []))
-  two_versions : {left right : MarkerValueVersion} {operator : MarkerOperator} → Means (version_key left) operator (version_key right) (dropped (Pep440Error ∷ []))
-  key_and_version : {left : MarkerValueString} {right : MarkerValueVersion} {operator : MarkerOperator} → Means (text_key left) operator (version_key right) (dropped (key_kinds left ++ (MarkerMarkerComparison ∷ [])))
-  extra_and_version : {key : MarkerValueVersion} {operator : MarkerOperator} → Means lexical.extra operator (version_key key) (dropped (ExtraInvalidComparison ∷ []))
+  key_and_text : {key : MarkerValueString} {operator : MarkerOperator} {t : List ℕ} →
+      Means (text_key key) operator (quoted t) (text_meaning key operator t)
+  text_and_key : {key : MarkerValueString} {operator : MarkerOperator} {t : List ℕ} →
+      Means (quoted t) operator (text_key key) (text_meaning key (turned operator) t)
+  extra_and_text : {operator : MarkerOperator} {t : List ℕ} {x : Extra} {kinds : Kinds} →
+      IsExtra t x kinds → Means lexical.extra operator (quoted t) (extra_meaning operator x kinds)
+  text_and_extra : {operator : MarkerOperator} {t : List ℕ} {x : Extra} {kinds : Kinds} →
+      IsExtra t x kinds → Means (quoted t) operator lexical.extra (extra_meaning operator x kinds)
+  two_keys : {left right : MarkerValueString} {operator : MarkerOperator} →
+      Means (text_key left) operator (text_key right)
+      (dropped_with (key_kinds left ++ (key_kinds right ++ (MarkerMarkerComparison ∷ []))))
+  key_and_extra : {key : MarkerValueString} {operator : MarkerOperator} →
+      Means (text_key key) operator lexical.extra
+      (dropped_with (key_kinds key ++ (MarkerMarkerComparison ∷ [])))
+  extra_and_key : {key : MarkerValueString} {operator : MarkerOperator} →
+      Means lexical.extra operator (text_key key)
+      (dropped_with (key_kinds key ++ (ExtraInvalidComparison ∷ [])))
+  two_extras : {operator : MarkerOperator} →
+      Means lexical.extra operator lexical.extra (dropped_with (ExtraInvalidComparison ∷ []))
+  two_texts : {s t : List ℕ} {operator : MarkerOperator} →
+      Means (quoted s) operator (quoted t) (dropped_with (StringStringComparison ∷ []))
+  version_and_text : {key : MarkerValueVersion} {operator : MarkerOperator} {t : List ℕ}
+      {m : Meaning} →
+      MeansBehind key operator t m → Means (version_key key) operator (quoted t) m
+  text_and_version : {key : MarkerValueVersion} {operator : MarkerOperator} {t : List ℕ}
+      {m : Meaning} →
+      MeansBefore key (turned operator) t m → Means (quoted t) operator (version_key key) m
+  version_and_key : {left : MarkerValueVersion} {right : MarkerValueString}
+      {operator : MarkerOperator} →
+      Means (version_key left) operator (text_key right)
+      (dropped_with (key_kinds right ++ (Pep440Error ∷ [])))
+  version_and_extra : {key : MarkerValueVersion} {operator : MarkerOperator} →
+      Means (version_key key) operator lexical.extra (dropped_with (Pep440Error ∷ []))
+  two_versions : {left right : MarkerValueVersion} {operator : MarkerOperator} →
+      Means (version_key left) operator (version_key right) (dropped_with (Pep440Error ∷ []))
+  key_and_version : {left : MarkerValueString} {right : MarkerValueVersion}
+      {operator : MarkerOperator} →
+      Means (text_key left) operator (version_key right)
+      (dropped_with (key_kinds left ++ (MarkerMarkerComparison ∷ [])))
+  extra_and_version : {key : MarkerValueVersion} {operator : MarkerOperator} →
+      Means lexical.extra operator (version_key key) (dropped_with (ExtraInvalidComparison ∷ []))
 
 -- a comparison at the front of the text, and what is left behind it
 pub data Compared : List ℕ → List ℕ → Meaning → Type 0 where
-  compared : {input output : List ℕ} {left right : Value} {operator : MarkerOperator} {m : Meaning} →
+  compared : {input output : List ℕ} {left right : Value} {operator : MarkerOperator}
+      {m : Meaning} →
       Sides input output left operator right → Means left operator right m → Compared input output m
 
 -- `extra` and this text, with the operator between them, come to this
 pub record MeansExtra (t : List ℕ) (operator : MarkerOperator) (m : Meaning) : Type 0 where
   pub which : Extra
-  pub kinds : List MarkerWarningKind
+  pub kinds : Kinds
   pub is_extra : IsExtra t which kinds
   pub means : m ≡ extra_meaning operator which kinds

@@ -1,12 +1,13 @@
--- What an expression means: a set of valuations. (PEP 508, "Environment Markers"; the points are this project's.)
+-- What an expression means: a set of valuations (PEP 508, "Environment Markers", which has no
+-- points).
 use Rattle.std.specs.Prelude.{ℕ, Bool, not, List, Option, Some, None, string_bytes}
 use Rattle.version_ranges.specs.Point.{Point}
 use Rattle.pep440_version.specs.Parts.{Parts}
 use Rattle.pep440_specifier.specs.Specifier.{Specifier}
 use Rattle.pep440_rs.specs.Intervals as releases
 use Rattle.pep440_rs.specs.Intervals.{is_in}
-use Rattle.pep440_rs.specs.PythonVersion.{python_is_in, IsPythonAtEnd}
-use Rattle.pep440_rs.specs.Lists.{is_listed, is_minor_listed, is_in_or_not, IsListAtEnd}
+use Rattle.pep440_rs.specs.PythonVersion.{python_is_in, PythonOverflows}
+use Rattle.pep440_rs.specs.Lists.{is_listed, is_minor_listed, is_in_or_not, ListOverflows}
 use Rattle.marker_words.specs.declared.key.MarkerValueVersion.{MarkerValueVersion}
 use Rattle.marker_words.specs.declared.key.MarkerValueVersion.TheVariants.{ImplementationVersion, PythonFullVersion, PythonVersion}
 use Rattle.marker_words.specs.declared.key.VersionVariable.{VersionVariable}
@@ -77,7 +78,8 @@ holds_text In key value v = v.inside (variable_of key) value
 holds_text NotIn key value v = not (v.inside (variable_of key) value)
 holds_text Contains key value v = v.contains (variable_of key) value
 holds_text NotContains key value v = not (v.contains (variable_of key) value)
-holds_text operator key value v = holds_beside operator (beside text_cmp (v.text (variable_of key)) value)
+holds_text operator key value v =
+    holds_beside operator (beside text_cmp (v.text (variable_of key)) value)
 
 abbrev pub holds_extra : Extra → Valuation → Bool
 holds_extra (name n) v = v.extra n
@@ -86,18 +88,19 @@ holds_extra (arbitrary t) v = v.arbitrary t
 -- whether a valuation is in the set of an expression
 abbrev pub holds : Test → Valuation → Bool
 holds (version key specifier) v = holds_version key specifier (v.version (version_variable_of key))
-holds (version_in key versions negated) v = is_in_or_not negated (holds_in key versions (v.version (version_variable_of key)))
+holds (version_in key versions negated) v =
+    is_in_or_not negated (holds_in key versions (v.version (version_variable_of key)))
 holds (text key operator value) v = holds_text operator key value v
 holds (extra extra_operators.Equal x) v = holds_extra x v
 holds (extra extra_operators.NotEqual x) v = not (holds_extra x v)
 
 -- the bounds of the set would raise the largest number of a version
-abbrev pub IsAtEnd : Test → Type 0
-IsAtEnd (version ImplementationVersion s) = releases.IsAtEnd s.operator s.version.release
-IsAtEnd (version PythonFullVersion s) = releases.IsAtEnd s.operator s.version.release
-IsAtEnd (version PythonVersion s) = IsPythonAtEnd s.operator s.version.release
-IsAtEnd (version_in ImplementationVersion versions negated) = ⊥
-IsAtEnd (version_in PythonFullVersion versions negated) = ⊥
-IsAtEnd (version_in PythonVersion versions negated) = IsListAtEnd versions
-IsAtEnd (text key operator value) = ⊥
-IsAtEnd (extra operator x) = ⊥
+abbrev pub Overflows : Test → Type 0
+Overflows (version ImplementationVersion s) = releases.Overflows s.operator s.version.release
+Overflows (version PythonFullVersion s) = releases.Overflows s.operator s.version.release
+Overflows (version PythonVersion s) = PythonOverflows s.operator s.version.release
+Overflows (version_in ImplementationVersion versions negated) = ⊥
+Overflows (version_in PythonFullVersion versions negated) = ⊥
+Overflows (version_in PythonVersion versions negated) = ListOverflows versions
+Overflows (text key operator value) = ⊥
+Overflows (extra operator x) = ⊥

@@ -5,3 +5,5 @@ pub mod VersionComparison
 pub mod Comparison
 pub mod Read
 pub mod Whole
+pub mod Reporting
+pub mod Error

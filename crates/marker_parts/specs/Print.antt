@@ -1,5 +1,5 @@
--- How expressions are printed. Texts are lists of bytes. (PEP 508, "Environment Markers"; which quotes are printed is this
--- project's own.)
+-- How expressions are printed (PEP 508, "Environment Markers", which leaves open which quotes are
+-- printed). Texts are lists of bytes.
 use Rattle.std.specs.Prelude.{ℕ, Bool, List, [], ◌∷◌, ◌++◌, codes, if◌then◌else◌, string_bytes}
 use Rattle.std.specs.List.{flat_map}
 use Rattle.pep440_version.specs.Parts.{Parts}
@@ -49,7 +49,13 @@ text_test_text key NotContains quoted = compared_text quoted (codes "not in") ke
 text_test_text key operator quoted = compared_text key (operator_text operator) quoted
 
 abbrev pub expression_text : MarkerExpression → List ℕ
-expression_text (expressions.Version key s) = compared_text (version_key_name key) (specifiers.operator_text s.operator) (codes "'" ++ (pattern_text s ++ codes "'"))
-expression_text (expressions.VersionIn key versions negated) = compared_text (version_key_name key) (in_text negated) (codes "'" ++ (list_text versions.items ++ codes "'"))
-expression_text (expressions.String key operator value) = text_test_text (variable_name (variable_of key)) operator (quoted_text (string_bytes value))
-expression_text (expressions.Extra operator x) = compared_text (codes "extra") (extra_operator_text operator) (quoted_text (extra_text x))
+expression_text (expressions.Version key s) =
+    compared_text (version_key_name key) (specifiers.operator_text s.operator)
+    (codes "'" ++ (pattern_text s ++ codes "'"))
+expression_text (expressions.VersionIn key versions negated) =
+    compared_text (version_key_name key) (in_text negated)
+    (codes "'" ++ (list_text versions.items ++ codes "'"))
+expression_text (expressions.String key operator value) =
+    text_test_text (variable_name (variable_of key)) operator (quoted_text (string_bytes value))
+expression_text (expressions.Extra operator x) =
+    compared_text (codes "extra") (extra_operator_text operator) (quoted_text (extra_text x))

@@ -1,34 +1,51 @@
--- What the reader of one comparison answers. Texts are bytes here, and the grammar speaks of their characters.
+-- What the reader of one comparison answers. Texts are bytes here, and the grammar speaks of their
+-- characters.
 use Rattle.std.specs.Prelude.{◌≡◌, ℕ, List, ◌++◌, Option, option_map, ⊤}
 use Rattle.std.specs.Str.{chars}
 use Rattle.marker_words.specs.declared.operator.MarkerOperator.{MarkerOperator}
+use Rattle.marker_words.specs.declared.parts.ComparisonRef.{ComparisonRef}
 use Rattle.marker_words.specs.Lexical.{Value, Sides}
+use Rattle.marker_words.specs.Part.{value_of}
 use Rattle.marker_words.specs.Fault.{IsWordFault}
 use Rattle.marker_warnings.specs.declared.warning.MarkerWarningKind.{MarkerWarningKind}
 use Rattle.marker_parts.specs.declared.expression.MarkerExpression.{MarkerExpression}
-use Rattle.marker_parts.specs.declared.outcome.Outcome.{Outcome}
+use Rattle.marker_parts.specs.declared.meaning.Outcome.{Outcome}
 use Rattle.marker_parts.specs.declared.comparison.ComparisonError.{ComparisonError}
 use Rattle.marker_parts.specs.declared.comparison.ComparisonError.TheVariants.{OutOfMemory, Fault}
 use Rattle.marker_parts.specs.Expression.{test_of}
-use Rattle.marker_parts.specs.Comparison.{Meaning, Compared}
+use Rattle.marker_parts.specs.Comparison.{Meaning, Means, Compared}
 
 abbrev pub meaning_of : Outcome → Meaning
-meaning_of outcome = record { test = option_map test_of outcome.expression; kinds = outcome.kinds.items }
+meaning_of outcome = record {
+  test = option_map test_of outcome.expression;
+  kinds = outcome.kinds.items;
+}
 
--- A comparison stands at the front of the text, and `rest` behind it. The expression is what it asks, or nothing where
--- it is dropped, and the kinds of its warnings stand behind the old ones.
-pub record ReadsComparison (text rest : List ℕ) (expression : Option MarkerExpression) (old new : List MarkerWarningKind) : Type 0 where
+-- what the two sides of a comparison and the operator between them come to
+abbrev pub IsMeaningOf : ComparisonRef → Meaning → Type 0
+IsMeaningOf c = Means (value_of c.left) c.operator (value_of c.right)
+
+-- A comparison stands at the front of the text, and `rest` behind it. The expression is what it
+-- asks, or nothing where it is dropped, and the kinds of its warnings stand behind the old ones.
+pub record ReadsComparison (text rest : List ℕ) (expression : Option MarkerExpression)
+    (old new : List MarkerWarningKind) : Type 0 where
   pub meaning : Meaning
   pub compared : Compared (chars text) (chars rest) meaning
   pub test : option_map test_of expression ≡ meaning.test
   pub kinds : new ≡ old ++ meaning.kinds
 
+-- no two values with an operator between them stand at the front
+abbrev pub HasNoSides : List ℕ → Type 0
+HasNoSides input = (output : List ℕ) (left right : Value) (operator : MarkerOperator) →
+    Sides input output left operator right → ⊥
+
 -- no comparison stands there
 pub record HasNoComparison (input : List ℕ) : Type 0 where
-  pub no_sides : (output : List ℕ) (left right : Value) (operator : MarkerOperator) → Sides input output left operator right → ⊥
+  pub no_sides : HasNoSides input
   pub no_compared : (output : List ℕ) (m : Meaning) → Compared input output m → ⊥
 
--- why a comparison is not read: for want of memory, or since none stands there, which is told as a fault of the text
-abbrev pub IsRefused : List ℕ → ComparisonError → Type 0
-IsRefused text OutOfMemory = ⊤
-IsRefused text (Fault fault) = HasNoComparison (chars text) × IsWordFault text fault
+-- why a comparison is not read: for want of memory, or since none stands there, which is told as a
+-- fault of the text
+abbrev pub IsRefusal : List ℕ → ComparisonError → Type 0
+IsRefusal text OutOfMemory = ⊤
+IsRefusal text (Fault fault) = HasNoComparison (chars text) × IsWordFault text fault

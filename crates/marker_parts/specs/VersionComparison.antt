@@ -1,5 +1,5 @@
--- A version key beside a quoted text: what is asked, if anything is. (PEP 508, "Environment Markers", and PEP 440, "Version
--- specifiers"; lists of versions are this project's own.)
+-- A version key beside a quoted text: what is asked, if anything is (PEP 508, "Environment
+-- Markers", and PEP 440, "Version specifiers", which have no lists of versions).
 use Rattle.std.specs.Prelude.{ℕ, Bool, true, false, List, [], ◌∷◌}
 use Rattle.std.specs.Str.{chars}
 use Rattle.pep440_version.specs.Parts.{Parts}
@@ -17,7 +17,8 @@ use Rattle.marker_parts.specs.declared.version_operator.VersionOperator.TheVaria
 use Rattle.marker_parts.specs.Expression.{Test, version, version_in}
 use Rattle.marker_parts.specs.VersionList.{IsVersionList}
 
--- what an operator does with versions: it compares with one, or it looks in a list, and may be negated
+-- what an operator does with versions: it compares with one, or it looks in a list, and may be
+-- negated
 abbrev pub version_operator : MarkerOperator → VersionOperator
 version_operator Equal = Compare specifiers.Equal
 version_operator NotEqual = Compare specifiers.NotEqual
@@ -31,14 +32,21 @@ version_operator NotIn = Among true
 version_operator Contains = Neither
 version_operator NotContains = Neither
 
--- a version key and a text behind it ask this: the text is a pattern that the operator makes a specifier of, or a list
+-- a version key and a text behind it ask this: the text is a pattern that the operator makes a
+-- specifier of, or a list
 pub data Asks (key : MarkerValueVersion) (t : List ℕ) : VersionOperator → Test → Type 0 where
-  compares : {operator : Operator} {v : Parts} {star : Bool} {s : Specifier} → IsPatternText t v star → Makes operator v star s → Asks key t (Compare operator) (version key s)
-  lists : {negated : Bool} {versions : List Parts} → IsVersionList (chars t) versions → Asks key t (Among negated) (version_in key versions negated)
+  compares : {operator : Operator} {v : Parts} {star : Bool} {s : Specifier} →
+      IsPatternText t v star → Makes operator v star s →
+      Asks key t (Compare operator) (version key s)
+  lists : {negated : Bool} {versions : List Parts} → IsVersionList (chars t) versions →
+      Asks key t (Among negated) (version_in key versions negated)
 
--- a version key and a text before it ask this, where the operator stands between them turned: the text is a version
+-- a version key and a text before it ask this, where the operator stands between them turned: the
+-- text is a version
 pub data AsksBefore (key : MarkerValueVersion) (t : List ℕ) : VersionOperator → Test → Type 0 where
-  compares_before : {operator : Operator} {v : Parts} {s : Specifier} → IsVersionText t v → Makes operator v false s → AsksBefore key t (Compare operator) (version key s)
+  compares_before : {operator : Operator} {v : Parts} {s : Specifier} →
+      IsVersionText t v → Makes operator v false s →
+      AsksBefore key t (Compare operator) (version key s)
 
 -- what is warned of a version key that asks nothing of a text behind it: a list is warned of twice
 abbrev pub refused_kinds : VersionOperator → List MarkerWarningKind

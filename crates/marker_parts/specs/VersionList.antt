@@ -1,15 +1,20 @@
--- Lists of versions: what a version key is compared with by `in` and `not in`. (This project's own.)
+-- Lists of versions: what a version key is compared with by `in` and `not in`.
 use Rattle.std.specs.Prelude.{ℕ, List, [], ◌∷◌, encode_utf8_all}
 use Rattle.pep508_text.specs.Run.{Run, Spaces}
 use Rattle.pep508_text.specs.declared.classes.Class.TheVariants.{NotSpace}
 use Rattle.pep440_version.specs.Parts.{Parts}
 use Rattle.pep440_version.specs.Grammar.{IsVersionText}
 
--- an entry, as its bytes: behind white space, if there is any, the longest run of characters that are no white space
+-- an entry, as its bytes: behind white space, if there is any, the longest run of characters that
+-- are no white space
 pub data IsEntry : List ℕ → List ℕ → List ℕ → Type 0 where
-  run : {input start word rest : List ℕ} {c : ℕ} → Spaces input start → Run NotSpace start (c ∷ word) rest → IsEntry input (encode_utf8_all (c ∷ word)) rest
+  run : {input start word rest : List ℕ} {c : ℕ} →
+      Spaces input start → Run NotSpace start (c ∷ word) rest →
+      IsEntry input (encode_utf8_all (c ∷ word)) rest
 
 -- the entries are texts of these versions
 pub data IsVersionList : List ℕ → List Parts → Type 0 where
   no_entry : {input : List ℕ} → Spaces input [] → IsVersionList input []
-  entry : {input word rest : List ℕ} {v : Parts} {versions : List Parts} → IsEntry input word rest → IsVersionText word v → IsVersionList rest versions → IsVersionList input (v ∷ versions)
+  entry : {input word rest : List ℕ} {v : Parts} {versions : List Parts} →
+      IsEntry input word rest → IsVersionText word v → IsVersionList rest versions →
+      IsVersionList input (v ∷ versions)

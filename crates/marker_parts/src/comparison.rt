@@ -2,10 +2,10 @@
 
 ghost use Rattle.std.specs.Prelude.{◌≡◌, ◌<◌, IfErr, IfOk, OnErr, length};
 ghost use Rattle.pep508_text.specs.Suffix.{IsSuffix};
-ghost use Rattle.marker_parts.specs.Read.{ReadsComparison, IsRefused};
+ghost use Rattle.marker_parts.specs.Read.{ReadsComparison, IsRefusal};
 
 use crate::expression::MarkerExpression;
-use crate::outcome::Outcome;
+use crate::meaning::Outcome;
 use marker_warnings::MarkerWarningKind;
 use marker_words::{Fault, sides};
 use std::alloc::{AllocError, Global};
@@ -39,8 +39,8 @@ impl<'a> From<Fault<'a>> for ComparisonError<'a> {
     }
 }
 
-/// Reads the comparison at the front of the text: its expression, or nothing where it is dropped, and the
-/// text that is left. The kinds of its warnings are put at the end of the list.
+/// Reads the comparison at the front of the text: its expression, or nothing where it is dropped,
+/// and the text that is left. The kinds of its warnings are put at the end of the list.
 ///
 /// A refusal leaves the list as it was.
 #[tactic(auto, using(crate::proofs::ComparisonLaws::no_comparison))]
@@ -49,11 +49,12 @@ pub fn read_comparison<'a>(
     text: &'a str,
     kinds: &mut Vec<MarkerWarningKind>,
 ) -> Result<(Option<MarkerExpression>, &'a str), ComparisonError<'a>>
-    ensures found { IfOk result (λ read. ReadsComparison text.now read.1.now read.0 kinds.old.items kinds.new.items) }
+    ensures found { IfOk result (λ read.
+        ReadsComparison text.now read.1.now read.0 kinds.old.items kinds.new.items) }
     ensures suffix { IfOk result (λ read. IsSuffix text.now read.1.now) }
     ensures shorter { IfOk result (λ read. length read.1.now < length text.now) }
 
-    ensures refused { IfErr result (IsRefused text.now) }
+    ensures refused { IfErr result (IsRefusal text.now) }
     ensures unchanged { OnErr result (kinds.new.items ≡ kinds.old.items) }
 {
     let (comparison, rest) = sides(text)?;

@@ -7,7 +7,8 @@ ghost use Rattle.marker_parts.specs.Print.{expression_text, in_text, list_text, 
 
 use crate::expression::MarkerExpression;
 use marker_words::{MarkerOperator, Quoted};
-use pep440_rs::{Version, VersionSpecifier};
+use pep440_specifier::VersionSpecifier;
+use pep440_version::Version;
 use std::fmt;
 
 fn in_text(negated: bool) -> &'static str
@@ -21,7 +22,8 @@ fn write_pattern<W: fmt::Write>(
     specifier: &VersionSpecifier,
     f: &mut fmt::Formatter<W>,
 ) -> fmt::Result
-    ensures { DisplaysOnOk W.write_str_gives f.old result (Some (pattern_text specifier.now)) f.new }
+    ensures { DisplaysOnOk W.write_str_gives f.old result
+        (Some (pattern_text specifier.now)) f.new }
 {
     let version = specifier.version();
     write!(f, "{version}")?;
@@ -32,7 +34,8 @@ fn write_pattern<W: fmt::Write>(
 }
 
 fn write_others<W: fmt::Write>(versions: &[Version], f: &mut fmt::Formatter<W>) -> fmt::Result
-    ensures { DisplaysOnOk W.write_str_gives f.old result (Some (flat_map next_version_text versions.now)) f.new }
+    ensures { DisplaysOnOk W.write_str_gives f.old result
+        (Some (flat_map next_version_text versions.now)) f.new }
 {
     for version in versions {
         write!(f, " {version}")?;
@@ -53,9 +56,9 @@ fn write_list<W: fmt::Write>(versions: &[Version], f: &mut fmt::Formatter<W>) ->
     }
 }
 
-/// Writes the key by its modern name, the operator and the value in `'`, or in `"` where it holds a `'`, as
-/// `os_name == 'posix'`. `Contains` and `NotContains` have the value first. A version has `.*` inside the quotes for a
-/// star, and the versions of a list are joined by one space.
+/// Writes the key by its modern name, the operator and the value in `'`, or in `"` where it holds a
+/// `'`, as `os_name == 'posix'`. `Contains` and `NotContains` have the value first. A version has
+/// `.*` inside the quotes for a star, and the versions of a list are joined by one space.
 impl fmt::Display for MarkerExpression {
     ghost output = { λ expression. Some (expression_text expression) };
 

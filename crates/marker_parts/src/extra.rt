@@ -41,8 +41,6 @@ impl Clone for MarkerValueExtra {
 }
 
 impl MarkerValueExtra {
-    ghost use Rattle.marker_environment.specs.Environment.{Values, valuation_of};
-    ghost use Rattle.marker_parts.specs.Expression.{extra_of, holds_extra};
     ghost use Rattle.marker_parts.specs.Print.{extra_text};
 
     pub(crate) fn text(&self) -> &str
@@ -51,16 +49,6 @@ impl MarkerValueExtra {
         match self {
             MarkerValueExtra::Extra(name) => name.as_str(),
             MarkerValueExtra::Arbitrary(text) => text.as_str(),
-        }
-    }
-
-    // A text that is no name is in no list.
-    pub(crate) fn is_in(&self, extras: &[ExtraName]) -> bool
-        ensures { (values : Values) → result ≡ holds_extra (extra_of self.now) (valuation_of values extras.now) }
-    {
-        match self {
-            MarkerValueExtra::Extra(name) => extras.contains(name),
-            MarkerValueExtra::Arbitrary(_) => false,
         }
     }
 }

@@ -6,7 +6,8 @@ ghost use Rattle.marker_parts.specs.Whole.{IsComparison};
 
 /// One comparison at most stands at the front of a text, and it has one meaning.
 pub fn comparison_is_unique()
-    ensures { (i o p : List ℕ) (m n : Meaning) → Compared i o m → Compared i p n → (o ≡ p) × (m ≡ n) }
+    ensures { (i o p : List ℕ) (m n : Meaning) →
+        Compared i o m → Compared i p n → (o ≡ p) × (m ≡ n) }
 {}
 
 /// A whole text is one comparison at most, and it has one meaning.

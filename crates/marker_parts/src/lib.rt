@@ -8,7 +8,7 @@ mod display;
 mod expression;
 mod extra;
 pub mod laws;
-mod outcome;
+mod meaning;
 mod parse;
 mod version_comparison;
 mod version_operator;

@@ -6,7 +6,10 @@ ghost use Rattle.pep508_text.specs.Run.{after_space};
 ghost use Rattle.marker_warnings.specs.declared.warning.MarkerWarningKind.{MarkerWarningKind};
 ghost use Rattle.marker_warnings.specs.Kinds.{Adds, Keeps};
 ghost use Rattle.marker_words.specs.Fault.{IsWordFault};
-ghost use Rattle.marker_parts.specs.Whole.{HasBegun, IsRead, IsUnread, Tells, Becomes, IsRefusal, OnFault};
+ghost use Rattle.marker_parts.specs.Whole as whole;
+ghost use Rattle.marker_parts.specs.Whole.{IsRead};
+ghost use Rattle.marker_parts.specs.Reporting.{HasBegun, ReportsSome};
+ghost use Rattle.marker_parts.specs.Error.{Tells, Becomes, IsRefusal, OnFault};
 
 use crate::comparison::{ComparisonError, read_comparison};
 use crate::expression::MarkerExpression;
@@ -17,7 +20,8 @@ use pep508_text::{first, last, skip_space};
 use refusal::Refusal;
 use std::alloc::{AllocError, Global};
 
-// What is wrong where more than white space follows the comparison of a text. The last character is left out of the span.
+// What is wrong where more than white space follows the comparison of a text. The last character is
+// left out of the span.
 fn trailing(rest: &str) -> Option<Fault<'_>>
     ensures none { IfNone result (after_space (chars rest.now) ≡ []) }
     ensures some { IfSome result (λ fault. after_space (chars rest.now) ≢ []) }
@@ -43,7 +47,7 @@ fn read_whole(
     text: &str,
 ) -> Result<(Option<MarkerExpression>, Vec<MarkerWarningKind>), ComparisonError<'_>>
     ensures found { IfOk result (λ read. IsRead text.now read.0 read.1.items) }
-    ensures refused { IfErr result (IsUnread text.now) }
+    ensures refused { IfErr result (whole.IsRefusal text.now) }
 {
     let mut kinds = Vec::new(alloc);
     let (expression, rest) = match read_comparison(alloc, text, &mut kinds) {
@@ -74,8 +78,8 @@ fn error_of_fault<T: Pep508Url>(
 }
 
 impl ComparisonError<'_> {
-    /// The refusal of a text with this fault: its message, its place, and a copy of the text. It is `OutOfMemory` where
-    /// there is no memory for them.
+    /// The refusal of a text with this fault: its message, its place, and a copy of the text. It is
+    /// `OutOfMemory` where there is no memory for them.
     pub fn refusal<T: Pep508Url>(self, alloc: Global, text: &str) -> Refusal<Pep508Error<T>>
         ensures { Becomes text.now self.entry result }
     {
@@ -106,7 +110,8 @@ fn warning_of(kind: MarkerWarningKind) -> &'static str {
     }
 }
 
-/// Tells each kind with a warning of its own, in order. Where one is refused those before it have been told.
+/// Tells each kind with a warning of its own, in order. Where one is refused those before it have
+/// been told.
 #[tactic(auto, using(crate::proofs::WholeLaws::adds_nothing, crate::proofs::WholeLaws::adds_more))]
 pub fn report_kinds<R: Reporter>(
     alloc: Global,
@@ -115,7 +120,8 @@ pub fn report_kinds<R: Reporter>(
 ) -> Result<(), AllocError>
     requires { R.can_report reporter.old }
     ensures added { OnOk result (Adds (R.kinds reporter.old) (R.kinds reporter.new) kinds.now) }
-    ensures begun { OnErr result ((front back : List MarkerWarningKind) × (kinds.now ≡ front ++ back) × Adds (R.kinds reporter.old) (R.kinds reporter.new) front) }
+    ensures begun { OnErr result
+        (ReportsSome kinds.now (R.kinds reporter.old) (R.kinds reporter.new)) }
     ensures again { R.can_report reporter.new }
 {
     for kind in kinds {
@@ -126,15 +132,17 @@ pub fn report_kinds<R: Reporter>(
 }
 
 impl MarkerExpression {
-    /// Reads one comparison with white space around it, which reports nothing. `None` where it is dropped.
+    /// Reads one comparison with white space around it, which reports nothing. `None` where it is
+    /// dropped.
     ///
-    /// Where no comparison stands there, or more follows it, the fault has the message, the place and the text. A refusal
-    /// is never `SegmentAtEnd`.
+    /// Where no comparison stands there, or more follows it, the fault has the message, the place
+    /// and the text. A refusal is never `SegmentAtEnd`.
     pub fn parse<T: Pep508Url>(
         alloc: Global,
         text: &str,
     ) -> Result<Option<MarkerExpression>, Refusal<Pep508Error<T>>>
-        ensures found { IfOk result (λ expression. (kinds : List MarkerWarningKind) × IsRead text.now expression kinds) }
+        ensures found { IfOk result (λ expression.
+            (kinds : List MarkerWarningKind) × IsRead text.now expression kinds) }
         ensures refused { IfErr result (IsRefusal text.now) }
     {
         match read_whole(alloc, text) {
@@ -143,18 +151,23 @@ impl MarkerExpression {
         }
     }
 
-    /// The same, with the warnings reported in the order of the text. A text that is at fault has reported nothing, and where
-    /// memory runs out the first of the warnings, or none, have been reported.
+    /// The same, with the warnings reported in the order of the text. A text that is at fault has
+    /// reported nothing, and where memory runs out the first of the warnings, or none, have been
+    /// reported.
     pub fn parse_reporter<T: Pep508Url, R: Reporter>(
         alloc: Global,
         text: &str,
         reporter: &mut R,
     ) -> Result<Option<MarkerExpression>, Refusal<Pep508Error<T>>>
         requires { R.can_report reporter.old }
-        ensures found { IfOk result (λ expression. (kinds : List MarkerWarningKind) × IsRead text.now expression kinds × Adds (R.kinds reporter.old) (R.kinds reporter.new) kinds) }
+        ensures found { IfOk result (λ expression. (kinds : List MarkerWarningKind)
+            × IsRead text.now expression kinds
+            × Adds (R.kinds reporter.old) (R.kinds reporter.new) kinds) }
         ensures refused { IfErr result (IsRefusal text.now) }
-        ensures unreported { IfErr result (λ refusal. OnFault refusal (Keeps (R.kinds reporter.old) (R.kinds reporter.new))) }
-        ensures begun { IfErr result (λ _. HasBegun text.now (R.kinds reporter.old) (R.kinds reporter.new)) }
+        ensures unreported { IfErr result (λ refusal.
+            OnFault refusal (Keeps (R.kinds reporter.old) (R.kinds reporter.new))) }
+        ensures begun { IfErr result (λ _.
+            HasBegun IsRead text.now (R.kinds reporter.old) (R.kinds reporter.new)) }
         ensures again { R.can_report reporter.new }
     {
         match read_whole(alloc, text) {

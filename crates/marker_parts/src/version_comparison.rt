@@ -14,7 +14,8 @@ ghost use Rattle.marker_parts.specs.VersionComparison.{Asks, AsksBefore};
 use crate::expression::MarkerExpression;
 use crate::version_operator::VersionOperator;
 use marker_words::MarkerValueVersion;
-use pep440_rs::{Operator, Version, VersionPattern, VersionSpecifier};
+use pep440_specifier::{Operator, VersionSpecifier};
+use pep440_version::{Version, VersionPattern};
 use pep508_text::{Class, skip_space, split_run};
 use refusal::unless_fault;
 use std::alloc::{AllocError, Global};
@@ -26,8 +27,10 @@ pub(crate) fn asked_behind(
     operator: VersionOperator,
     text: &str,
 ) -> Result<Option<MarkerExpression>, AllocError>
-    ensures found { IfOk result (λ asked. IfSome asked (λ expression. Asks key text.now operator (test_of expression))) }
-    ensures none { IfOk result (λ asked. IfNone asked ((test : Test) → ¬ Asks key text.now operator test)) }
+    ensures found { IfOk result (λ asked. IfSome asked (λ expression.
+        Asks key text.now operator (test_of expression))) }
+    ensures none { IfOk result (λ asked. IfNone asked (
+        (test : Test) → ¬ Asks key text.now operator test)) }
 {
     match operator {
         VersionOperator::Compare(operator) => {
@@ -60,8 +63,10 @@ pub(crate) fn asked_before(
     operator: VersionOperator,
     text: &str,
 ) -> Result<Option<MarkerExpression>, AllocError>
-    ensures found { IfOk result (λ asked. IfSome asked (λ expression. AsksBefore key text.now operator (test_of expression))) }
-    ensures none { IfOk result (λ asked. IfNone asked ((test : Test) → ¬ AsksBefore key text.now operator test)) }
+    ensures found { IfOk result (λ asked. IfSome asked (λ expression.
+        AsksBefore key text.now operator (test_of expression))) }
+    ensures none { IfOk result (λ asked. IfNone asked (
+        (test : Test) → ¬ AsksBefore key text.now operator test)) }
 {
     match operator {
         VersionOperator::Compare(operator) => {
@@ -78,14 +83,16 @@ pub(crate) fn asked_before(
 }
 
 fn pattern(alloc: Global, text: &str) -> Result<Option<VersionPattern>, AllocError>
-    ensures found { IfOk result (λ found. IfSome found (λ pattern. IsPatternText text.now pattern.version pattern.wildcard)) }
-    ensures none { IfOk result (λ found. IfNone found ((v : Parts) (star : Bool) → ¬ IsPatternText text.now v star)) }
+    ensures found { IfOk result (λ found. IfSome found (λ pattern.
+        IsPatternText text.now pattern.version pattern.wildcard)) }
+    ensures none { IfOk result (λ found. IfNone found (
+        (v : Parts) (star : Bool) → ¬ IsPatternText text.now v star)) }
 {
     unless_fault(VersionPattern::parse(alloc, text))
 }
 
 fn version(alloc: Global, text: &str) -> Result<Option<Version>, AllocError>
-    ensures found { IfOk result (λ found. IfSome found (λ version. IsVersionText text.now version)) }
+    ensures found { IfOk result (λ found. IfSome found (IsVersionText text.now)) }
     ensures none { IfOk result (λ found. IfNone found ((v : Parts) → ¬ IsVersionText text.now v)) }
 {
     unless_fault(Version::parse(alloc, text))
@@ -94,7 +101,8 @@ fn version(alloc: Global, text: &str) -> Result<Option<Version>, AllocError>
 // The specifier of an operator and a pattern, or `None` where they do not go together.
 fn specifier(operator: Operator, pattern: VersionPattern) -> Option<VersionSpecifier>
     ensures found { IfSome result (λ s. Makes operator pattern.version pattern.wildcard s) }
-    ensures none { IfNone result ((s : Specifier) → Makes operator pattern.version pattern.wildcard s → ⊥) }
+    ensures none { IfNone result (
+        (s : Specifier) → Makes operator pattern.version pattern.wildcard s → ⊥) }
 {
     match VersionSpecifier::from_pattern(operator, pattern) {
         Ok(specifier) => Some(specifier),
@@ -114,7 +122,7 @@ fn plain_specifier(operator: Operator, version: Version) -> Option<VersionSpecif
 }
 
 // The next run of characters that are no white space, and what follows it.
-#[tactic(auto, using(crate::proofs::VersionListLaws::entry_here, crate::proofs::VersionListLaws::no_entry_here, pep508_text::proofs::SuffixLaws::suffix_then))]
+#[tactic(auto, using(crate::proofs::VersionListLaws::next_entry))]
 fn next_entry(text: &str) -> Option<(&str, &str)>
     ensures found { IfSome result (λ x. IsEntry (chars text.now) x.0.now (chars x.1.now)) }
     ensures none { IfNone result (Spaces (chars text.now) []) }
@@ -131,8 +139,10 @@ fn next_entry(text: &str) -> Option<(&str, &str)>
 
 // The versions of a list, or `None` where an entry is no version.
 fn version_list(alloc: Global, text: &str) -> Result<Option<Vec<Version>>, AllocError>
-    ensures found { IfOk result (λ found. IfSome found (λ versions. IsVersionList (chars text.now) versions.items)) }
-    ensures none { IfOk result (λ found. IfNone found ((versions : List Parts) → ¬ IsVersionList (chars text.now) versions)) }
+    ensures found { IfOk result (λ found. IfSome found (λ versions.
+        IsVersionList (chars text.now) versions.items)) }
+    ensures none { IfOk result (λ found. IfNone found (
+        (versions : List Parts) → ¬ IsVersionList (chars text.now) versions)) }
 {
     let mut versions = Vec::new(alloc);
     let mut rest = text;

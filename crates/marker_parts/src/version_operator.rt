@@ -4,7 +4,7 @@ ghost use Rattle.std.specs.Prelude.{◌≡◌};
 ghost use Rattle.marker_parts.specs.VersionComparison.{version_operator};
 
 use marker_words::MarkerOperator;
-use pep440_rs::Operator;
+use pep440_specifier::Operator;
 
 // What an operator does with versions.
 #[derive(Clone, Copy, Debug, PartialEq, Eq)]

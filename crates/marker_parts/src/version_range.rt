@@ -5,38 +5,45 @@ ghost use Rattle.version_ranges.specs.Point.{Point};
 ghost use Rattle.version_ranges.specs.Ranges.{contains_point};
 ghost use Rattle.pep440_version.specs.Order.{version_cmp};
 ghost use Rattle.pep440_version.specs.Parts.{Parts};
-ghost use Rattle.pep440_rs.specs.Intervals.{IsRefusedAt};
+ghost use Rattle.pep440_rs.specs.Intervals.{IsRefusal};
 ghost use Rattle.pep440_rs.specs.Lists.{is_in_or_not};
 ghost use Rattle.marker_environment.specs.Valuation.{Valuation};
 ghost use Rattle.marker_parts.specs.Expression as asked;
-ghost use Rattle.marker_parts.specs.Expression.{test_of, asked_version, holds, holds_version, holds_in, version_variable_of, IsAtEnd};
+ghost use Rattle.marker_parts.specs.Expression.{test_of, asked_version, holds, holds_version, holds_in, version_variable_of, Overflows};
 
 use crate::expression::MarkerExpression;
 use marker_words::{MarkerValueVersion, VersionVariable};
 use pep440_rs::{
-    Ranges, Refusal, Version, VersionSpecifier, python_version_list_to_range,
-    python_version_specifier_to_range, release_specifier_to_range, version_list_to_range,
+    python_version_list_to_range, python_version_specifier_to_range, release_specifier_to_range,
+    version_list_to_range,
 };
+use pep440_specifier::VersionSpecifier;
+use pep440_version::Version;
+use refusal::Refusal;
 use std::alloc::Global;
 use std::convert::Infallible;
+use version_ranges::Ranges;
 
 impl MarkerExpression {
-    /// The variable of a comparison with versions, and the points of that variable at which the comparison holds. `None`
-    /// for a comparison with a text or an extra.
+    /// The variable of a comparison with versions, and the points of that variable at which the
+    /// comparison holds. `None` for a comparison with a text or an extra.
     ///
-    /// It is refused as `SegmentAtEnd` where a bound of the set would raise 18446744073709551615, and else for want of
-    /// memory alone.
+    /// It is refused as `SegmentAtEnd` where a bound of the set would raise 18446744073709551615,
+    /// and else for want of memory alone.
     pub fn version_range(
         &self,
         alloc: Global,
     ) -> Result<Option<(VersionVariable, Ranges<Version>)>, Refusal<Infallible>>
-        ensures variable { IfOk result (λ found. IfSome found (λ range. asked_version (test_of self.now) ≡ Some range.0)) }
-        ensures set { IfOk result (λ found. IfSome found (λ range. (v : Valuation) → holds (test_of self.now) v ≡ contains_point version_cmp range.1 (v.version range.0))) }
-        ensures none { IfOk result (λ found. IfNone found (asked_version (test_of self.now) ≡ None)) }
+        ensures variable { IfOk result (λ found. IfSome found (λ range.
+            asked_version (test_of self.now) ≡ Some range.0)) }
+        ensures set { IfOk result (λ found. IfSome found (λ range. (v : Valuation) →
+            holds (test_of self.now) v ≡ contains_point version_cmp range.1 (v.version range.0))) }
+        ensures none { IfOk result (λ found. IfNone found (
+            asked_version (test_of self.now) ≡ None)) }
 
         // Only where the largest number would be raised is there none.
-        ensures not_at_end { OnOk result (¬ IsAtEnd (test_of self.now)) }
-        ensures refused { IfErr result (λ refusal. IsRefusedAt (IsAtEnd (test_of self.now)) refusal) }
+        ensures no_overflow { OnOk result (¬ Overflows (test_of self.now)) }
+        ensures refused { IfErr result (IsRefusal (Overflows (test_of self.now))) }
     {
         match self {
             MarkerExpression::Version { key, specifier } => {
@@ -62,9 +69,10 @@ fn specifier_range(
     key: MarkerValueVersion,
     specifier: &VersionSpecifier,
 ) -> Result<Ranges<Version>, Refusal<Infallible>>
-    ensures set { IfOk result (λ range. (point : Point Parts) → contains_point version_cmp range point ≡ holds_version key specifier.now point) }
-    ensures not_at_end { OnOk result (¬ IsAtEnd (asked.version key specifier.now)) }
-    ensures refused { IfErr result (λ refusal. IsRefusedAt (IsAtEnd (asked.version key specifier.now)) refusal) }
+    ensures set { IfOk result (λ range. (point : Point Parts) →
+        contains_point version_cmp range point ≡ holds_version key specifier.now point) }
+    ensures no_overflow { OnOk result (¬ Overflows (asked.version key specifier.now)) }
+    ensures refused { IfErr result (IsRefusal (Overflows (asked.version key specifier.now))) }
 {
     match key {
         MarkerValueVersion::ImplementationVersion | MarkerValueVersion::PythonFullVersion => {
@@ -81,9 +89,12 @@ fn list_range(
     versions: &[Version],
     negated: bool,
 ) -> Result<Ranges<Version>, Refusal<Infallible>>
-    ensures set { IfOk result (λ range. (point : Point Parts) → contains_point version_cmp range point ≡ is_in_or_not negated (holds_in key versions.now point)) }
-    ensures not_at_end { OnOk result (¬ IsAtEnd (asked.version_in key versions.now negated)) }
-    ensures refused { IfErr result (λ refusal. IsRefusedAt (IsAtEnd (asked.version_in key versions.now negated)) refusal) }
+    ensures set { IfOk result (λ range. (point : Point Parts) →
+        contains_point version_cmp range point
+        ≡ is_in_or_not negated (holds_in key versions.now point)) }
+    ensures no_overflow { OnOk result (¬ Overflows (asked.version_in key versions.now negated)) }
+    ensures refused { IfErr result (
+        IsRefusal (Overflows (asked.version_in key versions.now negated))) }
 {
     match key {
         MarkerValueVersion::ImplementationVersion | MarkerValueVersion::PythonFullVersion => {

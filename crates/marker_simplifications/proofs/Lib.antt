@@ -2,3 +2,4 @@ pub mod RangeLaws
 pub mod TrimLaws
 pub mod Assumptions
 pub mod Grants
+pub mod GrantSteps

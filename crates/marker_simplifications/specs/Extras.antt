@@ -1,4 +1,4 @@
--- Truths with extras that are granted. (This project's own.)
+-- Truths with extras that are granted.
 use Rattle.std.specs.Prelude.{◌≡◌, ℕ, Bool, ◌||◌, List}
 use Rattle.marker_environment.specs.Valuation.{Valuation}
 

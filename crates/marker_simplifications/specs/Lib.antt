@@ -1,3 +1,4 @@
 pub mod Python
 pub mod Extras
+pub mod Granting
 pub mod Simplified

@@ -1,5 +1,4 @@
--- Truths under a range of Python versions, which is taken for granted or asked for. (This project's
--- own.)
+-- Truths under a range of Python versions, which is taken for granted or asked for.
 use Rattle.std.specs.Prelude.{◌≡◌, Bool, true, false, ◌&&◌}
 use Rattle.std.specs.declared.ops.Bound.{Bound}
 use Rattle.std.specs.declared.ops.Bound.TheVariants.{Included, Excluded, Unbounded}

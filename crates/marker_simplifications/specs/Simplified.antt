@@ -1,4 +1,4 @@
--- Ids under a range of Python versions, and ids with extras set true. (This project's own.)
+-- Ids under a range of Python versions, and ids with extras set true.
 use Rattle.std.specs.Prelude.{◌≡◌, ℕ, ◌<◌, Bool, false, List, Some, slice_get}
 use Rattle.std.specs.Map.{lookup}
 use Rattle.std.specs.declared.ops.Bound.{Bound}

@@ -1,23 +1,25 @@
 //! Ids with extras that are granted.
 
-ghost use Rattle.std.specs.Prelude.{◌≡◌, IfNone, IfOk, IfSome, false, length};
+ghost use Rattle.std.specs.Prelude.{◌≡◌, ℕ, [], All, IfNone, IfOk, IfSome, List, OnOk, false, length};
 ghost use Rattle.std.specs.Fn.{FnReturnsAt};
 ghost use Rattle.marker_diagrams.specs.Diagram as diagram;
-ghost use Rattle.marker_diagrams.specs.Id.{is_negated};
 ghost use Rattle.marker_diagrams.specs.Diagram.{Keeps};
-ghost use Rattle.marker_nodes.specs.Node.{markers};
-ghost use Rattle.marker_simplifications.specs.Simplified.{AreGranted, AreKnown, AreUnder, Grants, IsGranted, IsTouched, IsUntouched};
+ghost use Rattle.marker_nodes.specs.Node.{Node, markers};
+ghost use Rattle.marker_simplifications.specs.Granting.{AreFoundAs, AreSettled, IsFoundAs, IsNext, IsPlain, IsUnknown, IsWanted, plain};
+ghost use Rattle.marker_simplifications.specs.Simplified.{AreKnown, AreUnder, Grants, IsGranted, IsTouched, IsUntouched};
 
 use marker_nodes::{Branches, Children, Node, NodeId, NodeTable, TruthVariable};
 use pep508_names::ExtraName;
 use smallvec::SmallVec;
-use std::alloc::AllocError;
+use std::alloc::{AllocError, Global};
 use std::collections::HashMap;
 
 /// The id with the extras set true for which the closure answers so, where it answers by a fixed
 /// set. It asks about them no more.
 ///
 /// Only memory can run out. What the ids of the table mean stays, also then.
+///
+/// Ids that wait for those below them stand in a list, so that depth costs memory and no stack.
 pub fn grant_extras<F: Fn(&ExtraName) -> bool>(
     nodes: &mut NodeTable,
     is_extra: &F,
@@ -31,99 +33,170 @@ pub fn grant_extras<F: Fn(&ExtraName) -> bool>(
     ensures granted { IfOk result (IsGranted nodes.new (FnReturnsAt F.Fn is_extra.now) id) }
 {
     let mut known = HashMap::new(nodes.allocator());
-    granted(nodes, &mut known, is_extra, id)
+    let mut pending = Vec::new(nodes.allocator());
+    loop {
+        if let Some(found) = granted(&known, id) {
+            return Ok(found);
+        }
+        let first = match next_unknown(&known, &mut pending) {
+            Some(next) => next,
+            None => id.negate(id),
+        };
+        let (lowest, made) = descend(nodes, &known, is_extra, &mut pending, first)?;
+        known.insert(lowest, made)?;
+    }
 }
 
-// The id with extras set true. What is known of ids without a sign grows.
-#[cycle(grant)]
-fn granted<F: Fn(&ExtraName) -> bool>(
-    nodes: &mut NodeTable,
-    known: &mut HashMap<NodeId, NodeId>,
-    is_extra: &F,
-    id: NodeId,
-) -> Result<NodeId, AllocError>
-    requires rules { diagram.IsStore markers nodes.old }
-    requires held { diagram.IsHeld nodes.old id }
-    requires callable { F.IsAlwaysCallable is_extra.now }
-    requires known { AreKnown nodes.old (FnReturnsAt F.Fn is_extra.now) known.old.entries }
-    ensures kept { Keeps markers nodes.old nodes.new }
-    ensures rules { diagram.IsStore markers nodes.new }
-    ensures granted { IfOk result (IsGranted nodes.new (FnReturnsAt F.Fn is_extra.now) id) }
-    ensures known { AreKnown nodes.new (FnReturnsAt F.Fn is_extra.now) known.new.entries }
+// The id with extras set true, by what is known of ids without signs.
+fn granted(known: &HashMap<NodeId, NodeId>, id: NodeId) -> Option<NodeId>
+    ensures granted { IfSome result (IsFoundAs known.now.entries id) }
+    ensures settled { IfSome result (λ t. ¬ IsUnknown known.now.entries (plain id)) }
+    ensures unknown { IfNone result (IsUnknown known.now.entries (plain id)) }
 {
-    if id.is_true() {
-        return Ok(id);
+    if let None = id.index() {
+        return Some(id);
     }
-    if id.is_false() {
-        return Ok(id);
+    match known.get(&id.negate(id)) {
+        Some(found) => Some(found.negate(id)),
+        None => None,
     }
-    let plain = id.negate(id);
-    if let Some(found) = known.get(&plain) {
-        return Ok(found.negate(id));
-    }
-    let made = granted_node(nodes, known, is_extra, plain)?;
-    known.insert(plain, made)?;
-    Ok(made.negate(id))
 }
 
-// The same of an id without a sign that is not known yet.
-#[cycle(grant)]
-fn granted_node<F: Fn(&ExtraName) -> bool>(
+// The last id of a list that is not known. It leaves the list, and so do those above it.
+fn next_unknown(known: &HashMap<NodeId, NodeId>, pending: &mut Vec<NodeId>) -> Option<NodeId>
+    ensures unknown { IfSome result (λ t. IsUnknown known.now.entries (plain t)) }
+    ensures plain { (n : ℕ) → All (IsPlain n) pending.old.items → All (IsPlain n) pending.new.items
+        × IfSome result (IsPlain n) }
+{
+    while let Some(id) = pending.pop() {
+        if let None = granted(known, id) {
+            return Some(id);
+        }
+    }
+    None
+}
+
+// An id that waits for none, this one or one below it, and what it is with extras set true. The ids
+// on the way to it, and those that they wait for, are added to the list.
+fn descend<F: Fn(&ExtraName) -> bool>(
     nodes: &mut NodeTable,
-    known: &mut HashMap<NodeId, NodeId>,
+    known: &HashMap<NodeId, NodeId>,
     is_extra: &F,
-    id: NodeId,
-) -> Result<NodeId, AllocError>
+    pending: &mut Vec<NodeId>,
+    first: NodeId,
+) -> Result<(NodeId, NodeId), AllocError>
     requires rules { diagram.IsStore markers nodes.old }
-    requires plain { is_negated id ≡ false }
-    requires held { diagram.IsHeld nodes.old id }
+    requires plain { IsPlain (length nodes.old) first }
+    requires unknown { IsUnknown known.now.entries first }
     requires callable { F.IsAlwaysCallable is_extra.now }
-    requires known { AreKnown nodes.old (FnReturnsAt F.Fn is_extra.now) known.old.entries }
+    requires known { AreKnown nodes.old (FnReturnsAt F.Fn is_extra.now) known.now.entries }
     ensures kept { Keeps markers nodes.old nodes.new }
     ensures rules { diagram.IsStore markers nodes.new }
-    ensures granted { IfOk result (IsGranted nodes.new (FnReturnsAt F.Fn is_extra.now) id) }
-    ensures known { AreKnown nodes.new (FnReturnsAt F.Fn is_extra.now) known.new.entries }
+    ensures unknown { IfOk result (λ r. IsUnknown known.now.entries r.0) }
+    ensures plain { IfOk result (λ r. (n : ℕ) → IsPlain n first → IsPlain n r.0) }
+    ensures granted { IfOk result (λ r. IsGranted nodes.new (FnReturnsAt F.Fn is_extra.now)
+        r.0 r.1) }
+    ensures pending { OnOk result ((n : ℕ) → IsPlain n first → All (IsPlain n) pending.old.items
+        → All (IsPlain n) pending.new.items) }
 {
-    match nodes.node(id) {
-        None => Ok(id),
-        Some(node) => {
-            if let Some(high) = granted_child(is_extra, node) {
-                return granted(nodes, known, is_extra, high);
+    let mut at = first;
+    loop {
+        match advance(nodes, known, is_extra, at)? {
+            Step::Made(made) => return Ok((at, made)),
+            Step::Waits(last, others) => {
+                pending.push(at)?;
+                pending.extend_from_slice(&others)?;
+                at = last;
             }
-            let branches = node.clone()?;
-            let children = branches.values(nodes.allocator())?;
-            let children = granted_all(nodes, known, is_extra, id, &children)?;
-            nodes.place(branches, children)
         }
     }
 }
 
-// The ids of a list, which stand below a parent, with extras set true.
-#[cycle(grant)]
-fn granted_all<F: Fn(&ExtraName) -> bool>(
+// What comes next for an id that is not known.
+enum Step {
+    // With extras set true it is this id.
+    Made(NodeId),
+    // It waits for these ids, which have no signs: the last one, and the others.
+    Waits(NodeId, Children),
+}
+
+// What comes next for an id without a sign.
+fn advance<F: Fn(&ExtraName) -> bool>(
     nodes: &mut NodeTable,
-    known: &mut HashMap<NodeId, NodeId>,
+    known: &HashMap<NodeId, NodeId>,
     is_extra: &F,
-    parent: NodeId,
+    id: NodeId,
+) -> Result<Step, AllocError>
+    requires rules { diagram.IsStore markers nodes.old }
+    requires plain { IsPlain (length nodes.old) id }
+    requires callable { F.IsAlwaysCallable is_extra.now }
+    requires known { AreKnown nodes.old (FnReturnsAt F.Fn is_extra.now) known.now.entries }
+    ensures kept { Keeps markers nodes.old nodes.new }
+    ensures rules { diagram.IsStore markers nodes.new }
+    ensures next { IfOk result (IsNext nodes.new (FnReturnsAt F.Fn is_extra.now)
+        known.now.entries id) }
+{
+    let alloc = nodes.allocator();
+    let Some(node) = nodes.node(id) else {
+        return Ok(Step::Made(id));
+    };
+    if let Some(high) = granted_child(is_extra, node) {
+        return Ok(match granted(known, high) {
+            Some(made) => Step::Made(made),
+            None => Step::Waits(high.negate(high), SmallVec::new(alloc)),
+        });
+    }
+    let ids = node.values(alloc)?;
+    let mut wanted = wanted(alloc, known, &ids)?;
+    if let Some(last) = wanted.pop() {
+        return Ok(Step::Waits(last, wanted));
+    }
+    let branches = node.clone()?;
+    let values = branches.values(alloc)?;
+    let children = granted_all(alloc, known, &values)?;
+    let made = nodes.place(branches, children)?;
+    Ok(Step::Made(made))
+}
+
+// The ids of a list that are not known, without their signs.
+fn wanted(
+    alloc: Global,
+    known: &HashMap<NodeId, NodeId>,
     ids: &[NodeId],
 ) -> Result<Children, AllocError>
-    requires rules { diagram.IsStore markers nodes.old }
-    requires under { AreUnder nodes.old parent ids.now }
-    requires callable { F.IsAlwaysCallable is_extra.now }
-    requires known { AreKnown nodes.old (FnReturnsAt F.Fn is_extra.now) known.old.entries }
-    ensures kept { Keeps markers nodes.old nodes.new }
-    ensures count { IfOk result (λ r. length r.items ≡ length ids.now) }
-    ensures rules { diagram.IsStore markers nodes.new }
-    ensures granted { IfOk result (λ r. AreGranted nodes.new
-        (FnReturnsAt F.Fn is_extra.now) ids.now r.items) }
-    ensures known { AreKnown nodes.new (FnReturnsAt F.Fn is_extra.now) known.new.entries }
+    ensures wanted { IfOk result (λ r. (nodes : List Node) (parent : NodeId)
+        → AreUnder nodes parent ids.now → All (IsWanted known.now.entries parent) r.items) }
+    ensures none { IfOk result (λ r. r.items ≡ [] → AreSettled known.now.entries ids.now) }
 {
-    let mut made = SmallVec::with_capacity(nodes.allocator(), ids.len())?;
-    for i in 0..ids.len() {
-        let id = granted(nodes, known, is_extra, ids[i])?;
-        made.push(id)?;
+    let mut wanted = SmallVec::new(alloc);
+    for id in ids {
+        if let Some(_) = granted(known, *id) {
+            continue;
+        }
+        wanted.push(id.negate(*id))?;
     }
-    Ok(made)
+    Ok(wanted)
+}
+
+// The ids of a list with extras set true. They are known.
+fn granted_all(
+    alloc: Global,
+    known: &HashMap<NodeId, NodeId>,
+    ids: &[NodeId],
+) -> Result<Children, AllocError>
+    requires settled { AreSettled known.now.entries ids.now }
+    ensures count { IfOk result (λ r. length r.items ≡ length ids.now) }
+    ensures granted { IfOk result (λ r. AreFoundAs known.now.entries ids.now r.items) }
+{
+    let mut children = SmallVec::with_capacity(alloc, ids.len())?;
+    for i in 0..ids.len() {
+        match granted(known, ids[i]) {
+            Some(child) => children.push(child)?,
+            // Each of the ids is settled.
+            None => unreachable!(),
+        }
+    }
+    Ok(children)
 }
 
 // Whether it is an extra that is set true.

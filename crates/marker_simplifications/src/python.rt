@@ -94,7 +94,7 @@ pub fn python_range(
     let lower = trimmed_bound(lower)?;
     let upper = trimmed_bound(upper)?;
     let range = Ranges::from_range_bounds(nodes.allocator(), (lower, upper))?;
-    asks_version(nodes, VersionVariable::PythonFullVersion, &range)
+    asks_version(nodes, VersionVariable::PythonFullVersion, range)
 }
 
 /// The id where the Python version is taken to lie in a range that has a point.
@@ -160,7 +160,8 @@ fn assumed_all(
     upper: Bound<&Version>,
 ) -> Result<Children, AllocError>
     requires rules { diagram.IsStore markers nodes.old }
-    requires children { AreLater nodes.old (of_version versions.ImplementationVersion) children.now }
+    requires children { AreLater nodes.old (of_version versions.ImplementationVersion)
+        children.now }
     requires point { (p : Point Parts) × IsBetween version_cmp (bound_of lower) (bound_of upper) p }
     ensures kept { Keeps markers nodes.old nodes.new }
     ensures rules { diagram.IsStore markers nodes.new }

@@ -1,8 +1,9 @@
 -- Whether two ids are never true together, from their children.
-use Rattle.std.proofs.Common.{◌≡◌, ℕ, zero, suc, ◌+◌, ◌<◌, Bool, true, false, cond, ◌&&◌, List, [], ◌∷◌, Option, Some, None, refl, sym, ap, ◌∙◌, subst, arith}
+use Rattle.std.proofs.Common.{◌≡◌, ℕ, zero, suc, ◌+◌, ◌<◌, Bool, true, false, cond, ◌&&◌, List, [], ◌∷◌, Option, Some, None, replicate, refl, sym, ap, ◌∙◌, subst, arith}
 use Rattle.std.specs.Prelude.{slice_get}
 use Rattle.std.specs.Ordering.{is_eq}
 use Rattle.std.proofs.lemmas.Bool.{true≢false, false≢true}
+use Rattle.std.proofs.lemmas.List.Elements.{All-replicate}
 use Rattle.marker_environment.specs.Valuation.{Valuation}
 use Rattle.marker_diagrams.specs.declared.node_id.NodeId.{NodeId}
 use Rattle.marker_diagrams.specs.declared.node_id.TheConstants.NodeId.{FALSE}
@@ -18,7 +19,7 @@ use Rattle.marker_nodes.specs.Pairs.{AreSideBySide}
 use Rattle.marker_nodes.proofs.NodeLaws.{lawful}
 use Rattle.marker_nodes.specs.And.{IsAnd}
 use Rattle.marker_nodes.specs.Side.{branch_by, branch, HasBranches, IsFirst}
-use Rattle.marker_walks.specs.Disjoint.{AreDisjoint, AreShared, TellsDisjoint}
+use Rattle.marker_walks.specs.Disjoint.{AreApart, AreDisjoint, AreShared, TellsDisjoint}
 use Rattle.marker_nodes.proofs.ChildLaws.{branch_means, branch_after}
 use Rattle.marker_nodes.proofs.Firsts.{false_is}
 use Rattle.marker_nodes.proofs.ChildLaws.{pair_below}
@@ -48,6 +49,10 @@ tells_yes nodes a b h = record { disjoint = λ e. h; shared = λ e. absurd (true
 pub tells_no : (nodes : List Node) (a b : NodeId) → AreShared nodes a b → TellsDisjoint nodes a b false
 tells_no nodes a b h = record { disjoint = λ e. absurd (false≢true e); shared = λ e. h }
 
+-- at first each pair that is remembered is of FALSE alone
+pub nothing_apart : (nodes : List Node) (n : ℕ) → AreApart nodes (replicate n (FALSE, FALSE))
+nothing_apart nodes n = All-replicate (λ p. AreDisjoint nodes p.0 p.1) n (FALSE, FALSE) (λ v. ap (λ z. z && z) (false_is nodes v))
+
 module _ (nodes : List Node) (a b : NodeId) where
   -- a pair of children, under the signs of the ids, is never true together
   abbrev pub IsApart : NodeId × NodeId → Type 0
@@ -73,11 +78,18 @@ module _ (nodes : List Node) (a b : NodeId) where
     pub walk_end : (now : List (NodeId × NodeId)) → now ≡ [] → Walks now → TellsDisjoint nodes a b true
     walk_end now e w = tells_yes nodes a b (w.rest (subst (EachPair IsApart) (sym e) tt))
 
-  -- the pairs that are left of a walk at the first of the variables
-  pub record WalksOn (left : List (NodeId × NodeId)) : Type 0 where
+  -- The pairs that are left of a walk at the first of the variables, and a last one that is still
+  -- to be looked at: where all of them are apart, the ids are, and where the last is not, the ids
+  -- are not.
+  pub record WalksBut (last : NodeId × NodeId) (left : List (NodeId × NodeId)) : Type 0 where
     pub variable : Variable
     pub first : IsFirst nodes variable a b
-    pub walk : Walks variable left
+    pub walk : AreDisjoint nodes last.0 last.1 → Walks variable left
+    pub found : EachPair (IsFound variable) left
+    pub shared : AreShared nodes last.0 last.1 → AreShared nodes a b
+    pub below : place_of last.0 + place_of last.1 < place_of a + place_of b
+    pub left_held : IsHeld nodes last.0
+    pub right_held : IsHeld nodes last.1
 
 -- the child at a variable does not see the other variables
 branch_own : (nodes : List Node) (x : Variable) (t : NodeId) (s u : Valuation) → branch nodes x t (with_variable markers x s u) ≡ branch nodes x t s
@@ -130,13 +142,12 @@ module _ (nodes : List Node) (store : IsStore markers nodes) (a b : NodeId) (i :
         (omega arith, (omega arith, omega arith))
 
     -- a pair that is true together shows that the ids are
-    pub next_shared : (q : NodeId × NodeId) → IsFound nodes a b x q → (l r : NodeId) → l ≡ signed_id (is_negated a) q.0 → r ≡ signed_id (is_negated b) q.1 → (z : Bool) → TellsDisjoint nodes l r z → z ≡ false → TellsDisjoint nodes a b false
-    next_shared q f l r e g z t k =
-        tells_no nodes a b
-        (shared_split f.0 (subst (λ s. AreShared nodes s (branch nodes x b f.0)) (e ∙ f.1.0) (subst (AreShared nodes l) (g ∙ f.1.1) (t.shared k))))
+    pub next_shared : (q : NodeId × NodeId) → IsFound nodes a b x q → (l r : NodeId) → l ≡ signed_id (is_negated a) q.0 → r ≡ signed_id (is_negated b) q.1 → AreShared nodes l r → AreShared nodes a b
+    next_shared q f l r e g t =
+        shared_split f.0 (subst (λ s. AreShared nodes s (branch nodes x b f.0)) (e ∙ f.1.0) (subst (AreShared nodes l) (g ∙ f.1.1) t))
 
-    pub next_apart : (q : NodeId × NodeId) (l r : NodeId) → l ≡ signed_id (is_negated a) q.0 → r ≡ signed_id (is_negated b) q.1 → (z : Bool) → TellsDisjoint nodes l r z → z ≡ true → IsApart nodes a b q
-    next_apart q l r e g z t k = subst (λ s. AreDisjoint nodes s (signed_id (is_negated b) q.1)) e (subst (AreDisjoint nodes l) g (t.disjoint k))
+    pub next_apart : (q : NodeId × NodeId) (l r : NodeId) → l ≡ signed_id (is_negated a) q.0 → r ≡ signed_id (is_negated b) q.1 → AreDisjoint nodes l r → IsApart nodes a b q
+    next_apart q l r e g t = subst (λ s. AreDisjoint nodes s (signed_id (is_negated b) q.1)) e (subst (AreDisjoint nodes l) g t)
 
     -- the pairs of children are a walk
     found_walks : (pairs : List (NodeId × NodeId)) → ((k : ℕ) (q : NodeId × NodeId) → slice_get pairs k ≡ Some q → IsFound nodes a b x q) →
@@ -148,19 +159,66 @@ module _ (nodes : List Node) (store : IsStore markers nodes) (a b : NodeId) (i :
           subst (λ s. AreDisjoint nodes s (branch nodes x b v)) c.3.0 (subst (AreDisjoint nodes (signed_id (is_negated a) c.1.0)) c.3.1 (each_at (IsApart nodes a b) pairs h c.0 c.1 c.2)));
     }
 
-  pub walks : (pairs : List (NodeId × NodeId)) → AreSideBySide nodes a b pairs → WalksOn nodes a b pairs
-  walks pairs s = record { variable = s.variable; first = s.first; walk = found_walks s.variable s.first pairs s.found s.covers }
+  -- at first nothing is left but the pairs
+  pub walks : (pairs : List (NodeId × NodeId)) → AreSideBySide nodes a b pairs → 0 < place_of a → WalksBut nodes a b (FALSE, FALSE) pairs
+  walks pairs s n =
+      let w = found_walks s.variable s.first pairs s.found s.covers in
+      record {
+        variable = s.variable;
+        first = s.first;
+        walk = λ h. w;
+        found = w.found;
+        shared = λ h. absurd (false≢true (sym (false_is nodes h.0) ∙ h.1));
+        below = omega arith;
+        left_held = omega arith;
+        right_held = omega arith;
+      }
 
   -- the next pair of a walk
-  module _ (now later : List (NodeId × NodeId)) (q : NodeId × NodeId) (e : now ≡ q ∷ later) (w : WalksOn nodes a b now) (l r : NodeId) (l_is : l ≡ signed_id (is_negated a) q.0) (r_is : r ≡ signed_id (is_negated b) q.1) where
-    pub on_smaller : (place_of l + place_of r < place_of a + place_of b) × (IsHeld nodes l × IsHeld nodes r)
-    on_smaller = next_smaller w.variable w.first q (walk_found nodes a b w.variable now later q e w.walk) l r l_is r_is
+  module _ (last : NodeId × NodeId) (now later : List (NodeId × NodeId)) (q : NodeId × NodeId) (e : now ≡ q ∷ later) (w : WalksBut nodes a b last now) (l r : NodeId) (l_is : l ≡ signed_id (is_negated a) q.0) (r_is : r ≡ signed_id (is_negated b) q.1) where
+    found_now : IsFound nodes a b w.variable q × EachPair (IsFound nodes a b w.variable) later
+    found_now = subst (EachPair (IsFound nodes a b w.variable)) e w.found
 
-    pub on_shared : (z : Bool) → TellsDisjoint nodes l r z → z ≡ false → TellsDisjoint nodes a b false
-    on_shared = next_shared w.variable w.first q (walk_found nodes a b w.variable now later q e w.walk) l r l_is r_is
+    on_smaller : (place_of l + place_of r < place_of a + place_of b) × (IsHeld nodes l × IsHeld nodes r)
+    on_smaller = next_smaller w.variable w.first q found_now.0 l r l_is r_is
 
-    pub on_next : (z : Bool) → TellsDisjoint nodes l r z → z ≡ true → WalksOn nodes a b later
-    on_next z t k = record { variable = w.variable; first = w.first; walk = walk_next nodes a b w.variable now later q e w.walk (next_apart w.variable w.first q l r l_is r_is z t k) }
+    pub on_left : IsHeld nodes l
+    on_left = on_smaller.1.0
 
-  pub on_end : (now : List (NodeId × NodeId)) → now ≡ [] → WalksOn nodes a b now → TellsDisjoint nodes a b true
-  on_end now e w = walk_end nodes a b w.variable now e w.walk
+    pub on_right : IsHeld nodes r
+    on_right = on_smaller.1.1
+
+    -- where it is not apart, the ids are not
+    pub on_shared : (z : Bool) → TellsDisjoint nodes l r z → z ≡ false → AreShared nodes a b
+    on_shared z t k = next_shared w.variable w.first q found_now.0 l r l_is r_is (t.shared k)
+
+    -- it is apart
+    pub on_told : (z : Bool) → TellsDisjoint nodes l r z → z ≡ true → WalksBut nodes a b last later
+    on_told z t k = record {
+      variable = w.variable;
+      first = w.first;
+      walk = λ h. walk_next nodes a b w.variable now later q e (w.walk h) (next_apart w.variable w.first q l r l_is r_is (t.disjoint k));
+      found = found_now.1;
+      shared = w.shared;
+      below = w.below;
+      left_held = w.left_held;
+      right_held = w.right_held;
+    }
+
+    -- the last one is apart, and this one is the last now
+    pub on_next : (z : Bool) → TellsDisjoint nodes last.0 last.1 z → z ≡ true → WalksBut nodes a b (l, r) later
+    on_next z t k = record {
+      variable = w.variable;
+      first = w.first;
+      walk = λ h. walk_next nodes a b w.variable now later q e (w.walk (t.disjoint k)) (next_apart w.variable w.first q l r l_is r_is h);
+      found = found_now.1;
+      shared = next_shared w.variable w.first q found_now.0 l r l_is r_is;
+      below = on_smaller.0;
+      left_held = on_smaller.1.0;
+      right_held = on_smaller.1.1;
+    }
+
+  -- the ids are apart exactly where the last pair is
+  pub on_end : (last : NodeId × NodeId) (now : List (NodeId × NodeId)) → now ≡ [] → WalksBut nodes a b last now → (z : Bool) → TellsDisjoint nodes last.0 last.1 z → TellsDisjoint nodes a b z
+  on_end last now e w true t = walk_end nodes a b w.variable now e (w.walk (t.disjoint refl))
+  on_end last now e w false t = tells_no nodes a b (w.shared (t.shared refl))

@@ -1,5 +1,5 @@
 -- Walks that look for a valuation with given extras.
-use Rattle.std.proofs.Common.{◌≡◌, ℕ, zero, suc, ◌<◌, Bool, true, false, not, cond, ◌||◌, List, [], ◌∷◌, length, Option, Some, None, string_bytes, refl, sym, ap, ◌∙◌, subst, arith}
+use Rattle.std.proofs.Common.{◌≡◌, ℕ, zero, suc, ◌<◌, Bool, true, false, not, cond, ◌||◌, List, [], ◌∷◌, length, Option, Some, None, replicate, string_bytes, refl, sym, ap, ◌∙◌, subst, arith}
 use Rattle.std.specs.Prelude.{slice_get, String}
 use Rattle.std.specs.Borrow.{Bor}
 use Rattle.std.specs.List.{list_any, Contains}
@@ -11,6 +11,7 @@ use Rattle.std.specs.Cmp.Lexicographic.{nat_list_cmp_total}
 use Rattle.std.specs.String.{string_cmp, string_cmp_total}
 use Rattle.std.proofs.lemmas.Bool.{true≢false, false≢true}
 use Rattle.std.proofs.lemmas.Cmp.{tied_itself}
+use Rattle.std.proofs.lemmas.List.Elements.{All-replicate}
 use Rattle.std.proofs.lemmas.List.Folds.{list_any_at}
 use Rattle.version_ranges.specs.declared.cuts.Cuts.{Cuts}
 use Rattle.version_ranges.specs.Point.{Point, bottom, at, point_map, is_in_bounds}
@@ -24,6 +25,7 @@ use Rattle.marker_words.specs.declared.key.VersionVariable.{VersionVariable}
 use Rattle.marker_words.specs.declared.key.VersionVariable.TheVariants.{ImplementationVersion, PythonFullVersion}
 use Rattle.marker_environment.specs.Valuation.{Valuation}
 use Rattle.marker_diagrams.specs.declared.node_id.NodeId.{NodeId}
+use Rattle.marker_diagrams.specs.declared.node_id.TheConstants.NodeId.{TRUE, FALSE}
 use Rattle.marker_diagrams.specs.Id.{place_of, is_negated, signed_id}
 use Rattle.marker_diagrams.specs.Diagram.{node_of, IsHeld, IsStore, truth, with_variable}
 use Rattle.marker_diagrams.proofs.NodeLaws.{truth_child, none_some, same_some}
@@ -40,8 +42,9 @@ use Rattle.marker_nodes.proofs.EdgeLaws.{not_true}
 use Rattle.marker_nodes.proofs.NodeLaws.{lawful}
 use Rattle.marker_walks.specs.Possible.{is_listed}
 use Rattle.marker_nodes.specs.Python.{python_of, with_python}
-use Rattle.marker_walks.specs.Possible.{HasExtras, HasSome, IsAmong, IsPossible, IsImpossible, IsPossibleAt, IsImpossibleAt, AnswersPossible, listed_versions, may_lie_in, may_be_so, may_not_be_so}
+use Rattle.marker_walks.specs.Possible.{AreOut, HasExtras, HasSome, IsAmong, IsPossible, IsImpossible, IsPossibleAt, IsImpossibleAt, AnswersPossible, listed_versions, may_lie_in, may_be_so, may_not_be_so}
 use Rattle.marker_nodes.proofs.Descents.{end_means}
+use Rattle.marker_nodes.proofs.Firsts.{true_is, false_is}
 
 -- ---- an element that passes a test
 abbrev Passes : (Parts → Bool) → List Parts → Type 0
@@ -351,10 +354,75 @@ module _ (extras : List (List ℕ)) (versions : Option (List Parts)) where
         low_tells h m u u_is true k = child_found t low u u_is (low_leads m) true k refl
         low_tells h m u u_is false k = halves_out h (λ e. child_closed t low u u_is false k refl)
 
+        -- and the same with the other child
+        pub high_tells : (may_not_be_so extras x ≡ true → IsClosed t low) → may_be_so extras x ≡ true → (u : NodeId) → u ≡ signed_id (is_negated t) high → (z : Bool) → AnswersPossible extras versions (truth markers nodes u) z → AnswersPossible extras versions (truth markers nodes t) z
+        high_tells h m u u_is true k = child_found t high u u_is (high_leads m) true k refl
+        high_tells h m u u_is false k = halves_out (λ e. child_closed t high u u_is false k refl) h
+
       -- ---- without a node
       pub end_tells : None ≡ node_of nodes t → (z : Bool) → z ≡ not (is_negated t) → AnswersPossible extras versions (truth markers nodes t) z
       end_tells e true z_is = tells_yes (truth markers nodes t) start ready among (end_means nodes t start e ∙ sym z_is)
       end_tells e false z_is = tells_no (truth markers nodes t) (λ v i j. end_means nodes t v e ∙ sym z_is)
+
+-- at first the id that is remembered is FALSE alone
+pub nothing_out : (extras : List (List ℕ)) (versions : Option (List Parts)) (nodes : List Node) (n : ℕ) → AreOut extras versions nodes (replicate n FALSE)
+nothing_out extras versions nodes n = All-replicate (λ t. (v : Valuation) → HasExtras extras v → IsAmong versions v → truth markers nodes t v ≡ false) n FALSE (λ v i j. false_is nodes v)
+
+-- the constants
+module _ (extras : List (List ℕ)) (versions : Option (Bor (List Parts))) (ready : HasSome versions) (nodes : List Node) where
+  pub true_tells : (t : NodeId) → t ≡ TRUE → AnswersPossible extras (listed_versions versions) (truth markers nodes t) true
+  true_tells t e =
+      let s = some_sought extras versions ready in
+      tells_yes extras (listed_versions versions) (truth markers nodes t) s.0 s.1 s.2 (ap (λ u. truth markers nodes u s.0) e ∙ true_is nodes s.0)
+
+  pub false_tells : (t : NodeId) → t ≡ FALSE → AnswersPossible extras (listed_versions versions) (truth markers nodes t) false
+  false_tells t e = tells_no extras (listed_versions versions) (truth markers nodes t) (λ v i j. ap (λ u. truth markers nodes u v) e ∙ false_is nodes v)
+
+-- the children of a node that asks whether something is so
+module _ (extras : List (List ℕ)) (versions : Option (Bor (List Parts))) (ready : HasSome versions) (nodes : List Node) (store : IsStore markers nodes) (t : NodeId) (held : IsHeld nodes t)
+    (x : TruthVariable) (high low : NodeId) (stands : node_of nodes t ≡ Some (Truth x high low)) where
+  abbrev Answers : NodeId → Bool → Type 0
+  Answers u z = AnswersPossible extras (listed_versions versions) (truth markers nodes u) z
+
+  abbrev Stands : NodeId → Type 0
+  Stands u = (place_of u < place_of t) × IsHeld nodes u
+
+  to_high : may_be_so extras x ≡ true → Leads extras (listed_versions versions) nodes t high
+  to_high m = let s = some_sought extras versions ready in high_leads extras (listed_versions versions) nodes store t s.0 s.1 s.2 x high low stands m
+
+  to_low : may_not_be_so extras x ≡ true → Leads extras (listed_versions versions) nodes t low
+  to_low m = let s = some_sought extras versions ready in low_leads extras (listed_versions versions) nodes store t s.0 s.1 s.2 x high low stands m
+
+  module _ (u : NodeId) (u_is : u ≡ signed_id (is_negated t) high) where
+    pub high_below : may_be_so extras x ≡ true → Stands u
+    high_below m = child_below extras (listed_versions versions) nodes t high u u_is held (to_high m)
+
+    pub high_found : may_be_so extras x ≡ true → (z : Bool) → Answers u z → z ≡ true → Answers t true
+    high_found m = child_found extras (listed_versions versions) nodes t high u u_is (to_high m)
+
+    -- where the other child is out of reach
+    pub high_alone : may_be_so extras x ≡ true → may_not_be_so extras x ≡ false → (z : Bool) → Answers u z → Answers t z
+    high_alone m k = let s = some_sought extras versions ready in high_tells extras (listed_versions versions) nodes store t s.0 s.1 s.2 x high low stands (λ e. absurd (true≢false (sym e ∙ k))) m u u_is
+
+    -- where the other child is out
+    pub high_after : may_be_so extras x ≡ true → (w : NodeId) → w ≡ signed_id (is_negated t) low → (y : Bool) → Answers w y → y ≡ false → (z : Bool) → Answers u z → Answers t z
+    high_after m w w_is y k e = let s = some_sought extras versions ready in
+        high_tells extras (listed_versions versions) nodes store t s.0 s.1 s.2 x high low stands (λ l. child_closed extras (listed_versions versions) nodes t low w w_is y k e) m u u_is
+
+  module _ (u : NodeId) (u_is : u ≡ signed_id (is_negated t) low) where
+    pub low_below : may_not_be_so extras x ≡ true → Stands u
+    low_below m = child_below extras (listed_versions versions) nodes t low u u_is held (to_low m)
+
+    pub low_found : may_not_be_so extras x ≡ true → (z : Bool) → Answers u z → z ≡ true → Answers t true
+    low_found m = child_found extras (listed_versions versions) nodes t low u u_is (to_low m)
+
+    pub low_alone : may_be_so extras x ≡ false → (z : Bool) → Answers u z → Answers t z
+    low_alone m = let s = some_sought extras versions ready in
+        low_tells extras (listed_versions versions) nodes store t s.0 s.1 s.2 x high low stands (λ e. absurd (true≢false (sym e ∙ m))) (otherwise_may extras x m) u u_is
+
+    pub low_after : may_not_be_so extras x ≡ true → (w : NodeId) → w ≡ signed_id (is_negated t) high → (y : Bool) → Answers w y → y ≡ false → (z : Bool) → Answers u z → Answers t z
+    low_after m w w_is y k e = let s = some_sought extras versions ready in
+        low_tells extras (listed_versions versions) nodes store t s.0 s.1 s.2 x high low stands (λ l. child_closed extras (listed_versions versions) nodes t high w w_is y k e) m u u_is
 
 -- ---- markers of an interner
 module _ (extras : List (List ℕ)) (nodes given : List Node) (same : given ≡ nodes) (t : NodeId) (z : Bool) where

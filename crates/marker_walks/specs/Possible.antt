@@ -1,5 +1,5 @@
--- Truths that some valuation with given extras satisfies. (This project's own.)
-use Rattle.std.specs.Prelude.{◌≡◌, ◌<◌, ⊤, ℕ, length, Bool, true, false, not, bytes_eq, List, Contains, Option, Some, None}
+-- Truths that some valuation with given extras satisfies.
+use Rattle.std.specs.Prelude.{◌≡◌, ◌<◌, ⊤, ℕ, length, All, Bool, true, false, not, bytes_eq, List, Contains, Option, Some, None}
 use Rattle.std.specs.Borrow.{Bor}
 use Rattle.std.specs.List.{list_any}
 use Rattle.std.specs.Option.{option_map}
@@ -10,6 +10,9 @@ use Rattle.pep440_version.specs.Order.{version_cmp}
 use Rattle.marker_words.specs.declared.key.VersionVariable.{VersionVariable}
 use Rattle.marker_words.specs.declared.key.VersionVariable.TheVariants.{ImplementationVersion, PythonFullVersion}
 use Rattle.marker_environment.specs.Valuation.{Valuation}
+use Rattle.marker_diagrams.specs.declared.node_id.NodeId.{NodeId}
+use Rattle.marker_diagrams.specs.Diagram.{truth}
+use Rattle.marker_nodes.specs.Node.{Node, markers}
 use Rattle.marker_nodes.specs.Python.{python_of}
 use Rattle.marker_nodes.specs.declared.variable.TruthVariable.{TruthVariable}
 use Rattle.marker_nodes.specs.declared.variable.TruthVariable.TheVariants as truths
@@ -68,6 +71,11 @@ pub record AnswersPossible (extras : List (List ℕ)) (versions : Option (List P
       × (f v ≡ true)
   pub impossible : answer ≡ false → (v : Valuation) → HasExtras extras v → IsAmong versions v
       → f v ≡ false
+
+-- no valuation with exactly these extras, at one of these versions, satisfies one of the ids
+abbrev pub AreOut : List (List ℕ) → Option (List Parts) → List Node → List NodeId → Type 0
+AreOut extras versions nodes ids = All (λ t. (v : Valuation) → HasExtras extras v
+    → IsAmong versions v → truth markers nodes t v ≡ false) ids
 
 -- whether a version variable may stand between two bounds: any may but the Python version, where
 -- versions are listed

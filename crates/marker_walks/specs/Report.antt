@@ -1,4 +1,4 @@
--- What a reporter is told in an evaluation. (This project's own.)
+-- What a reporter is told in an evaluation.
 use Rattle.std.specs.Prelude.{◌≡◌, Bool, false, List, Option, All, String}
 use Rattle.std.specs.Global.{Global}
 use Rattle.std.specs.String.{string_eq}

@@ -1,12 +1,13 @@
 //! Whether some valuation with given extras satisfies an id.
 
-ghost use Rattle.std.specs.Prelude.{◌≡◌, Some};
+ghost use Rattle.std.specs.Prelude.{◌≡◌, ◌<◌, Bool, IfNone, IfSome, Some, true};
 ghost use Rattle.version_ranges.specs.Clamp.{bound_of};
 ghost use Rattle.marker_diagrams.specs.Diagram as diagram;
+ghost use Rattle.marker_diagrams.specs.Id.{place_of};
 ghost use Rattle.marker_nodes.specs.Node.{markers};
 ghost use Rattle.marker_words.specs.declared.key.TextVariable.{TextVariable};
 ghost use Rattle.marker_nodes.specs.declared.node.Branches.TheVariants as kinds;
-ghost use Rattle.marker_walks.specs.Possible.{HasSome, AnswersPossible, listed_versions, may_be_so, may_lie_in, may_not_be_so};
+ghost use Rattle.marker_walks.specs.Possible.{AreOut, HasSome, AnswersPossible, listed_versions, may_be_so, may_lie_in, may_not_be_so};
 
 use crate::child::is_listed;
 use marker_nodes::{Branches, NodeId, NodeTable, TruthVariable};
@@ -15,10 +16,18 @@ use pep440_version::Version;
 use pep508_names::ExtraName;
 use version_ranges::{Cuts, Piece};
 
+// How many ids are remembered.
+const IDS: usize = 256;
+
+// Ids that were found to be out: no valuation that is looked for satisfies them. An id has one
+// place, which it shares with others, so what is remembered can be forgotten.
+type Out = [NodeId; IDS];
+
 /// Whether some valuation with exactly these extras, no arbitrary one, and the Python version at
-/// one of the versions, where they are given, satisfies the id. This takes no memory. The calls are
-/// nested no deeper than the id has variables.
-#[cycle(possible)]
+/// one of the versions, where they are given, satisfies the id.
+///
+/// This takes no memory: ids that were found to be satisfied by none are remembered on the stack,
+/// some hundreds of them. The calls are nested no deeper than the id has variables.
 pub fn is_possible(
     nodes: &NodeTable,
     extras: &[ExtraName],
@@ -31,15 +40,77 @@ pub fn is_possible(
     ensures { AnswersPossible extras.now (listed_versions versions.entry)
         (diagram.truth markers nodes.now id) result }
 {
-    match nodes.node(id) {
-        Some(Branches::Version(variable, edges)) => {
-            is_possible_at_version(nodes, extras, versions, id, *variable, edges)
+    let mut out = [NodeId::FALSE; IDS];
+    possible(nodes, &mut out, extras, versions, id)
+}
+
+// The same, by what is remembered and is to be.
+#[cycle(possible)]
+fn possible(
+    nodes: &NodeTable,
+    out: &mut Out,
+    extras: &[ExtraName],
+    versions: Option<&[Version]>,
+    id: NodeId,
+) -> bool
+    requires rules { diagram.IsStore markers nodes.now }
+    requires id { diagram.IsHeld nodes.now id }
+    requires versions { HasSome versions }
+    requires out { AreOut extras.now (listed_versions versions) nodes.now out.old }
+    ensures answer { AnswersPossible extras.now (listed_versions versions.entry)
+        (diagram.truth markers nodes.now id) result }
+    ensures out { AreOut extras.now (listed_versions versions.entry) nodes.now out.new }
+{
+    if id.is_true() {
+        return true;
+    }
+    if id.is_false() {
+        return false;
+    }
+    if out[slot(id)] == id {
+        return false;
+    }
+    let answer = is_possible_by_nodes(nodes, out, extras, versions, id);
+    if !answer {
+        out[slot(id)] = id;
+    }
+    answer
+}
+
+// The same of an id about which nothing is remembered.
+#[cycle(possible)]
+fn is_possible_by_nodes(
+    nodes: &NodeTable,
+    out: &mut Out,
+    extras: &[ExtraName],
+    versions: Option<&[Version]>,
+    id: NodeId,
+) -> bool
+    requires rules { diagram.IsStore markers nodes.now }
+    requires id { diagram.IsHeld nodes.now id }
+    requires versions { HasSome versions }
+    requires out { AreOut extras.now (listed_versions versions) nodes.now out.old }
+    ensures answer { AnswersPossible extras.now (listed_versions versions.entry)
+        (diagram.truth markers nodes.now id) result }
+    ensures out { AreOut extras.now (listed_versions versions.entry) nodes.now out.new }
+{
+    let mut at = id;
+    loop {
+        match nodes.node(at) {
+            Some(Branches::Version(variable, edges)) => {
+                return is_possible_at_version(nodes, out, extras, versions, at, *variable, edges);
+            }
+            Some(Branches::Text(_, edges)) => {
+                return is_possible_at_text(nodes, out, extras, versions, at, edges);
+            }
+            Some(Branches::Truth(variable, high, low)) => {
+                match last_at_truth(nodes, out, extras, versions, at, variable, *high, *low) {
+                    Some(last) => at = last,
+                    None => return true,
+                }
+            }
+            None => return !at.is_complement(),
         }
-        Some(Branches::Text(_, edges)) => is_possible_at_text(nodes, extras, versions, id, edges),
-        Some(Branches::Truth(variable, high, low)) => {
-            is_possible_at_truth(nodes, extras, versions, id, variable, *high, *low)
-        }
-        None => !id.is_complement(),
     }
 }
 
@@ -47,6 +118,7 @@ pub fn is_possible(
 #[cycle(possible)]
 fn is_possible_at_version(
     nodes: &NodeTable,
+    out: &mut Out,
     extras: &[ExtraName],
     versions: Option<&[Version]>,
     id: NodeId,
@@ -57,14 +129,16 @@ fn is_possible_at_version(
     requires id { diagram.IsHeld nodes.now id }
     requires versions { HasSome versions }
     requires node { diagram.node_of nodes.now id ≡ Some (kinds.Version variable edges.now) }
-    ensures { AnswersPossible extras.now (listed_versions versions.entry)
+    requires out { AreOut extras.now (listed_versions versions) nodes.now out.old }
+    ensures answer { AnswersPossible extras.now (listed_versions versions.entry)
         (diagram.truth markers nodes.now id) result }
+    ensures out { AreOut extras.now (listed_versions versions.entry) nodes.now out.new }
 {
     for piece in edges.pieces() {
         if !may_lie_in(variable, versions, &piece) {
             continue;
         }
-        if is_possible(nodes, extras, versions, piece.value.negate(id)) {
+        if possible(nodes, out, extras, versions, piece.value.negate(id)) {
             return true;
         }
     }
@@ -75,6 +149,7 @@ fn is_possible_at_version(
 #[cycle(possible)]
 fn is_possible_at_text(
     nodes: &NodeTable,
+    out: &mut Out,
     extras: &[ExtraName],
     versions: Option<&[Version]>,
     id: NodeId,
@@ -85,45 +160,71 @@ fn is_possible_at_text(
     requires versions { HasSome versions }
     requires node { (x : TextVariable) × (diagram.node_of nodes.now id
         ≡ Some (kinds.Text x edges.now)) }
-    ensures { AnswersPossible extras.now (listed_versions versions.entry)
+    requires out { AreOut extras.now (listed_versions versions) nodes.now out.old }
+    ensures answer { AnswersPossible extras.now (listed_versions versions.entry)
         (diagram.truth markers nodes.now id) result }
+    ensures out { AreOut extras.now (listed_versions versions.entry) nodes.now out.new }
 {
     for piece in edges.pieces() {
-        if is_possible(nodes, extras, versions, piece.value.negate(id)) {
+        if possible(nodes, out, extras, versions, piece.value.negate(id)) {
             return true;
         }
     }
     false
 }
 
-// The same of an id that asks first whether something is so.
+// The last child of an id that asks first whether something is so, where the other is out or out of
+// reach; and `None` where the other is satisfied. A constant is never the last where both are
+// looked at.
 #[cycle(possible)]
-fn is_possible_at_truth(
+fn last_at_truth(
     nodes: &NodeTable,
+    out: &mut Out,
     extras: &[ExtraName],
     versions: Option<&[Version]>,
     id: NodeId,
     variable: &TruthVariable,
     high: NodeId,
     low: NodeId,
-) -> bool
+) -> Option<NodeId>
     requires rules { diagram.IsStore markers nodes.now }
     requires id { diagram.IsHeld nodes.now id }
     requires versions { HasSome versions }
     requires node { diagram.node_of nodes.now id ≡ Some (kinds.Truth variable.now high low) }
-    ensures { AnswersPossible extras.now (listed_versions versions.entry)
-        (diagram.truth markers nodes.now id) result }
+    requires out { AreOut extras.now (listed_versions versions) nodes.now out.old }
+    ensures found { IfNone result (AnswersPossible extras.now (listed_versions versions.entry)
+        (diagram.truth markers nodes.now id) true) }
+    ensures last { IfSome result (λ t. (answer : Bool) → AnswersPossible extras.now
+        (listed_versions versions.entry) (diagram.truth markers nodes.now t) answer
+        → AnswersPossible extras.now (listed_versions versions.entry)
+        (diagram.truth markers nodes.now id) answer) }
+    ensures below { IfSome result (λ t. place_of t < place_of id) }
+    ensures out { AreOut extras.now (listed_versions versions.entry) nodes.now out.new }
 {
     if !may_be_so(variable, extras) {
-        return is_possible(nodes, extras, versions, low.negate(id));
-    }
-    if is_possible(nodes, extras, versions, high.negate(id)) {
-        return true;
+        return Some(low.negate(id));
     }
     if !may_not_be_so(variable, extras) {
-        return false;
+        return Some(high.negate(id));
     }
-    is_possible(nodes, extras, versions, low.negate(id))
+    if low.index().is_none() {
+        if possible(nodes, out, extras, versions, low.negate(id)) {
+            return None;
+        }
+        return Some(high.negate(id));
+    }
+    if possible(nodes, out, extras, versions, high.negate(id)) {
+        return None;
+    }
+    Some(low.negate(id))
+}
+
+// The place of an id among those that are remembered.
+fn slot(id: NodeId) -> usize
+    ensures { result < IDS }
+{
+    let place = id.index().unwrap_or(0).wrapping_mul(2);
+    place.wrapping_add(usize::from(id.is_complement())) % IDS
 }
 
 // Whether the variable's version may lie in a piece: any may but the Python version, where versions

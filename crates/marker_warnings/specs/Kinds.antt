@@ -4,7 +4,9 @@ use Rattle.std.specs.Prelude.{◌≡◌, List, ◌++◌, Option, Some, IfSome}
 use Rattle.marker_warnings.specs.declared.warning.MarkerWarningKind.{MarkerWarningKind}
 
 -- these kinds came behind those that were told
-abbrev pub Adds : Option (List MarkerWarningKind) → Option (List MarkerWarningKind) → List MarkerWarningKind → Type 0
+abbrev pub Adds :
+    Option (List MarkerWarningKind) → Option (List MarkerWarningKind)
+    → List MarkerWarningKind → Type 0
 Adds before after kinds = IfSome before (λ told. after ≡ Some (told ++ kinds))
 
 -- the same are told

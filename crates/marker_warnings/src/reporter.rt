@@ -13,11 +13,12 @@ pub trait Reporter {
     /// The kinds of the warnings that it has taken, where it tells them.
     ghost kinds: { Self → Option (List MarkerWarningKind) };
 
-    /// It may be told of a warning: always, unless it hands warnings to a function that asks for more.
+    /// It may be told of a warning: always, unless it hands warnings to a function that asks for
+    /// more.
     ghost can_report: { Self → Type 0 } = { λ _. ⊤ };
 
-    /// Takes a warning. Refused where there is no memory to keep it; then it is not taken, and those
-    /// before it are kept.
+    /// Takes a warning. Refused where there is no memory to keep it; then it is not taken, and
+    /// those before it are kept.
     fn report(&mut self, kind: MarkerWarningKind, warning: String) -> Result<(), AllocError>
         requires { can_report self.old }
         ensures again { can_report self.new }
@@ -36,7 +37,8 @@ impl Reporter for Vec<(MarkerWarningKind, String)> {
     }
 }
 
-/// Hands each warning to a function, which answers whether there was memory for it. It tells no kinds.
+/// Hands each warning to a function, which answers whether there was memory for it. It tells no
+/// kinds.
 #[derive(Drop)]
 pub struct ReportTo<F>(pub F);
 

@@ -1,12 +1,13 @@
 //! What a reader of markers warns of.
 
-/// The kind of a warning. Each is a comparison that PEP 508 allows, or that was written before it, and
-/// that says less than its writer may think.
+/// The kind of a warning. Each is a comparison that PEP 508 allows, or that was written before it,
+/// and that says less than its writer may think.
 #[derive(Clone, Copy, Debug, PartialEq, Eq, PartialOrd, Ord, Hash)]
 pub enum MarkerWarningKind {
     /// A name of PEP 345 stands in place of the modern one, as `os.name`.
     DeprecatedMarkerName,
-    /// `extra` is compared with something that is no name, or by another operator than `==` and `!=`.
+    /// `extra` is compared with something that is no name, or by another operator than `==` and
+    /// `!=`.
     ExtraInvalidComparison,
     /// A text is compared by an operator of versions, as `os_name ~= 'x'`.
     LexicographicComparison,

@@ -6,4 +6,5 @@ use Rattle.marker_words.specs.declared.bounds.MarkerOperatorBounds.{MarkerOperat
 use Rattle.marker_words.specs.Compare.{pair_of}
 
 abbrev pub pairs_left : MarkerOperatorBounds → List (MarkerOperator × List ℕ)
-pairs_left it = option_to_list (option_map pair_of it.lower) ++ option_to_list (option_map pair_of it.upper)
+pairs_left it =
+    option_to_list (option_map pair_of it.lower) ++ option_to_list (option_map pair_of it.upper)

@@ -1,5 +1,5 @@
--- What comparisons ask of a point, and the comparisons of a range. (PEP 508, "Environment Markers"; points and ranges are
--- this project's own.)
+-- What comparisons ask of a point, and the comparisons of a range (PEP 508, "Environment Markers",
+-- which has no points).
 use Rattle.std.specs.Prelude.{ℕ, Bool, false, Option, Some, None, List, [], ◌∷◌, ◌++◌, if◌then◌else◌, nat_eq, String, string_bytes}
 use Rattle.std.specs.Borrow.{Bor}
 use Rattle.std.specs.Cmp.Lexicographic.{pointwise, slice_cmp}
@@ -14,7 +14,8 @@ use Rattle.version_ranges.specs.Point.{Point, at, point_cmp}
 use Rattle.marker_words.specs.declared.operator.MarkerOperator.{MarkerOperator}
 use Rattle.marker_words.specs.declared.operator.MarkerOperator.TheVariants.{Equal, NotEqual, GreaterThan, GreaterEqual, LessThan, LessEqual, TildeEqual, In, NotIn, Contains, NotContains}
 
--- whether an operator holds of what stands so beside a value; the others ask for more than an order, and here hold of nothing
+-- whether an operator holds of what stands so beside a value; the others ask for more than an
+-- order, and here hold of nothing
 abbrev pub holds_beside : MarkerOperator → Ordering → Bool
 holds_beside Equal order = is_eq order
 holds_beside NotEqual order = is_ne order
@@ -35,7 +36,8 @@ module _ {T : Type 0} where
 
   -- whether a point satisfies each of these comparisons
   abbrev pub satisfies_all : (T → T → Ordering) → List (MarkerOperator × T) → Point T → Bool
-  satisfies_all cmp pairs point = list_all (λ pair. holds_beside pair.0 (beside cmp point pair.1)) pairs
+  satisfies_all cmp pairs point =
+      list_all (λ pair. holds_beside pair.0 (beside cmp point pair.1)) pairs
 
   -- what a lower bound asks for
   abbrev pub lower_pair : Bound T → Option (MarkerOperator × T)
@@ -49,9 +51,11 @@ module _ {T : Type 0} where
   upper_pair (Excluded v) = Some (LessThan, v)
   upper_pair Unbounded = None
 
-  -- what two bounds ask for: one `==` where both include the same value, and else what the lower and then the upper asks for
+  -- what two bounds ask for: one `==` where both include the same value, and else what the lower
+  -- and then the upper asks for
   abbrev pub pairs_of : (T → T → Bool) → Bound T → Bound T → List (MarkerOperator × T)
-  pairs_of eq (Included v) (Included w) = if eq v w then (Equal, v) ∷ [] else (GreaterEqual, v) ∷ (LessEqual, w) ∷ []
+  pairs_of eq (Included v) (Included w) =
+      if eq v w then (Equal, v) ∷ [] else (GreaterEqual, v) ∷ (LessEqual, w) ∷ []
   pairs_of eq lower upper = option_to_list (lower_pair lower) ++ option_to_list (upper_pair upper)
 
 -- texts are ordered by their bytes

@@ -1,4 +1,5 @@
--- The faults of marker texts. Texts, pieces and messages are lists of bytes, and lengths count bytes.
+-- The faults of marker texts. Texts, pieces and messages are lists of bytes, and lengths count
+-- bytes.
 use Rattle.std.specs.Prelude.{◌≡◌, ◌≢◌, ◌⊎◌, ℕ, ◌<◌, ◌==◌, Bool, false, List, [], ◌∷◌, ◌++◌, length, if◌then◌else◌, codes, encode_utf8, encode_utf8_all}
 use Rattle.std.specs.Str.{chars}
 use Rattle.pep508_text.specs.Class.{holds}
@@ -44,7 +45,8 @@ abbrev pub HasNoValue : List ℕ → Type 0
 HasNoValue text = (output : List ℕ) (value : Value) → IsValue (chars text) output value → ⊥
 
 abbrev pub HasNoOperator : List ℕ → Type 0
-HasNoOperator text = (output : List ℕ) (operator : MarkerOperator) → IsOperator (chars text) output operator → ⊥
+HasNoOperator text =
+    (output : List ℕ) (operator : MarkerOperator) → IsOperator (chars text) output operator → ⊥
 
 -- it begins with no white space
 abbrev pub HasNoSpace : List ℕ → Type 0
@@ -55,10 +57,13 @@ pub data IsLetterOfIn : ℕ → Type 0 where
   first_letter : IsLetterOfIn 105
   last_letter : IsLetterOfIn 110
 
--- An opening character, the one that closes it, and what stands behind the first: behind a quote comes no other. Where a
--- parenthesis is not closed, by what stands behind it, is said by the grammar that has parentheses (`Open`).
+-- An opening character, the one that closes it, and what stands behind the first: behind a quote
+-- comes no other. Where a parenthesis is not closed, by what stands behind it, is said by the
+-- grammar that has parentheses (`Open`).
 pub data IsUnclosed (Open : List ℕ → Type 0) : ℕ → ℕ → List ℕ → Type 0 where
-  quotes : {quote : ℕ} {back : List ℕ} → IsQuote quote → after_run (NotQuote quote) (chars back) ≡ [] → IsUnclosed Open quote quote back
+  quotes : {quote : ℕ} {back : List ℕ} →
+      IsQuote quote → after_run (NotQuote quote) (chars back) ≡ [] →
+      IsUnclosed Open quote quote back
   parentheses : {back : List ℕ} → Open back → IsUnclosed Open 40 41 back
 
 -- the character stands at the front of the text, and the piece is all but the text's last character
@@ -68,21 +73,29 @@ pub record IsAllButLast (c : ℕ) (piece back : List ℕ) : Type 0 where
   pub begins : piece ++ back ≡ encode_utf8 c ++ others
   pub ends : back ≡ encode_utf8 last
 
--- when a fault is true of a text: `piece` stands at its place, and `back` from there to the end of the text
+-- when a fault is true of a text: `piece` stands at its place, and `back` from there to the end of
+-- the text
 abbrev pub Finds : (List ℕ → Type 0) → FaultKind → List ℕ → List ℕ → Type 0
 Finds Open ValueAtEnd piece back = piece ++ back ≡ []
 Finds Open NoValue piece back = IsLongest KeyPart piece back × HasNoValue (piece ++ back)
-Finds Open NoOperator piece back = IsLongest (operator_class (chars (piece ++ back))) piece back × HasNoOperator (piece ++ back)
+Finds Open NoOperator piece back =
+    IsLongest (operator_class (chars (piece ++ back))) piece back × HasNoOperator (piece ++ back)
 Finds Open NotAtEnd piece back = piece ++ back ≡ []
-Finds Open NoSpaceAfterNot piece back = (found : ℕ) × (piece ≡ encode_utf8 found) × (holds Space found ≡ false)
-Finds Open (Unclosed closing) piece back = (opening : ℕ) × IsUnclosed Open opening closing back × (piece ≡ encode_utf8 opening)
+Finds Open NoSpaceAfterNot piece back =
+    (found : ℕ) × (piece ≡ encode_utf8 found) × (holds Space found ≡ false)
+Finds Open (Unclosed closing) piece back =
+    (opening : ℕ) × IsUnclosed Open opening closing back × (piece ≡ encode_utf8 opening)
 Finds Open (MissingAtEnd awaited) piece back = (piece ++ back ≡ []) × IsLetterOfIn awaited
-Finds Open (Missing awaited) piece back = (found : ℕ) × (piece ≡ encode_utf8 found) × (found ≢ awaited) × (IsLetterOfIn awaited ⊎ (awaited ≡ 41))
-Finds Open (Unexpected c) piece back = IsAllButLast c piece back × HasNoSpace (piece ++ back) × NoKeyword (chars (piece ++ back))
+Finds Open (Missing awaited) piece back =
+    (found : ℕ) × (piece ≡ encode_utf8 found) × (found ≢ awaited)
+    × (IsLetterOfIn awaited ⊎ (awaited ≡ 41))
+Finds Open (Unexpected c) piece back =
+    IsAllButLast c piece back × HasNoSpace (piece ++ back) × NoKeyword (chars (piece ++ back))
 Finds Open (Trailing c) piece back = IsAllButLast c piece back × HasNoSpace (piece ++ back)
 
 -- a fault of this kind stands in the text
-pub record IsFaultAt (Open : List ℕ → Type 0) (text : List ℕ) (kind : FaultKind) (piece : List ℕ) (left : ℕ) : Type 0 where
+pub record IsFaultAt (Open : List ℕ → Type 0) (text : List ℕ) (kind : FaultKind)
+    (piece : List ℕ) (left : ℕ) : Type 0 where
   pub place : IsPiece text piece left
   pub found : Finds Open kind piece place.back
 
@@ -103,8 +116,10 @@ pub record IsSpanOf (text piece : List ℕ) (start len : ℕ) : Type 0 where
   pub span : IsSpan text start len
   pub covers : start < length text → len ≡ length piece
 
--- a message that a marker text may be refused with, and its span: one of the faults is true of the text there, and says so
-pub record IsMarkerFault (Open : List ℕ → Type 0) (text : List ℕ) (start len : ℕ) (message : List ℕ) : Type 0 where
+-- a message that a marker text may be refused with, and its span: one of the faults is true of the
+-- text there, and says so
+pub record IsMarkerFault (Open : List ℕ → Type 0) (text : List ℕ) (start len : ℕ)
+    (message : List ℕ) : Type 0 where
   pub kind : FaultKind
   pub piece : List ℕ
   pub place : IsSpanOf text piece start len

@@ -1,4 +1,5 @@
--- Keywords: the longest run of characters that are no white space.
+-- Keywords: the longest run of characters that are no white space. (PEP 508 lets a keyword end at a
+-- parenthesis too; here `and(` is none.)
 use Rattle.std.specs.Prelude.{ℕ, List, codes}
 use Rattle.pep508_text.specs.Run.{Run}
 use Rattle.pep508_text.specs.declared.classes.Class.TheVariants.{NotSpace}

@@ -1,5 +1,7 @@
--- The words of a comparison. Each relation goes from what is left of the text before the word to the word and
--- to what is left behind it; texts are lists of characters. (PEP 508, "Grammar"; white space is Unicode's.)
+-- The words of a comparison (PEP 508, "Grammar"; but white space is Unicode's, a quoted text takes
+-- every character other than its quote, and `===` is no operator of markers). Each relation goes
+-- from what is left of the text before the word to the word and to what is left behind it; texts
+-- are lists of characters.
 use Rattle.std.specs.Prelude.{◌≡◌, ℕ, true, List, ◌∷◌, Option, Some, None, codes, encode_utf8_all}
 use Rattle.pep508_text.specs.Class.{holds}
 use Rattle.pep508_text.specs.Run.{Run, Spaces}
@@ -23,10 +25,15 @@ pub data IsQuote : ℕ → Type 0 where
   double : IsQuote 34
 
 pub data IsValue : List ℕ → List ℕ → Value → Type 0 where
-  is_quoted : {quote : ℕ} {input text output : List ℕ} → IsQuote quote → Run (NotQuote quote) input text (quote ∷ output) → IsValue (quote ∷ input) output (quoted (encode_utf8_all text))
-  is_version_key : {key : MarkerValueVersion} {input output : List ℕ} → Run KeyPart input (version_key_name key) output → IsValue input output (version_key key)
-  is_text_key : {key : MarkerValueString} {input output : List ℕ} → Run KeyPart input (key_name key) output → IsValue input output (text_key key)
-  is_extra : {input output : List ℕ} → Run KeyPart input (codes "extra") output → IsValue input output extra
+  is_quoted : {quote : ℕ} {input text output : List ℕ} →
+      IsQuote quote → Run (NotQuote quote) input text (quote ∷ output) →
+      IsValue (quote ∷ input) output (quoted (encode_utf8_all text))
+  is_version_key : {key : MarkerValueVersion} {input output : List ℕ} →
+      Run KeyPart input (version_key_name key) output → IsValue input output (version_key key)
+  is_text_key : {key : MarkerValueString} {input output : List ℕ} →
+      Run KeyPart input (key_name key) output → IsValue input output (text_key key)
+  is_extra : {input output : List ℕ} →
+      Run KeyPart input (codes "extra") output → IsValue input output extra
 
 -- how an operator that is no word is written
 abbrev pub symbol_text : MarkerOperator → Option (List ℕ)
@@ -42,13 +49,20 @@ symbol_text NotIn = None
 symbol_text Contains = None
 symbol_text NotContains = None
 
--- an operator as it is written, `in` and `not in` among them; `not` is followed by white space, and then the letters `in`
+-- an operator as it is written, `in` and `not in` among them; `not` is followed by white space, and
+-- then the letters `in`
 pub data IsOperator : List ℕ → List ℕ → MarkerOperator → Type 0 where
-  is_symbol : {operator : MarkerOperator} {text input output : List ℕ} → symbol_text operator ≡ Some text → Run Comparison input text output → IsOperator input output operator
-  is_in : {input output : List ℕ} → Run WordPart input (codes "in") output → IsOperator input output In
-  is_not_in : {c : ℕ} {input gap output : List ℕ} → Run WordPart input (codes "not") (c ∷ gap) → holds Space c ≡ true → Spaces gap (105 ∷ 110 ∷ output) → IsOperator input output NotIn
+  is_symbol : {operator : MarkerOperator} {text input output : List ℕ} →
+      symbol_text operator ≡ Some text → Run Comparison input text output →
+      IsOperator input output operator
+  is_in : {input output : List ℕ} →
+      Run WordPart input (codes "in") output → IsOperator input output In
+  is_not_in : {c : ℕ} {input gap output : List ℕ} →
+      Run WordPart input (codes "not") (c ∷ gap) → holds Space c ≡ true →
+      Spaces gap (105 ∷ 110 ∷ output) → IsOperator input output NotIn
 
 -- a value, an operator and a value, with any white space before each
 pub data Sides : List ℕ → List ℕ → Value → MarkerOperator → Value → Type 0 where
   sides : {input a b c d e output : List ℕ} {left right : Value} {operator : MarkerOperator} →
-      Spaces input a → IsValue a b left → Spaces b c → IsOperator c d operator → Spaces d e → IsValue e output right → Sides input output left operator right
+      Spaces input a → IsValue a b left → Spaces b c → IsOperator c d operator →
+      Spaces d e → IsValue e output right → Sides input output left operator right

@@ -1,4 +1,5 @@
--- What the readers answer, without where its texts lie, and the words inside a value and an operator.
+-- What the readers answer, without where its texts lie, and the words inside a value and an
+-- operator.
 use Rattle.std.specs.Prelude.{◌≡◌, ℕ, true, List, ◌∷◌, codes}
 use Rattle.pep508_text.specs.Class.{holds}
 use Rattle.pep508_text.specs.Run.{Spaces}
@@ -23,4 +24,5 @@ IsNamed (quoted text) name = ⊥
 
 -- white space, at least one character of it, and the letters `in`: what follows a `not`
 pub data IsBehindNot : List ℕ → List ℕ → Type 0 where
-  behind_not : {c : ℕ} {gap output : List ℕ} → holds Space c ≡ true → Spaces gap (105 ∷ 110 ∷ output) → IsBehindNot (c ∷ gap) output
+  behind_not : {c : ℕ} {gap output : List ℕ} →
+      holds Space c ≡ true → Spaces gap (105 ∷ 110 ∷ output) → IsBehindNot (c ∷ gap) output

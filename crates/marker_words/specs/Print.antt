@@ -1,4 +1,5 @@
--- How values are printed. Texts are lists of bytes. (PEP 508, "Grammar"; which quotes are printed is this project's own.)
+-- How values are printed (PEP 508, "Grammar", which leaves open which quotes are printed). Texts
+-- are lists of bytes.
 use Rattle.std.specs.Prelude.{ℕ, List, ◌==◌, ◌∷◌, [], ◌++◌, codes, if◌then◌else◌, string_bytes}
 use Rattle.std.specs.List.{list_any}
 use Rattle.marker_words.specs.declared.marker_value.MarkerValue.{MarkerValue}
@@ -8,7 +9,8 @@ use Rattle.marker_words.specs.Lexical.{Value, version_key, text_key, extra, quot
 
 -- a text in `'`, or in `"` where it holds a `'`
 abbrev pub quoted_text : List ℕ → List ℕ
-quoted_text text = if list_any (λ c. c == 39) text then 34 ∷ (text ++ 34 ∷ []) else 39 ∷ (text ++ 39 ∷ [])
+quoted_text text =
+    if list_any (λ c. c == 39) text then 34 ∷ (text ++ 34 ∷ []) else 39 ∷ (text ++ 39 ∷ [])
 
 -- a key by its modern name
 abbrev pub value_text : Value → List ℕ

@@ -8,8 +8,8 @@ ghost use Rattle.marker_words.specs.Compare.{pair_of, lower_pair, upper_pair, pa
 use crate::operator::MarkerOperator;
 use std::ops::Bound;
 
-/// The comparisons that say together that a text lies in a range, the one of its lower bound first. There are two at
-/// most.
+/// The comparisons that say together that a text lies in a range, the one of its lower bound first.
+/// There are two at most.
 #[derive(Drop)]
 pub struct MarkerOperatorBounds<'a> {
     lower: Option<(MarkerOperator, &'a String)>,
@@ -37,13 +37,14 @@ impl<'a> Iterator for MarkerOperatorBounds<'a> {
 impl MarkerOperator {
     ghost use Rattle.marker_words.specs.Bounds.{pairs_left};
 
-    /// The comparisons that a text satisfies exactly where it lies between the bounds: one `==` where both include the
-    /// same text, and else one for each bound that there is. Where no text lies between the bounds, none satisfies all of
-    /// them.
+    /// The comparisons that a text satisfies exactly where it lies between the bounds: one `==`
+    /// where both include the same text, and else one for each bound that there is. Where no text
+    /// lies between the bounds, none satisfies all of them.
     pub fn from_bounds<'a>(
         bounds: (Bound<&'a String>, Bound<&'a String>),
     ) -> MarkerOperatorBounds<'a>
-        ensures pairs { pairs_left result ≡ pairs_of text_eq (text_bound bounds.entry.0) (text_bound bounds.entry.1) }
+        ensures pairs { pairs_left result
+            ≡ pairs_of text_eq (text_bound bounds.entry.0) (text_bound bounds.entry.1) }
 
         // The conjunction is the range, at each point.
         ensures range { (p : Point (List ℕ)) → satisfies_all text_cmp (pairs_left result) p
@@ -64,11 +65,12 @@ impl MarkerOperator {
         }
     }
 
-    /// The comparison that a text satisfies exactly where it does not lie below the bound: `>=` where the bound is
-    /// included, `>` where it is excluded, and none where there is no bound.
+    /// The comparison that a text satisfies exactly where it does not lie below the bound: `>=`
+    /// where the bound is included, `>` where it is excluded, and none where there is no bound.
     pub fn from_lower_bound<'a>(bound: Bound<&'a String>) -> Option<(MarkerOperator, &'a String)>
         ensures pair { option_map pair_of result ≡ lower_pair (text_bound bound.entry) }
-        ensures range { (p : Point (List ℕ)) → satisfies_all text_cmp (option_to_list (option_map pair_of result)) p
+        ensures range { (p : Point (List ℕ)) →
+            satisfies_all text_cmp (option_to_list (option_map pair_of result)) p
             ≡ is_from text_cmp (text_bound bound.entry) p }
     {
         match bound {
@@ -78,11 +80,12 @@ impl MarkerOperator {
         }
     }
 
-    /// The comparison that a text satisfies exactly where it does not lie above the bound: `<=` where the bound is
-    /// included, `<` where it is excluded, and none where there is no bound.
+    /// The comparison that a text satisfies exactly where it does not lie above the bound: `<=`
+    /// where the bound is included, `<` where it is excluded, and none where there is no bound.
     pub fn from_upper_bound<'a>(bound: Bound<&'a String>) -> Option<(MarkerOperator, &'a String)>
         ensures pair { option_map pair_of result ≡ upper_pair (text_bound bound.entry) }
-        ensures range { (p : Point (List ℕ)) → satisfies_all text_cmp (option_to_list (option_map pair_of result)) p
+        ensures range { (p : Point (List ℕ)) →
+            satisfies_all text_cmp (option_to_list (option_map pair_of result)) p
             ≡ is_until text_cmp (text_bound bound.entry) p }
     {
         match bound {

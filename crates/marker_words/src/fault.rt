@@ -20,7 +20,8 @@ pub enum FaultKind {
     NotAtEnd,
     /// No white space follows `not`.
     NoSpaceAfterNot,
-    /// The quote or parenthesis that stands there is never followed by this character, which closes it.
+    /// The quote or parenthesis that stands there is never followed by this character, which closes
+    /// it.
     Unclosed(char),
     /// The text ends where this character is expected.
     MissingAtEnd(char),
@@ -89,7 +90,8 @@ impl<'a> Fault<'a> {
 
         // A fault of words is told as one of the text: at this start, with its length and message.
         ensures told { IsWordFault text.now self.now
-            → IsMarkerFault NoneOpen text.now result (span_len self.now) (message_of self.now.kind self.now.piece.now) }
+            → IsMarkerFault NoneOpen text.now result (span_len self.now)
+            (message_of self.now.kind self.now.piece.now) }
     {
         text.len().saturating_sub(self.left)
     }

@@ -76,8 +76,8 @@ pub enum TextVariable {
     SysPlatform,
 }
 
-/// What a version key asks about. `python_version` is no variable: its comparisons become comparisons of
-/// `python_full_version`.
+/// What a version key asks about. `python_version` is no variable: its comparisons become
+/// comparisons of `python_full_version`.
 #[derive(Clone, Copy, Debug, PartialEq, Eq, PartialOrd, Ord, Hash)]
 pub enum VersionVariable {
     ImplementationVersion,

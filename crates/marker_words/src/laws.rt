@@ -1,4 +1,5 @@
-//! Laws of the words of comparisons. Each is a function that does nothing, whose contract is the law.
+//! Laws of the words of comparisons. Each is a function that does nothing, whose contract is the
+//! law.
 
 ghost use Rattle.std.specs.Prelude.{◌≡◌, ℕ, List};
 ghost use Rattle.std.specs.declared.ops.Bound.{Bound};
@@ -9,9 +10,11 @@ ghost use Rattle.marker_words.specs.Lexical.{Value};
 ghost use Rattle.marker_words.specs.Operator.{IsSpelling};
 ghost use Rattle.marker_words.specs.Part.{IsNamed};
 
-/// Over every order, a point lies between two bounds exactly where it satisfies the comparisons that they ask for.
+/// Over every order, a point lies between two bounds exactly where it satisfies the comparisons
+/// that they ask for.
 pub fn range_is_its_comparisons<T: Ord>()
-    ensures { (lower upper : Bound T) (p : Point T) → satisfies_all T.cmp (pairs_of T.eq lower upper) p ≡ is_in_bounds T.cmp lower upper p }
+    ensures { (lower upper : Bound T) (p : Point T) →
+        satisfies_all T.cmp (pairs_of T.eq lower upper) p ≡ is_in_bounds T.cmp lower upper p }
 {}
 
 /// A text is a spelling of one operator at most.

@@ -1,7 +1,7 @@
 //! The readers of the words of a comparison.
 //!
-//! Each goes from a text to what it reads at its front and to what is left behind that, or answers the
-//! fault that is told of a text in which no such word stands there.
+//! Each goes from a text to what it reads at its front and to what is left behind that, or answers
+//! the fault that is told of a text in which no such word stands there.
 
 ghost use Rattle.std.specs.Prelude.{◌≡◌, ◌↔◌, ◌<◌, ◌≤◌, ◌≢◌, ◌∷◌, ℕ, List, IsTrue, IfSome, IfNone, IfOk, IfErr, OnErr, Some, length};
 ghost use Rattle.std.specs.Str.{chars};
@@ -18,8 +18,8 @@ use crate::operator::MarkerOperator;
 use crate::parts::{ComparisonRef, Keyword, MarkerValueRef};
 use pep508_text::{Class, first, skip_space, split_run, strip};
 
-// The value at the front of the text, which is a quoted text, a key or `extra`. There is none at the end of the text, at
-// a quote that is not closed, and at any other run of characters.
+// The value at the front of the text, which is a quoted text, a key or `extra`. There is none at
+// the end of the text, at a quote that is not closed, and at any other run of characters.
 fn value(text: &str) -> Result<(MarkerValueRef<'_>, &str), Fault<'_>>
     ensures found { IfOk result (λ x. IsValue (chars text.now) (chars x.1.now) (value_of x.0)) }
     ensures none { OnErr result
@@ -52,27 +52,32 @@ fn is_quote(c: char) -> bool
     c == '\'' || c == '"'
 }
 
-// The value of this name.
+// The value of this name. Names that markers ask often are compared first.
 pub(crate) fn named(name: &str) -> Option<MarkerValueRef<'_>>
     ensures found { IfSome result (λ value. IsNamed (value_of value) name.now) }
     ensures none { IfNone result ((value : Value) → IsNamed value name.now → ⊥) }
 {
-    match (name, version_key(name), text_key(name)) {
-        ("extra", _, _) => Some(MarkerValueRef::Extra),
-        (_, Some(key), _) => Some(MarkerValueRef::MarkerEnvVersion(key)),
-        (_, _, Some(key)) => Some(MarkerValueRef::MarkerEnvString(key)),
-        _ => None,
+    if name == "extra" {
+        return Some(MarkerValueRef::Extra);
+    }
+    match version_key(name) {
+        Some(key) => Some(MarkerValueRef::MarkerEnvVersion(key)),
+        None => match text_key(name) {
+            Some(key) => Some(MarkerValueRef::MarkerEnvString(key)),
+            None => None,
+        },
     }
 }
 
 fn version_key(name: &str) -> Option<MarkerValueVersion>
     ensures found { IfSome result (λ key. name.now ≡ version_key_name key) }
-    ensures none { IfNone result ((key : MarkerValueVersion) → name.now ≡ version_key_name key → ⊥) }
+    ensures none { IfNone result (
+        (key : MarkerValueVersion) → name.now ≡ version_key_name key → ⊥) }
 {
     match name {
-        "implementation_version" => Some(MarkerValueVersion::ImplementationVersion),
-        "python_full_version" => Some(MarkerValueVersion::PythonFullVersion),
         "python_version" => Some(MarkerValueVersion::PythonVersion),
+        "python_full_version" => Some(MarkerValueVersion::PythonFullVersion),
+        "implementation_version" => Some(MarkerValueVersion::ImplementationVersion),
         _ => None,
     }
 }
@@ -82,29 +87,30 @@ fn text_key(name: &str) -> Option<MarkerValueString>
     ensures none { IfNone result ((key : MarkerValueString) → name.now ≡ key_name key → ⊥) }
 {
     match name {
-        "implementation_name" => Some(MarkerValueString::ImplementationName),
         "os_name" => Some(MarkerValueString::OsName),
-        "os.name" => Some(MarkerValueString::OsNameDeprecated),
+        "sys_platform" => Some(MarkerValueString::SysPlatform),
+        "platform_system" => Some(MarkerValueString::PlatformSystem),
         "platform_machine" => Some(MarkerValueString::PlatformMachine),
-        "platform.machine" => Some(MarkerValueString::PlatformMachineDeprecated),
         "platform_python_implementation" => Some(MarkerValueString::PlatformPythonImplementation),
+        "implementation_name" => Some(MarkerValueString::ImplementationName),
+        "platform_release" => Some(MarkerValueString::PlatformRelease),
+        "platform_version" => Some(MarkerValueString::PlatformVersion),
+        "os.name" => Some(MarkerValueString::OsNameDeprecated),
+        "sys.platform" => Some(MarkerValueString::SysPlatformDeprecated),
+        "platform.machine" => Some(MarkerValueString::PlatformMachineDeprecated),
         "platform.python_implementation" => Some(
             MarkerValueString::PlatformPythonImplementationDeprecated,
         ),
-        "python_implementation" => Some(MarkerValueString::PythonImplementationDeprecated),
-        "platform_release" => Some(MarkerValueString::PlatformRelease),
-        "platform_system" => Some(MarkerValueString::PlatformSystem),
-        "platform_version" => Some(MarkerValueString::PlatformVersion),
         "platform.version" => Some(MarkerValueString::PlatformVersionDeprecated),
-        "sys_platform" => Some(MarkerValueString::SysPlatform),
-        "sys.platform" => Some(MarkerValueString::SysPlatformDeprecated),
+        "python_implementation" => Some(MarkerValueString::PythonImplementationDeprecated),
         _ => None,
     }
 }
 
-// The operator at the front of the text. It is a word, `in` or `not in`, where the text begins with an alphabetic
-// character (Unicode's), and else made of the characters `<`, `=`, `>`, `~` and `!`. Anything else is no operator, nor is
-// a `not` behind which no white space and then the letters `in` stand.
+// The operator at the front of the text. It is a word, `in` or `not in`, where the text begins with
+// an alphabetic character (Unicode's), and else made of the characters `<`, `=`, `>`, `~` and `!`.
+// Anything else is no operator, nor is a `not` behind which no white space and then the letters
+// `in` stand.
 pub(crate) fn comparison_operator(text: &str) -> Result<(MarkerOperator, &str), Fault<'_>>
     ensures found { IfOk result (λ x. IsOperator (chars text.now) (chars x.1.now) x.0) }
     ensures none { OnErr result ((output : List ℕ) (operator : MarkerOperator)
@@ -144,7 +150,8 @@ fn begins_word(text: &str) -> bool
 // The operator that is written so and is no word.
 fn symbol(run: &str) -> Option<MarkerOperator>
     ensures found { IfSome result (λ operator. symbol_text operator ≡ Some run.now) }
-    ensures none { IfNone result ((operator : MarkerOperator) → symbol_text operator ≢ Some run.now) }
+    ensures none { IfNone result (
+        (operator : MarkerOperator) → symbol_text operator ≢ Some run.now) }
 {
     match run {
         "==" => Some(MarkerOperator::Equal),
@@ -194,10 +201,11 @@ fn expect(text: &str, awaited: char) -> Result<&str, Fault<'_>>
     Ok(rest)
 }
 
-/// The comparison at the front of the text: a value, an operator and a value, with any white space before
-/// each. The fault is that of the first of them that does not stand there.
+/// The comparison at the front of the text: a value, an operator and a value, with any white space
+/// before each. The fault is that of the first of them that does not stand there.
 pub fn sides(text: &str) -> Result<(ComparisonRef<'_>, &str), Fault<'_>>
-    ensures found { IfOk result (λ x. Sides (chars text.now) (chars x.1.now) (value_of x.0.left) x.0.operator (value_of x.0.right)) }
+    ensures found { IfOk result (λ x. Sides (chars text.now) (chars x.1.now)
+        (value_of x.0.left) x.0.operator (value_of x.0.right)) }
     ensures none { OnErr result ((output : List ℕ) (left right : Value) (operator : MarkerOperator)
         → Sides (chars text.now) output left operator right → ⊥) }
     ensures fault { IfErr result (IsWordFault text.now) }
@@ -215,14 +223,15 @@ pub fn sides(text: &str) -> Result<(ComparisonRef<'_>, &str), Fault<'_>>
     Ok((comparison, rest))
 }
 
-/// Which keyword the text begins with, and what is left behind it. A keyword is the whole run of characters that
-/// are no white space, so `and(` is none.
+/// Which keyword the text begins with, and what is left behind it. A keyword is the whole run of
+/// characters that are no white space, so `and(` is none.
 pub fn keyword(text: &str) -> (Keyword, &str)
     ensures which { IsKeyword result.0 (chars text.now) (chars result.1.now) }
     ensures suffix { IsSuffix text.now result.1.now }
     ensures shorter { result.0 ≢ Keyword.Other → length result.1.now < length text.now }
 {
-    // A text may close many parentheses in one run, which is not gone through once for each of them.
+    // A text may close many parentheses in one run, which is not gone through once for each of
+    // them.
     if strip(text, ')').is_some() {
         return (Keyword::Other, text);
     }

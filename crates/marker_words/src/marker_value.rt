@@ -45,8 +45,8 @@ impl MarkerValue {
     ghost use Rattle.marker_words.specs.Lexical.{Value};
     ghost use Rattle.marker_words.specs.Part.{IsNamed};
 
-    /// The value that this name stands for: a key, by its modern or by a deprecated spelling, or `extra`. `None` for any
-    /// other text, a quoted one too.
+    /// The value that this name stands for: a key, by its modern or by a deprecated spelling, or
+    /// `extra`. `None` for any other text, a quoted one too.
     pub fn parse(name: &str) -> Option<MarkerValue>
         ensures found { IfSome result (λ value. IsNamed (owned_value value) name.now) }
         ensures none { IfNone result ((value : Value) → IsNamed value name.now → ⊥) }

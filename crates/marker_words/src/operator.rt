@@ -8,8 +8,8 @@ use crate::lexical::comparison_operator;
 use std::fmt;
 use std::fmt::Display;
 
-/// An operator between a key and a text. `Contains` and `NotContains` are `in` and `not in` with the
-/// text on the left side.
+/// An operator between a key and a text. `Contains` and `NotContains` are `in` and `not in` with
+/// the text on the left side.
 #[derive(Clone, Copy, Debug, PartialEq, Eq, PartialOrd, Ord, Hash)]
 pub enum MarkerOperator {
     /// `==`
@@ -37,11 +37,13 @@ pub enum MarkerOperator {
 }
 
 impl MarkerOperator {
-    /// The operator that the whole text is a spelling of: `==`, `!=`, `>`, `>=`, `<`, `<=`, `~=`, `in`, or `not`, white
-    /// space and `in`, which is `NotIn`. `None` for any other text, one with white space around the operator too.
+    /// The operator that the whole text is a spelling of: `==`, `!=`, `>`, `>=`, `<`, `<=`, `~=`,
+    /// `in`, or `not`, white space and `in`, which is `NotIn`. `None` for any other text, one with
+    /// white space around the operator too.
     pub fn parse(text: &str) -> Option<MarkerOperator>
         ensures found { IfSome result (λ operator. IsSpelling (chars text.now) operator) }
-        ensures none { IfNone result ((operator : MarkerOperator) → IsSpelling (chars text.now) operator → ⊥) }
+        ensures none { IfNone result (
+            (operator : MarkerOperator) → IsSpelling (chars text.now) operator → ⊥) }
     {
         let Ok((operator, rest)) = comparison_operator(text) else {
             return None;

@@ -13,12 +13,12 @@ use Rattle.pep440_specifier.specs.Bounds.{bound_specifiers, lower_terms, minor_o
 use Rattle.pep440_specifier.specs.Specifier.{Specifier}
 use Rattle.pep440_specifier.specs.declared.operator.Operator.TheVariants as operator
 use Rattle.pep440_rs.specs.Bounds.{IsAtValid}
-use Rattle.pep440_rs.specs.Intervals.{IsAtEnd}
+use Rattle.pep440_rs.specs.Intervals.{Overflows}
 use Rattle.pep440_rs.proofs.Specified.{if-some, next-of, some-alike, star-of}
 
 -- a specifier raises nothing
 abbrev pub RaisesNothing : Specifier → Type 0
-RaisesNothing s = IsAtEnd s.operator s.version.release → ⊥
+RaisesNothing s = Overflows s.operator s.version.release → ⊥
 
 none_is_some : {T : Type 0} (x : T) → None ≡ Some x → ⊥
 none_is_some x e = cc

@@ -1,4 +1,4 @@
--- Ranges of releases, and the specifiers that mean them (this project's own).
+-- Ranges of releases, and the specifiers that mean them.
 use Rattle.std.specs.Prelude.{◌≡◌, ◌==◌, ◌&&◌, ⊤, Bool, List}
 use Rattle.std.specs.Borrow.{Bor}
 use Rattle.std.specs.List.{list_all}
@@ -39,4 +39,5 @@ IsAtValid Unbounded = ⊤
 
 -- whether a point lies between two bounds at versions that are lent
 abbrev pub is_within : Bound (Bor Parts) → Bound (Bor Parts) → Point Parts → Bool
-is_within lower upper p = is_in_bounds version_cmp (bound_map (λ v. v.now) lower) (bound_map (λ v. v.now) upper) p
+is_within lower upper p =
+    is_in_bounds version_cmp (bound_map (λ v. v.now) lower) (bound_map (λ v. v.now) upper) p

@@ -1,5 +1,6 @@
--- The sets of versions that version specifiers stand for (PEP 440, "Version specifiers"), as sets of points. That the release alone
--- counts, without epoch, pre-release, post-release, development release and local part, is this project's own.
+-- The sets of versions that version specifiers stand for (PEP 440, "Version specifiers"), as sets
+-- of points. That the release alone counts, without epoch, pre-release, post-release, development
+-- release and local part, is this project's own.
 use Rattle.std.specs.Prelude.{◌≡◌, ◌⊎◌, ⊤, ℕ, ◌+◌, ◌-◌, ◌<◌, ◌==◌, Bool, true, not, List, [], ◌∷◌, length, take, None, Option, Some}
 use Rattle.std.specs.Range.Bound.{bound_map}
 use Rattle.std.specs.declared.cmp.Ordering.TheVariants.{Equal}
@@ -33,7 +34,8 @@ last_number (x ∷ y ∷ r) = last_number (y ∷ r)
 
 -- whether a point lies between two bounds that are releases
 abbrev pub is_between : Bound (List ℕ) → Bound (List ℕ) → Point Parts → Bool
-is_between lower upper p = is_in_bounds version_cmp (bound_map release_only lower) (bound_map release_only upper) p
+is_between lower upper p =
+    is_in_bounds version_cmp (bound_map release_only lower) (bound_map release_only upper) p
 
 -- whether a point is in the set that an operator and a release stand for
 abbrev pub is_in : Operator → List ℕ → Point Parts → Bool
@@ -60,12 +62,12 @@ abbrev pub IsGreatest : Option ℕ → Type 0
 IsGreatest n = n ≡ Some 18446744073709551615
 
 -- a comparison would raise the largest number
-abbrev pub IsAtEnd : Operator → List ℕ → Type 0
-IsAtEnd o r = IsGreatest (raised_number o r)
+abbrev pub Overflows : Operator → List ℕ → Type 0
+Overflows o r = IsGreatest (raised_number o r)
 
 -- a call is refused where there is no memory, or where the largest number would be raised
-abbrev pub IsRefusedAt : {E : Type 0} → Type 0 → Refusal E → Type 0
-IsRefusedAt AtEnd e = (e ≡ OutOfMemory) ⊎ ((e ≡ SegmentAtEnd) × AtEnd)
+abbrev pub IsRefusal : {E : Type 0} → Type 0 → Refusal E → Type 0
+IsRefusal AtEnd e = (e ≡ OutOfMemory) ⊎ ((e ≡ SegmentAtEnd) × AtEnd)
 
 -- a bound is at a release with a number
 abbrev pub HasNumbers : Bound (List ℕ) → Type 0

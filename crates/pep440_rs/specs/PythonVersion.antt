@@ -1,5 +1,6 @@
--- The sets of full versions of Python that comparisons of `python_version` stand for. `python_version` is `M.m` of a full version
--- (PEP 508, "Environment Markers"); what a comparison with it says of the full version is this project's own.
+-- The sets of full versions of Python that comparisons of `python_version` stand for.
+-- `python_version` is `M.m` of a full version (PEP 508, "Environment Markers"); what a comparison
+-- with it says of the full version is this project's own.
 use Rattle.std.specs.Prelude.{ℕ, Bool, not, ◌&&◌, if◌then◌else◌, nat_lt, List, [], ◌∷◌, length, get_or, None, Option, Some}
 use Rattle.std.specs.declared.ops.Bound.TheVariants.{Included, Excluded, Unbounded}
 use Rattle.version_ranges.specs.Point.{Point}
@@ -49,7 +50,8 @@ python_is_in operator.NotEqual r p = not (is_same_minor (trimmed r) p)
 python_is_in operator.LessThan r p = is_between Unbounded (Excluded (first_minor (trimmed r))) p
 python_is_in operator.LessThanEqual r p = is_between Unbounded (Excluded (next_minor (trimmed r))) p
 python_is_in operator.GreaterThan r p = is_between (Included (next_minor (trimmed r))) Unbounded p
-python_is_in operator.GreaterThanEqual r p = is_between (Included (first_minor (trimmed r))) Unbounded p
+python_is_in operator.GreaterThanEqual r p =
+    is_between (Included (first_minor (trimmed r))) Unbounded p
 python_is_in operator.TildeEqual r p = not (has_more r) && is_in operator.TildeEqual r p
 python_is_in operator.EqualStar r p = is_in_star r p
 python_is_in operator.NotEqualStar r p = not (is_in_star r p)
@@ -70,9 +72,10 @@ python_raised_number operator.NotEqual r = raised_by (trimmed r) (minor_raised (
 python_raised_number operator.LessThan r = raised_by (trimmed r) None (minor_raised (trimmed r))
 python_raised_number operator.LessThanEqual r = minor_raised (trimmed r)
 python_raised_number operator.GreaterThan r = minor_raised (trimmed r)
-python_raised_number operator.GreaterThanEqual r = raised_by (trimmed r) None (minor_raised (trimmed r))
+python_raised_number operator.GreaterThanEqual r =
+    raised_by (trimmed r) None (minor_raised (trimmed r))
 python_raised_number o r = raised_by r (raised_number o r) None
 
 -- a comparison would raise the largest number
-abbrev pub IsPythonAtEnd : Operator → List ℕ → Type 0
-IsPythonAtEnd o r = IsGreatest (python_raised_number o r)
+abbrev pub PythonOverflows : Operator → List ℕ → Type 0
+PythonOverflows o r = IsGreatest (python_raised_number o r)

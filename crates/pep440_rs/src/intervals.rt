@@ -1,15 +1,14 @@
 //! The sets of versions that version specifiers stand for, by the release alone.
 
-ghost use Rattle.std.specs.Prelude.{◌≡◌, ◌<◌, ◌≤◌, ℕ, not, true, length, IfOk, IfErr, OnOk};
+ghost use Rattle.std.specs.Prelude.{◌≡◌, ◌<◌, ◌≤◌, ℕ, true, length, IfOk, IfErr, OnOk};
 ghost use Rattle.std.specs.Range.Bound.{bound_map};
 ghost use Rattle.std.specs.declared.cmp.Ordering.TheVariants.{Equal};
 ghost use Rattle.std.specs.declared.ops.Bound.TheVariants.{Included, Excluded};
 ghost use Rattle.version_ranges.specs.Bounds.{passes_at};
-ghost use Rattle.version_ranges.specs.Point.{Point};
-ghost use Rattle.version_ranges.specs.Ranges.{contains_point};
+ghost use Rattle.version_ranges.specs.Ranges.{IsComplement, IsSet};
 ghost use Rattle.pep440_version.specs.Order.{trimmed, version_cmp};
-ghost use Rattle.pep440_version.specs.Parts.{Parts, release_only};
-ghost use Rattle.pep440_rs.specs.Intervals.{HasNumbers, HasTrimmedBounds, IsAtEnd, IsGreatest, IsRefusedAt, IsSameBound, is_between, is_in, is_trimmed, last_number, raised};
+ghost use Rattle.pep440_version.specs.Parts.{release_only};
+ghost use Rattle.pep440_rs.specs.Intervals.{HasNumbers, HasTrimmedBounds, Overflows, IsGreatest, IsRefusal, IsSameBound, is_between, is_in, is_trimmed, last_number, raised};
 
 use pep440_specifier::{Operator, VersionSpecifier};
 use pep440_version::{Refusal, Version};
@@ -31,8 +30,10 @@ fn trimmed_version(alloc: Global, release: &[u64]) -> Result<Version, AllocError
 // A bound at these release numbers.
 fn release_bound(alloc: Global, bound: Bound<&[u64]>) -> Result<Bound<Version>, AllocError>
     requires { HasNumbers (bound_map (λ r. r.now) bound) }
-    ensures value { IfOk result (λ b. b ≡ bound_map (λ r. release_only (trimmed r.now)) bound.entry) }
-    ensures same { IfOk result (λ b. IsSameBound b (bound_map release_only (bound_map (λ r. r.now) bound.entry))) }
+    ensures value { IfOk result (λ b.
+        b ≡ bound_map (λ r. release_only (trimmed r.now)) bound.entry) }
+    ensures same { IfOk result (λ b. IsSameBound b
+        (bound_map release_only (bound_map (λ r. r.now) bound.entry))) }
     ensures trimmed { IfOk result (λ b. passes_at is_trimmed b ≡ true) }
 {
     match bound {
@@ -50,7 +51,8 @@ pub(crate) fn between(
 ) -> Result<Ranges<Version>, AllocError>
     requires lower { HasNumbers (bound_map (λ r. r.now) lower) }
     requires upper { HasNumbers (bound_map (λ r. r.now) upper) }
-    ensures set { IfOk result (λ r. (p : Point Parts) → contains_point version_cmp r p ≡ is_between (bound_map (λ r. r.now) lower.entry) (bound_map (λ r. r.now) upper.entry) p) }
+    ensures set { IfOk result (λ r. IsSet version_cmp r (is_between
+        (bound_map (λ r. r.now) lower.entry) (bound_map (λ r. r.now) upper.entry))) }
     ensures bounds { IfOk result HasTrimmedBounds }
 {
     let lower = release_bound(alloc, lower)?;
@@ -64,7 +66,7 @@ pub(crate) fn outside(
     inside: &Ranges<Version>,
 ) -> Result<Ranges<Version>, AllocError>
     requires { HasTrimmedBounds inside.now }
-    ensures set { IfOk result (λ r. (p : Point Parts) → contains_point version_cmp r p ≡ not (contains_point version_cmp inside.now p)) }
+    ensures set { IfOk result (λ r. IsComplement version_cmp inside.now r) }
     ensures bounds { IfOk result HasTrimmedBounds }
 {
     inside.complement(alloc)
@@ -75,8 +77,8 @@ fn raise(alloc: Global, release: &[u64]) -> Result<Vec<u64>, Refusal<Infallible>
     requires { 0 < length release.now }
     ensures value { IfOk result (λ r. r.items ≡ raised release.now) }
     ensures some { IfOk result (λ r. 0 < length r.items) }
-    ensures not_at_end { OnOk result (¬ IsGreatest (last_number release.now)) }
-    ensures err { IfErr result (λ e. IsRefusedAt (IsGreatest (last_number release.now)) e) }
+    ensures no_overflow { OnOk result (¬ IsGreatest (last_number release.now)) }
+    ensures err { IfErr result (λ e. IsRefusal (IsGreatest (last_number release.now)) e) }
 {
     let last = release.len() - 1;
     let Some(next) = release[last].checked_add(1) else {
@@ -95,10 +97,11 @@ fn up_to_raised(
 ) -> Result<Ranges<Version>, Refusal<Infallible>>
     requires release { 0 < length release.now }
     requires prefix { 0 < length prefix.now }
-    ensures set { IfOk result (λ r. (p : Point Parts) → contains_point version_cmp r p ≡ is_between (Included release.now) (Excluded (raised prefix.now)) p) }
+    ensures set { IfOk result (λ r. IsSet version_cmp r
+        (is_between (Included release.now) (Excluded (raised prefix.now)))) }
     ensures bounds { IfOk result HasTrimmedBounds }
-    ensures not_at_end { OnOk result (¬ IsGreatest (last_number prefix.now)) }
-    ensures err { IfErr result (λ e. IsRefusedAt (IsGreatest (last_number prefix.now)) e) }
+    ensures no_overflow { OnOk result (¬ IsGreatest (last_number prefix.now)) }
+    ensures err { IfErr result (λ e. IsRefusal (IsGreatest (last_number prefix.now)) e) }
 {
     let end = raise(alloc, prefix)?;
     let range = between(alloc, Bound::Included(release), Bound::Excluded(&end))?;
@@ -113,10 +116,10 @@ pub(crate) fn release_to_range(
 ) -> Result<Ranges<Version>, Refusal<Infallible>>
     requires some { 0 < length release.now }
     requires compatible { operator ≡ Operator.TildeEqual → 2 ≤ length release.now }
-    ensures set { IfOk result (λ r. (p : Point Parts) → contains_point version_cmp r p ≡ is_in operator release.now p) }
+    ensures set { IfOk result (λ r. IsSet version_cmp r (is_in operator release.now)) }
     ensures bounds { IfOk result HasTrimmedBounds }
-    ensures not_at_end { OnOk result (¬ IsAtEnd operator release.now) }
-    ensures err { IfErr result (λ e. IsRefusedAt (IsAtEnd operator release.now) e) }
+    ensures no_overflow { OnOk result (¬ Overflows operator release.now) }
+    ensures err { IfErr result (λ e. IsRefusal (Overflows operator release.now) e) }
 {
     let included = Bound::Included(release);
     let excluded = Bound::Excluded(release);
@@ -136,22 +139,26 @@ pub(crate) fn release_to_range(
 /// The versions that a specifier stands for where it is compared with a whole version, such as
 /// `implementation_version` or `python_full_version`.
 ///
-/// Its release alone counts: epoch, pre-release, post-release, development release and local part are dropped.
-/// `== 3.9.*` is from 3.9 up to 3.10, and `~= 3.9.1` from 3.9.1 up to 3.10, both without their end. The bounds are
-/// written without zeros at the end of their releases: `>= 3.0` is from 3 on.
+/// Its release alone counts: epoch, pre-release, post-release, development release and local part
+/// are dropped. `== 3.9.*` is from 3.9 up to 3.10, and `~= 3.9.1` from 3.9.1 up to 3.10, both
+/// without their end. The bounds are written without zeros at the end of their releases: `>= 3.0`
+/// is from 3 on.
 ///
-/// It is refused as `SegmentAtEnd` where 18446744073709551615 would be raised for such an end, which `!=` of a star
-/// asks for too, and else for want of memory alone.
+/// It is refused as `SegmentAtEnd` where 18446744073709551615 would be raised for such an end,
+/// which `!=` of a star asks for too, and else for want of memory alone.
 pub fn release_specifier_to_range(
     alloc: Global,
     specifier: &VersionSpecifier,
 ) -> Result<Ranges<Version>, Refusal<Infallible>>
-    ensures set { IfOk result (λ r. (p : Point Parts) → contains_point version_cmp r p ≡ is_in specifier.now.operator specifier.now.version.release p) }
+    ensures set { IfOk result (λ r. IsSet version_cmp r
+        (is_in specifier.now.operator specifier.now.version.release)) }
     ensures bounds { IfOk result HasTrimmedBounds }
 
     // Only where the largest number would be raised is there none.
-    ensures not_at_end { OnOk result (¬ IsAtEnd specifier.now.operator specifier.now.version.release) }
-    ensures err { IfErr result (λ e. IsRefusedAt (IsAtEnd specifier.now.operator specifier.now.version.release) e) }
+    ensures no_overflow { OnOk result
+        (¬ Overflows specifier.now.operator specifier.now.version.release) }
+    ensures err { IfErr result (λ e. IsRefusal
+        (Overflows specifier.now.operator specifier.now.version.release) e) }
 {
     release_to_range(alloc, specifier.operator(), specifier.version().release())
 }

@@ -19,7 +19,7 @@ ghost use Rattle.pep440_version.specs.Order.{trimmed_parts, version_cmp};
 ghost use Rattle.pep440_version.specs.Parts.{Parts};
 ghost use Rattle.pep440_rs.specs.Bounds.{is_in_all, is_release, is_within, IsAtRelease, IsAtValid, IsRelease};
 ghost use Rattle.pep440_rs.specs.Ends.{IsReleasePoint, ends_of, python_ends_of};
-ghost use Rattle.pep440_rs.specs.Intervals.{HasTrimmedBounds, IsAtEnd, is_in, is_trimmed};
+ghost use Rattle.pep440_rs.specs.Intervals.{HasTrimmedBounds, Overflows, is_in, is_trimmed};
 ghost use Rattle.pep440_rs.specs.PythonVersion.{python_is_in};
 
 use pep440_version::Version;
@@ -27,8 +27,10 @@ use version_ranges::Ranges;
 
 /// A negated operator stands for the versions that the operator does not stand for.
 pub fn negated_operator_is_complement()
-    ensures release { (o n : Operator) (r : List ℕ) (p : Point Parts) → negated o ≡ Some n → is_in n r p ≡ not (is_in o r p) }
-    ensures python_version { (o n : Operator) (r : List ℕ) (p : Point Parts) → negated o ≡ Some n → python_is_in n r p ≡ not (python_is_in o r p) }
+    ensures release { (o n : Operator) (r : List ℕ) (p : Point Parts)
+        → negated o ≡ Some n → is_in n r p ≡ not (is_in o r p) }
+    ensures python_version { (o n : Operator) (r : List ℕ) (p : Point Parts)
+        → negated o ≡ Some n → python_is_in n r p ≡ not (python_is_in o r p) }
 {}
 
 /// A clone of a version is equal to it, as sets of versions ask.
@@ -36,18 +38,23 @@ pub fn version_clones_are_equal()
     ensures { ClonesAreEqual ⟦<Version as PartialEq>⟧.eq ⟦<Version as Clone>⟧.is_clone }
 {}
 
-/// A point lies between two bounds that are releases exactly where it is in the set of each specifier of the range.
+/// A point lies between two bounds that are releases exactly where it is in the set of each
+/// specifier of the range.
 pub fn range_is_its_specifiers()
-    ensures { (lower upper : Bound (Bor Parts)) (p : Point Parts) → IsAtRelease lower → IsAtRelease upper → is_in_all (bound_specifiers lower upper) p ≡ is_within lower upper p }
+    ensures { (lower upper : Bound (Bor Parts)) (p : Point Parts)
+        → IsAtRelease lower → IsAtRelease upper
+        → is_in_all (bound_specifiers lower upper) p ≡ is_within lower upper p }
 {}
 
-/// Equal versions with release numbers are written alike, without the zeros at the end of their releases.
+/// Equal versions with release numbers are written alike, without the zeros at the end of their
+/// releases.
 pub fn tied_versions_are_trimmed_alike()
-    ensures { (v w : Parts) → 0 < length v.release → 0 < length w.release → version_cmp v w ≡ Equal → trimmed_parts v ≡ trimmed_parts w }
+    ensures { (v w : Parts) → 0 < length v.release → 0 < length w.release
+        → version_cmp v w ≡ Equal → trimmed_parts v ≡ trimmed_parts w }
 {}
 
-/// Where the bounds of a set are without zeros at the end of their releases, this is so of both bounds of each interval
-/// that `iter` gives: dropping the zeros changes nothing.
+/// Where the bounds of a set are without zeros at the end of their releases, this is so of both
+/// bounds of each interval that `iter` gives: dropping the zeros changes nothing.
 pub fn trimmed_bounds_have_no_zeros(set: &Ranges<Version>)
     requires { HasTrimmedBounds set.now }
     ensures intervals { list_all (passes_at_both is_trimmed) (intervals_of set.now) ≡ true }
@@ -62,14 +69,16 @@ pub fn equal_specifiers_stand_for_one_set()
         → is_in s.operator s.version.release p ≡ is_in t.operator t.version.release p }
     ensures python_version { (s t : Specifier) → specifier_cmp s t ≡ Equal
         → 0 < length s.version.release → 0 < length t.version.release → (p : Point Parts)
-        → python_is_in s.operator s.version.release p ≡ python_is_in t.operator t.version.release p }
+        → python_is_in s.operator s.version.release p
+        ≡ python_is_in t.operator t.version.release p }
 {}
 
 /// The specifiers of a range raise nothing past 64 bits: where a star stands for two bounds, the
 /// number above its last one is that of the upper bound.
 pub fn range_specifiers_raise_nothing()
     ensures { (lower upper : Bound (Bor Parts)) → IsAtValid upper
-        → AllByRecursion (λ s. ¬ IsAtEnd s.operator s.version.release) (bound_specifiers lower upper) }
+        → AllByRecursion (λ s. ¬ Overflows s.operator s.version.release)
+        (bound_specifiers lower upper) }
 {}
 
 /// A version that is equal to a release is a release: it has release numbers alone, as the test
@@ -79,8 +88,8 @@ pub fn versions_tied_with_releases_are_releases()
     ensures test { (v : Parts) → (is_release v ≡ true) ↔ IsRelease v }
 {}
 
-/// What the set of a specifier answers at a point changes only at its ends, which stand at releases:
-/// two points that stand before the same of them are both in the set, or neither is.
+/// What the set of a specifier answers at a point changes only at its ends, which stand at
+/// releases: two points that stand before the same of them are both in the set, or neither is.
 pub fn sets_change_at_their_ends()
     ensures release { (o : Operator) (r : List ℕ) (p q : Point Parts)
         → AreAlike version_cmp p q (ends_of o r) → is_in o r p ≡ is_in o r q }

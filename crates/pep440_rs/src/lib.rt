@@ -1,5 +1,5 @@
-//! The part of PEP 440 that dependency specifiers need: versions, version specifiers, and the sets of versions that
-//! comparisons stand for.
+//! The part of PEP 440 that dependency specifiers need: versions, version specifiers, and the sets
+//! of versions that comparisons stand for.
 #![tactic(auto)]
 
 mod intervals;

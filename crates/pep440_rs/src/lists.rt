@@ -3,11 +3,11 @@
 ghost use Rattle.std.specs.Prelude.{◌≡◌, ◌||◌, false, map, true, IfErr, IfOk, OnOk};
 ghost use Rattle.std.specs.List.{list_all, list_any};
 ghost use Rattle.version_ranges.specs.Point.{Point};
-ghost use Rattle.version_ranges.specs.Ranges.{contains_point};
+ghost use Rattle.version_ranges.specs.Ranges.{contains_point, IsSet};
 ghost use Rattle.pep440_version.specs.Order.{trimmed_parts, version_cmp};
 ghost use Rattle.pep440_version.specs.Parts.{Parts};
-ghost use Rattle.pep440_rs.specs.Intervals.{HasTrimmedBounds, IsRefusedAt, is_trimmed};
-ghost use Rattle.pep440_rs.specs.Lists.{IsListAtEnd, has_long, is_in_or_not, is_listed, is_minor_listed, raises_greatest};
+ghost use Rattle.pep440_rs.specs.Intervals.{HasTrimmedBounds, IsRefusal, is_trimmed};
+ghost use Rattle.pep440_rs.specs.Lists.{ListOverflows, has_long, is_in_or_not, is_listed, is_minor_listed, raises_greatest};
 ghost use Rattle.pep440_rs.specs.PythonVersion.{is_in_minor};
 
 use crate::intervals::outside;
@@ -20,7 +20,8 @@ use version_ranges::Ranges;
 // The versions without the zeros at the end of their releases, as they stand at bounds.
 fn trimmed_versions(alloc: Global, versions: &[Version]) -> Result<Vec<Version>, AllocError>
     ensures value { IfOk result (λ r. r.items ≡ map trimmed_parts versions.now) }
-    ensures same { IfOk result (λ r. (p : Point Parts) → is_listed r.items p ≡ is_listed versions.now p) }
+    ensures same { IfOk result (λ r. (p : Point Parts)
+        → is_listed r.items p ≡ is_listed versions.now p) }
     ensures trimmed { IfOk result (λ r. list_all is_trimmed r.items ≡ true) }
 {
     let mut trimmed = Vec::with_capacity(alloc, versions.len())?;
@@ -30,8 +31,9 @@ fn trimmed_versions(alloc: Global, versions: &[Version]) -> Result<Vec<Version>,
     Ok(trimmed)
 }
 
-/// The listed versions, with all their parts, or the versions that are not listed where it is negated. The empty list
-/// is none. The bounds are written without zeros at the end of their releases.
+/// The listed versions, with all their parts, or the versions that are not listed where it is
+/// negated. The empty list is none. The bounds are written without zeros at the end of their
+/// releases.
 ///
 /// It is refused for want of memory alone.
 pub fn version_list_to_range(
@@ -39,7 +41,8 @@ pub fn version_list_to_range(
     versions: &[Version],
     negated: bool,
 ) -> Result<Ranges<Version>, AllocError>
-    ensures set { IfOk result (λ r. (p : Point Parts) → contains_point version_cmp r p ≡ is_in_or_not negated (is_listed versions.now p)) }
+    ensures set { IfOk result (λ r. IsSet version_cmp r
+        (λ p. is_in_or_not negated (is_listed versions.now p))) }
     ensures bounds { IfOk result HasTrimmedBounds }
 {
     let listed = listed_versions(alloc, versions)?;
@@ -52,7 +55,7 @@ pub fn version_list_to_range(
 
 // The listed versions.
 fn listed_versions(alloc: Global, versions: &[Version]) -> Result<Ranges<Version>, AllocError>
-    ensures set { IfOk result (λ r. (p : Point Parts) → contains_point version_cmp r p ≡ is_listed versions.now p) }
+    ensures set { IfOk result (λ r. IsSet version_cmp r (is_listed versions.now)) }
     ensures bounds { IfOk result HasTrimmedBounds }
 {
     let trimmed = trimmed_versions(alloc, versions)?;
@@ -75,22 +78,24 @@ fn either(
 ) -> Result<Ranges<Version>, AllocError>
     requires left { HasTrimmedBounds left.now }
     requires right { HasTrimmedBounds right.now }
-    ensures set { IfOk result (λ r. (p : Point Parts) → contains_point version_cmp r p ≡ (contains_point version_cmp left.now p || contains_point version_cmp right.now p)) }
+    ensures set { IfOk result (λ r. IsSet version_cmp r
+        (λ p. contains_point version_cmp left.now p || contains_point version_cmp right.now p)) }
     ensures bounds { IfOk result HasTrimmedBounds }
 {
     left.union(alloc, right)
 }
 
-// The full versions whose `python_version` begins one of the releases. Halves are united, so that each point is swept
-// over a number of times that is the logarithm of their count.
+// The full versions whose `python_version` begins one of the releases. Halves are united, so that
+// each point is swept over a number of times that is the logarithm of their count.
 fn minors_to_range(
     alloc: Global,
     versions: &[Version],
 ) -> Result<Ranges<Version>, Refusal<Infallible>>
-    ensures set { IfOk result (λ r. (p : Point Parts) → contains_point version_cmp r p ≡ list_any (λ v. is_in_minor v.release p) versions.now) }
+    ensures set { IfOk result (λ r. IsSet version_cmp r
+        (λ p. list_any (λ v. is_in_minor v.release p) versions.now)) }
     ensures bounds { IfOk result HasTrimmedBounds }
-    ensures not_at_end { OnOk result (raises_greatest versions.now ≡ false) }
-    ensures err { IfErr result (λ e. IsRefusedAt (raises_greatest versions.now ≡ true) e) }
+    ensures no_overflow { OnOk result (raises_greatest versions.now ≡ false) }
+    ensures err { IfErr result (λ e. IsRefusal (raises_greatest versions.now ≡ true) e) }
 {
     match versions {
         [] => Ok(Ranges::empty(alloc)),
@@ -109,10 +114,10 @@ fn listed_minors(
     alloc: Global,
     versions: &[Version],
 ) -> Result<Ranges<Version>, Refusal<Infallible>>
-    ensures set { IfOk result (λ r. (p : Point Parts) → contains_point version_cmp r p ≡ is_minor_listed versions.now p) }
+    ensures set { IfOk result (λ r. IsSet version_cmp r (is_minor_listed versions.now)) }
     ensures bounds { IfOk result HasTrimmedBounds }
-    ensures not_at_end { OnOk result (¬ IsListAtEnd versions.now) }
-    ensures err { IfErr result (λ e. IsRefusedAt (IsListAtEnd versions.now) e) }
+    ensures no_overflow { OnOk result (¬ ListOverflows versions.now) }
+    ensures err { IfErr result (λ e. IsRefusal (ListOverflows versions.now) e) }
 {
     if has_long(versions) {
         return Ok(Ranges::empty(alloc));
@@ -120,26 +125,27 @@ fn listed_minors(
     minors_to_range(alloc, versions)
 }
 
-/// The full versions of Python, as `python_full_version` has them, whose `python_version` is listed, or is not listed
-/// where it is negated. The empty list is none.
+/// The full versions of Python, as `python_full_version` has them, whose `python_version` is
+/// listed, or is not listed where it is negated. The empty list is none.
 ///
-/// The entries' releases alone count, as they are written: `3.9a1` is as `3.9`, and where an entry has more than two
-/// numbers, as `3.9.0` has, the list is none as a whole. The bounds are written without zeros at the end of their
-/// releases.
+/// The entries' releases alone count, as they are written: `3.9a1` is as `3.9`, and where an entry
+/// has more than two numbers, as `3.9.0` has, the list is none as a whole. The bounds are written
+/// without zeros at the end of their releases.
 ///
-/// It is refused as `SegmentAtEnd` where 18446744073709551615 is the second number of an entry, and none has more
-/// than two, also where it is negated. Else it is refused for want of memory alone.
+/// It is refused as `SegmentAtEnd` where 18446744073709551615 is the second number of an entry, and
+/// none has more than two, also where it is negated. Else it is refused for want of memory alone.
 pub fn python_version_list_to_range(
     alloc: Global,
     versions: &[Version],
     negated: bool,
 ) -> Result<Ranges<Version>, Refusal<Infallible>>
-    ensures set { IfOk result (λ r. (p : Point Parts) → contains_point version_cmp r p ≡ is_in_or_not negated (is_minor_listed versions.now p)) }
+    ensures set { IfOk result (λ r. IsSet version_cmp r
+        (λ p. is_in_or_not negated (is_minor_listed versions.now p))) }
     ensures bounds { IfOk result HasTrimmedBounds }
 
     // Only where the largest number would be raised is there none.
-    ensures not_at_end { OnOk result (¬ IsListAtEnd versions.now) }
-    ensures err { IfErr result (λ e. IsRefusedAt (IsListAtEnd versions.now) e) }
+    ensures no_overflow { OnOk result (¬ ListOverflows versions.now) }
+    ensures err { IfErr result (λ e. IsRefusal (ListOverflows versions.now) e) }
 {
     let listed = listed_minors(alloc, versions)?;
     if negated {

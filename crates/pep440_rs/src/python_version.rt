@@ -3,12 +3,10 @@
 ghost use Rattle.std.specs.Prelude.{◌≡◌, ◌<◌, ◌≤◌, ◌&&◌, ℕ, None, get_or, length, not, IfErr, IfOk, OnOk};
 ghost use Rattle.std.specs.declared.ops.Bound.TheVariants.{Excluded, Included, Unbounded};
 ghost use Rattle.refusal.specs.declared.Refusal.TheVariants.{OutOfMemory};
-ghost use Rattle.version_ranges.specs.Point.{Point};
-ghost use Rattle.version_ranges.specs.Ranges.{contains_point};
+ghost use Rattle.version_ranges.specs.Ranges.{IsSet};
 ghost use Rattle.pep440_version.specs.Order.{trimmed as trimmed_of, version_cmp};
-ghost use Rattle.pep440_version.specs.Parts.{Parts};
-ghost use Rattle.pep440_rs.specs.Intervals.{HasTrimmedBounds, IsGreatest, IsRefusedAt, is_between, is_in, raised_number};
-ghost use Rattle.pep440_rs.specs.PythonVersion.{IsPythonAtEnd, first_minor, has_more, is_in_minor, is_same_minor, minor_raised, minor_release, next_minor, python_is_in, raised_by};
+ghost use Rattle.pep440_rs.specs.Intervals.{HasTrimmedBounds, IsGreatest, IsRefusal, is_between, is_in, raised_number};
+ghost use Rattle.pep440_rs.specs.PythonVersion.{PythonOverflows, first_minor, has_more, is_in_minor, is_same_minor, minor_raised, minor_release, next_minor, python_is_in, raised_by};
 
 use crate::intervals::{between, outside, release_to_range};
 use pep440_specifier::{Operator, VersionSpecifier};
@@ -42,8 +40,8 @@ fn minor_release(release: &[u64]) -> [u64; 2]
 // `M.(m+1)` of a release.
 fn next_minor(release: &[u64]) -> Result<[u64; 2], Refusal<Infallible>>
     ensures value { IfOk result (λ next. next ≡ next_minor release.now) }
-    ensures not_at_end { OnOk result (¬ IsGreatest (minor_raised release.now)) }
-    ensures err { IfErr result (λ e. IsRefusedAt (IsGreatest (minor_raised release.now)) e) }
+    ensures no_overflow { OnOk result (¬ IsGreatest (minor_raised release.now)) }
+    ensures err { IfErr result (λ e. IsRefusal (IsGreatest (minor_raised release.now)) e) }
 {
     let Some(next) = number_at(release, 1).checked_add(1) else {
         return Err(Refusal::SegmentAtEnd);
@@ -54,8 +52,10 @@ fn next_minor(release: &[u64]) -> Result<[u64; 2], Refusal<Infallible>>
 // The first `M.m` that is not below a release.
 fn first_minor(release: &[u64]) -> Result<[u64; 2], Refusal<Infallible>>
     ensures value { IfOk result (λ first. first ≡ first_minor release.now) }
-    ensures not_at_end { OnOk result (¬ IsGreatest (raised_by release.now None (minor_raised release.now))) }
-    ensures err { IfErr result (λ e. IsRefusedAt (IsGreatest (raised_by release.now None (minor_raised release.now))) e) }
+    ensures no_overflow { OnOk result
+        (¬ IsGreatest (raised_by release.now None (minor_raised release.now))) }
+    ensures err { IfErr result (λ e. IsRefusal
+        (IsGreatest (raised_by release.now None (minor_raised release.now))) e) }
 {
     if has_more(release) {
         next_minor(release)
@@ -69,10 +69,10 @@ pub(crate) fn minor_to_range(
     alloc: Global,
     release: &[u64],
 ) -> Result<Ranges<Version>, Refusal<Infallible>>
-    ensures set { IfOk result (λ r. (p : Point Parts) → contains_point version_cmp r p ≡ is_in_minor release.now p) }
+    ensures set { IfOk result (λ r. IsSet version_cmp r (is_in_minor release.now)) }
     ensures bounds { IfOk result HasTrimmedBounds }
-    ensures not_at_end { OnOk result (¬ IsGreatest (minor_raised release.now)) }
-    ensures err { IfErr result (λ e. IsRefusedAt (IsGreatest (minor_raised release.now)) e) }
+    ensures no_overflow { OnOk result (¬ IsGreatest (minor_raised release.now)) }
+    ensures err { IfErr result (λ e. IsRefusal (IsGreatest (minor_raised release.now)) e) }
 {
     let minor = minor_release(release);
     let next = next_minor(release)?;
@@ -85,10 +85,12 @@ fn same_minor_to_range(
     alloc: Global,
     release: &[u64],
 ) -> Result<Ranges<Version>, Refusal<Infallible>>
-    ensures set { IfOk result (λ r. (p : Point Parts) → contains_point version_cmp r p ≡ is_same_minor release.now p) }
+    ensures set { IfOk result (λ r. IsSet version_cmp r (is_same_minor release.now)) }
     ensures bounds { IfOk result HasTrimmedBounds }
-    ensures not_at_end { OnOk result (¬ IsGreatest (raised_by release.now (minor_raised release.now) None)) }
-    ensures err { IfErr result (λ e. IsRefusedAt (IsGreatest (raised_by release.now (minor_raised release.now) None)) e) }
+    ensures no_overflow { OnOk result
+        (¬ IsGreatest (raised_by release.now (minor_raised release.now) None)) }
+    ensures err { IfErr result (λ e. IsRefusal
+        (IsGreatest (raised_by release.now (minor_raised release.now) None)) e) }
 {
     if has_more(release) {
         return Ok(Ranges::empty(alloc));
@@ -96,7 +98,8 @@ fn same_minor_to_range(
     minor_to_range(alloc, release)
 }
 
-// The set of a comparison as written, which is none where the release has more numbers than `python_version` has.
+// The set of a comparison as written, which is none where the release has more numbers than
+// `python_version` has.
 fn written_to_range(
     alloc: Global,
     operator: Operator,
@@ -104,10 +107,13 @@ fn written_to_range(
 ) -> Result<Ranges<Version>, Refusal<Infallible>>
     requires some { 0 < length release.now }
     requires compatible { operator ≡ Operator.TildeEqual → 2 ≤ length release.now }
-    ensures set { IfOk result (λ r. (p : Point Parts) → contains_point version_cmp r p ≡ (not (has_more release.now) && is_in operator release.now p)) }
+    ensures set { IfOk result (λ r. IsSet version_cmp r
+        (λ p. not (has_more release.now) && is_in operator release.now p)) }
     ensures bounds { IfOk result HasTrimmedBounds }
-    ensures not_at_end { OnOk result (¬ IsGreatest (raised_by release.now (raised_number operator release.now) None)) }
-    ensures err { IfErr result (λ e. IsRefusedAt (IsGreatest (raised_by release.now (raised_number operator release.now) None)) e) }
+    ensures no_overflow { OnOk result
+        (¬ IsGreatest (raised_by release.now (raised_number operator release.now) None)) }
+    ensures err { IfErr result (λ e. IsRefusal
+        (IsGreatest (raised_by release.now (raised_number operator release.now) None)) e) }
 {
     if has_more(release) {
         return Ok(Ranges::empty(alloc));
@@ -117,7 +123,8 @@ fn written_to_range(
 
 // The full versions from `M.m` on.
 fn from_minor(alloc: Global, minor: [u64; 2]) -> Result<Ranges<Version>, Refusal<Infallible>>
-    ensures set { IfOk result (λ r. (p : Point Parts) → contains_point version_cmp r p ≡ is_between (Included minor) Unbounded p) }
+    ensures set { IfOk result (λ r. IsSet version_cmp r
+        (is_between (Included minor) Unbounded)) }
     ensures bounds { IfOk result HasTrimmedBounds }
     ensures err { IfErr result (λ e. e ≡ OutOfMemory) }
 {
@@ -127,7 +134,8 @@ fn from_minor(alloc: Global, minor: [u64; 2]) -> Result<Ranges<Version>, Refusal
 
 // The full versions below `M.m`.
 fn below_minor(alloc: Global, minor: [u64; 2]) -> Result<Ranges<Version>, Refusal<Infallible>>
-    ensures set { IfOk result (λ r. (p : Point Parts) → contains_point version_cmp r p ≡ is_between Unbounded (Excluded minor) p) }
+    ensures set { IfOk result (λ r. IsSet version_cmp r
+        (is_between Unbounded (Excluded minor))) }
     ensures bounds { IfOk result HasTrimmedBounds }
     ensures err { IfErr result (λ e. e ≡ OutOfMemory) }
 {
@@ -145,10 +153,10 @@ fn python_to_range(
     requires some { 0 < length release.now }
     requires compatible { operator ≡ Operator.TildeEqual → 2 ≤ length release.now }
     requires trimmed { trimmed.now ≡ trimmed_of release.now }
-    ensures set { IfOk result (λ r. (p : Point Parts) → contains_point version_cmp r p ≡ python_is_in operator release.now p) }
+    ensures set { IfOk result (λ r. IsSet version_cmp r (python_is_in operator release.now)) }
     ensures bounds { IfOk result HasTrimmedBounds }
-    ensures not_at_end { OnOk result (¬ IsPythonAtEnd operator release.now) }
-    ensures err { IfErr result (λ e. IsRefusedAt (IsPythonAtEnd operator release.now) e) }
+    ensures no_overflow { OnOk result (¬ PythonOverflows operator release.now) }
+    ensures err { IfErr result (λ e. IsRefusal (PythonOverflows operator release.now) e) }
 {
     match operator {
         Operator::Equal | Operator::ExactEqual => same_minor_to_range(alloc, trimmed),
@@ -166,25 +174,30 @@ fn python_to_range(
     }
 }
 
-/// The full versions of Python, as `python_full_version` has them, whose `python_version` a specifier stands for.
+/// The full versions of Python, as `python_full_version` has them, whose `python_version` a
+/// specifier stands for.
 ///
-/// The release of the specifier alone counts, as for `release_specifier_to_range`. But for stars and `~=` it is taken
-/// without the zeros at its end, and `3` counts as `3.0`. `== 3.9` is from 3.9 up to 3.10, without its end; no version
-/// has a `python_version` of three numbers, so `== 3.9.1` is none and `< 3.9.1` is below 3.10. The bounds are written
-/// without zeros at the end of their releases.
+/// The release of the specifier alone counts, as for `release_specifier_to_range`. But for stars
+/// and `~=` it is taken without the zeros at its end, and `3` counts as `3.0`. `== 3.9` is from 3.9
+/// up to 3.10, without its end; no version has a `python_version` of three numbers, so `== 3.9.1`
+/// is none and `< 3.9.1` is below 3.10. The bounds are written without zeros at the end of their
+/// releases.
 ///
-/// It is refused as `SegmentAtEnd` where 18446744073709551615 would be raised for an end, which `!=` asks for as `==`
-/// does, and else for want of memory alone.
+/// It is refused as `SegmentAtEnd` where 18446744073709551615 would be raised for an end, which
+/// `!=` asks for as `==` does, and else for want of memory alone.
 pub fn python_version_specifier_to_range(
     alloc: Global,
     specifier: &VersionSpecifier,
 ) -> Result<Ranges<Version>, Refusal<Infallible>>
-    ensures set { IfOk result (λ r. (p : Point Parts) → contains_point version_cmp r p ≡ python_is_in specifier.now.operator specifier.now.version.release p) }
+    ensures set { IfOk result (λ r. IsSet version_cmp r
+        (python_is_in specifier.now.operator specifier.now.version.release)) }
     ensures bounds { IfOk result HasTrimmedBounds }
 
     // Only where the largest number would be raised is there none.
-    ensures not_at_end { OnOk result (¬ IsPythonAtEnd specifier.now.operator specifier.now.version.release) }
-    ensures err { IfErr result (λ e. IsRefusedAt (IsPythonAtEnd specifier.now.operator specifier.now.version.release) e) }
+    ensures no_overflow { OnOk result
+        (¬ PythonOverflows specifier.now.operator specifier.now.version.release) }
+    ensures err { IfErr result (λ e. IsRefusal
+        (PythonOverflows specifier.now.operator specifier.now.version.release) e) }
 {
     let version = specifier.version();
     python_to_range(

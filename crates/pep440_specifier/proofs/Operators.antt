@@ -125,3 +125,6 @@ pub only_run : (t : List ℕ) (a : Operator) → take (run_len t) t ≡ operator
 only_run t a e h b rest before =
     let run = before_run t b rest before in
     (written_alike a b h before.written (sym e ∙ run.0), run.1)
+
+-- what tells the operator at the front of a text, and that there is no other
+pub ruleset operator_at_front = (run_boundary, run_before, only_run, before_run)

@@ -6,7 +6,7 @@ use Rattle.pep440_version.specs.OrderLaws.{same-tied, tied-same}
 use Rattle.pep440_specifier.specs.declared.operator.Operator.{Operator}
 use Rattle.pep440_specifier.specs.declared.operator.Operator.TheVariants as op
 use Rattle.pep440_specifier.specs.Operator.{rank}
-use Rattle.pep440_specifier.specs.Order.{IsSameSpecifier, counted, specifier_cmp}
+use Rattle.pep440_specifier.specs.Order.{IsSameSpecifier, number_count, specifier_cmp}
 use Rattle.pep440_specifier.specs.Specifier.{Specifier}
 use Rattle.std.proofs.lemmas.Bool.Decides.{nat_tests}
 use Rattle.std.specs.Ordering.{is_eq, nat_cmp, ordering_then}
@@ -75,5 +75,5 @@ pub same_tied : (s t : Specifier) → IsSameSpecifier s t → specifier_cmp s t 
 same_tied s t same =
     let operator = numbers_tied (rank s.operator) (rank t.operator) (ap rank same.operator) in
     let version = same-tied s.version t.version same.version in
-    let numbers = numbers_tied (counted s) (counted t) same.numbers in
+    let numbers = numbers_tied (number_count s) (number_count t) same.numbers in
     λ i. ordering_then (operator i) (ordering_then (version i) (numbers i))

@@ -45,7 +45,8 @@ star_between v w = next_minor (minor_of v) (minor_of w)
 abbrev pub specifier_of_parts : Operator → Parts → Specifier
 specifier_of_parts operator v = record { operator = operator; version = v }
 
--- a version that bounds a half line: a local part, which no half line takes, leaves the release alone
+-- a version that bounds a half line: a local part, which no half line takes, leaves the release
+-- alone
 abbrev pub bounding : Parts → Parts
 bounding v = if is_empty v.locals then v else release_only v.release
 
@@ -59,13 +60,15 @@ upper_terms (Included v) = specifier_of_parts LessThanEqual (bounding v.now) ∷
 upper_terms (Excluded v) = specifier_of_parts LessThan (bounding v.now) ∷ []
 upper_terms Unbounded = []
 
--- the one specifier that means the range: `==` where both bounds are included and tie, and a star for M.m up to M.(m+1)
+-- the one specifier that means the range: `==` where both bounds are included and tie, and a star
+-- for M.m up to M.(m+1)
 abbrev pub star_term : Option (ℕ × ℕ) → Option Specifier
 star_term None = None
 star_term (Some m) = Some (specifier_of_parts EqualStar (release_only (m.0 ∷ m.1 ∷ [])))
 
 abbrev pub single_term : Bound (Bor Parts) → Bound (Bor Parts) → Option Specifier
-single_term (Included v) (Included w) = if eq_by_cmp version_cmp v.now w.now then Some (specifier_of_parts Equal v.now) else None
+single_term (Included v) (Included w) =
+    if eq_by_cmp version_cmp v.now w.now then Some (specifier_of_parts Equal v.now) else None
 single_term (Included v) (Excluded w) = star_term (star_between v.now w.now)
 single_term (Included v) Unbounded = None
 single_term (Excluded v) upper = None

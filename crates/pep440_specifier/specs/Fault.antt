@@ -17,15 +17,19 @@ use Rattle.pep440_specifier.specs.Specifier.{IsReleaseAlone}
 abbrev pub fault_text : SpecifierFault → List ℕ
 fault_text fault.Operator = codes "Expected one of `==`, `!=`, `<`, `<=`, `>`, `>=`, `~=` and `===`"
 fault_text (fault.Version expected) = codes "Expected " ++ expected_text expected
-fault_text (fault.NoStar operator) = codes "Expected a version without `.*` after `" ++ (operator_text operator ++ codes "`")
+fault_text (fault.NoStar operator) =
+    codes "Expected a version without `.*` after `" ++ (operator_text operator ++ codes "`")
 fault_text fault.ReleaseAlone = codes "Expected a release without a suffix before `.*`"
 fault_text fault.SecondNumber = codes "Expected at least two release numbers after `~=`"
-fault_text (fault.NoLocal operator) = codes "Expected a version without a local part after `" ++ (operator_text operator ++ codes "`")
+fault_text (fault.NoLocal operator) =
+    codes "Expected a version without a local part after `" ++ (operator_text operator ++ codes "`")
 
 -- the message of an error: what was expected, and what was found where, if a text was read
 abbrev pub error_text : SpecifierFault → Option Place → Option (List ℕ)
 error_text fault None = Some (fault_text fault)
-error_text fault (Some place) = Some (fault_text fault ++ codes ", found ") ++? place_text (string_bytes place.text) place.offset
+error_text fault (Some place) =
+    Some (fault_text fault ++ codes ", found ")
+    ++? place_text (string_bytes place.text) place.offset
 
 abbrev pub offset_of : Option Place → Option ℕ
 offset_of None = None
@@ -48,7 +52,11 @@ IsToldOf error text = IsAt error.place text
 abbrev pub IsFault : SpecifierFault → Operator → Parts → Bool → Type 0
 IsFault fault.Operator operator v star = ⊥
 IsFault (fault.Version expected) operator v star = ⊥
-IsFault (fault.NoStar told) operator v star = (told ≡ operator) × (star ≡ true) × (starred operator ≡ None)
-IsFault fault.ReleaseAlone operator v star = ((is_star operator || star) ≡ true) × (IsReleaseAlone v → ⊥)
+IsFault (fault.NoStar told) operator v star =
+    (told ≡ operator) × (star ≡ true) × (starred operator ≡ None)
+IsFault fault.ReleaseAlone operator v star =
+    ((is_star operator || star) ≡ true) × (IsReleaseAlone v → ⊥)
 IsFault fault.SecondNumber operator v star = (operator ≡ TildeEqual) × (length v.release < 2)
-IsFault (fault.NoLocal told) operator v star = (told ≡ operator) × (is_star operator ≡ false) × (takes_local operator ≡ false) × (v.locals ≢ [])
+IsFault (fault.NoLocal told) operator v star =
+    (told ≡ operator) × (is_star operator ≡ false) × (takes_local operator ≡ false) ×
+    (v.locals ≢ [])

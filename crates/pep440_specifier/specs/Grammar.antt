@@ -21,7 +21,9 @@ pub record IsOperatorBefore (text : List ℕ) (operator : Operator) (rest : List
   pub written : is_star operator ≡ false
   pub longest : begins_operator rest ≡ false
 
--- an operator and a pattern that make a specifier; Unicode's white space around each of them is dropped
+-- an operator and a pattern that make a specifier; Unicode's white space around each of them is
+-- dropped
 pub data IsSpecifierText (text : List ℕ) (s : Specifier) : Type 0 where
   specifier : {operator : Operator} {rest : List ℕ} {v : Parts} {star : Bool}
-      → IsOperatorBefore (trim text) operator rest → IsPatternText rest v star → Makes operator v star s → IsSpecifierText text s
+      → IsOperatorBefore (trim text) operator rest → IsPatternText rest v star
+      → Makes operator v star s → IsSpecifierText text s

@@ -6,7 +6,8 @@ use Rattle.pep440_specifier.specs.declared.operator.Operator.{Operator}
 use Rattle.pep440_specifier.specs.declared.operator.Operator.TheVariants.{TildeEqual}
 use Rattle.pep440_specifier.specs.Operator.{is_star, takes_local, before_pattern}
 
--- what a contract sees of a specifier; the version is the release before `.*` where the operator is a star
+-- what a contract sees of a specifier; the version is the release before `.*` where the operator is
+-- a star
 pub record Specifier : Type 0 where
   pub operator : Operator
   pub version : Parts

@@ -8,7 +8,8 @@ use Rattle.pep440_specifier.specs.Specifier.{Specifier}
 
 -- the operator, the version, and `.*` for a star
 abbrev pub specifier_text : Specifier → List ℕ
-specifier_text s = operator_text s.operator ++ (version_text s.version ++ (if is_star s.operator then codes ".*" else []))
+specifier_text s = operator_text s.operator ++
+    (version_text s.version ++ (if is_star s.operator then codes ".*" else []))
 
 -- a character of versions or of operators, or `*` (42)
 abbrev pub is_specifier_byte : ℕ → Bool

@@ -20,15 +20,16 @@ pub struct BoundSpecifiers {
 impl VersionSpecifier {
     /// The specifiers whose conjunction means the range between two bounds that are releases.
     ///
-    /// Two included bounds that are equal give `==`. From M.m up to M.(m+1) it is `==M.m.*`, where the bounds
-    /// are at most two release numbers alone, `3` counting as `3.0`. Else each bound gives a specifier of its
-    /// own; one with a local part, which these do not take, counts as its release. It is refused for want of
-    /// memory alone.
+    /// Two included bounds that are equal give `==`. From M.m up to M.(m+1) it is `==M.m.*`, where
+    /// the bounds are at most two release numbers alone, `3` counting as `3.0`. Else each bound
+    /// gives a specifier of its own; one with a local part, which these do not take, counts as its
+    /// release. It is refused for want of memory alone.
     pub fn from_release_only_bounds(
         alloc: Global,
         bounds: (Bound<&Version>, Bound<&Version>),
     ) -> Result<BoundSpecifiers, AllocError>
-        ensures { IfOk result (λ specifiers. specifiers_left specifiers ≡ bound_specifiers bounds.entry.0 bounds.entry.1) }
+        ensures { IfOk result (λ specifiers. specifiers_left specifiers
+            ≡ bound_specifiers bounds.entry.0 bounds.entry.1) }
     {
         let (lower, upper) = bounds;
         if let Some(single) = single(alloc, lower, upper)? {

@@ -55,8 +55,8 @@ impl fmt::Display for SpecifierFault {
     }
 }
 
-/// Why an operator and a version are no specifier, or why a text is none: what was expected, and for a text
-/// at which byte of it.
+/// Why an operator and a version are no specifier, or why a text is none: what was expected, and
+/// for a text at which byte of it.
 #[derive(Debug, Drop, PartialEq, Eq)]
 pub struct VersionSpecifierError {
     pub(crate) fault: SpecifierFault,

@@ -21,8 +21,8 @@ pub fn order_is_total()
     ensures { IsTotalOrder specifier_cmp }
 {}
 
-/// The order tells two specifiers apart but where they are the same: where operator and version are, and
-/// for a star and `~=` the number of release numbers.
+/// The order tells two specifiers apart but where they are the same: where operator and version
+/// are, and for a star and `~=` the number of release numbers.
 pub fn order_ties_the_same_specifier()
     ensures { (s t : Specifier) → specifier_cmp s t ≡ Equal ↔ IsSameSpecifier s t }
 {}
@@ -34,7 +34,8 @@ pub fn equal_specifiers_hash_alike()
 
 /// A text says at most one specifier.
 pub fn text_says_one_specifier()
-    ensures { (text : List ℕ) (s t : Specifier) → IsSpecifierText text s → IsSpecifierText text t → s ≡ t }
+    ensures { (text : List ℕ) (s t : Specifier)
+        → IsSpecifierText text s → IsSpecifierText text t → s ≡ t }
 {}
 
 /// The operator and the version of each specifier go together, and the parts of its version are
@@ -51,8 +52,8 @@ pub fn specifier_text_reads_back()
     ensures { (s : Specifier) → IsWellFormed s → IsSpecifierText (specifier_text s) s }
 {}
 
-/// The text of a specifier has the characters of versions and of operators, and `*`, alone: no white
-/// space, no capital, no comma, no semicolon and no quote.
+/// The text of a specifier has the characters of versions and of operators, and `*`, alone: no
+/// white space, no capital, no comma, no semicolon and no quote.
 pub fn specifier_text_is_plain()
     ensures bytes { (s : Specifier) → IsWellFormed s
         → list_all is_specifier_byte (specifier_text s) ≡ true }

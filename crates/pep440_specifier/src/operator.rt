@@ -38,7 +38,8 @@ impl Operator {
         matches!(self, Operator::EqualStar | Operator::NotEqualStar)
     }
 
-    /// The operator that takes the versions which this one does not, and `!=` for `===`. `~=` has none.
+    /// The operator that takes the versions which this one does not, and `!=` for `===`. `~=` has
+    /// none.
     pub fn negate(self) -> Option<Operator>
         ensures { result ≡ negated self }
     {

@@ -1,11 +1,12 @@
-//! The order, the equality and the hash of specifiers. Each looks at each part once, and allocates nothing.
+//! The order, the equality and the hash of specifiers. Each looks at each part once, and allocates
+//! nothing.
 
 ghost use Rattle.std.specs.Prelude.{◌≡◌, Some, refl};
 ghost use Rattle.std.specs.Cmp.{eq_by_cmp_equiv, partial_equiv_from_equiv, po};
 ghost use Rattle.std.specs.Ordering.{eq_by_cmp, nat_cmp};
 ghost use Rattle.pep440_specifier.specs.HashInput.{specifier_writes};
 ghost use Rattle.pep440_specifier.specs.Operator.{rank};
-ghost use Rattle.pep440_specifier.specs.Order.{counted, specifier_cmp};
+ghost use Rattle.pep440_specifier.specs.Order.{number_count, specifier_cmp};
 ghost use Rattle.pep440_specifier.specs.OrderLaws.{specifier_alike, specifier_total};
 
 use crate::operator::Operator;
@@ -14,8 +15,8 @@ use std::cmp::Ordering;
 use std::hash::{Hash, Hasher};
 
 // The number of release numbers, where it tells one specifier from another.
-fn counted(specifier: &VersionSpecifier) -> usize
-    ensures { result ≡ counted specifier.now }
+fn number_count(specifier: &VersionSpecifier) -> usize
+    ensures { result ≡ number_count specifier.now }
 {
     match specifier.operator {
         Operator::EqualStar | Operator::NotEqualStar | Operator::TildeEqual => {
@@ -39,7 +40,7 @@ impl PartialEq for VersionSpecifier {
     fn eq(&self, other: &VersionSpecifier) -> bool {
         cmp_operators(self.operator, other.operator).is_eq()
             && self.version == other.version
-            && counted(self) == counted(other)
+            && number_count(self) == number_count(other)
     }
 }
 
@@ -69,7 +70,7 @@ impl Ord for VersionSpecifier {
     fn cmp(&self, other: &VersionSpecifier) -> Ordering {
         cmp_operators(self.operator, other.operator)
             .then_with(|| self.version.cmp(&other.version))
-            .then_with(|| counted(self).cmp(&counted(other)))
+            .then_with(|| number_count(self).cmp(&number_count(other)))
     }
 }
 
@@ -81,6 +82,6 @@ impl Hash for VersionSpecifier {
     fn hash<H: Hasher>(&self, state: &mut H) {
         self.operator.hash(state);
         self.version.hash(state);
-        counted(self).hash(state);
+        number_count(self).hash(state);
     }
 }

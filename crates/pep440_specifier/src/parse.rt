@@ -16,11 +16,11 @@ use pep440_version::{Refusal, VersionParseError, VersionPattern};
 use std::alloc::{AllocError, Global};
 
 impl VersionSpecifier {
-    /// Reads an operator and a version, or an operator and a release with `.*` after it, as `>=3.8` and
-    /// `== 3.9.*` (PEP 440, "Version specifiers").
+    /// Reads an operator and a version, or an operator and a release with `.*` after it, as `>=3.8`
+    /// and `== 3.9.*` (PEP 440, "Version specifiers").
     ///
-    /// White space may stand around the operator and the version. A text that is no specifier is a `Fault`,
-    /// which says what was expected at which byte. `SegmentAtEnd` never comes.
+    /// White space may stand around the operator and the version. A text that is no specifier is a
+    /// `Fault`, which says what was expected at which byte. `SegmentAtEnd` never comes.
     pub fn parse(
         alloc: Global,
         text: &str,
@@ -35,7 +35,7 @@ impl VersionSpecifier {
     {
         let specifier = text.trim();
         let Some((operator, rest)) = operator_before(specifier) else {
-            return Err(told(alloc, text, specifier.len(), SpecifierFault::Operator));
+            return Err(refusal_before(alloc, text, specifier.len(), SpecifierFault::Operator));
         };
         let pattern = match VersionPattern::parse(alloc, rest) {
             Ok(pattern) => pattern,
@@ -79,12 +79,13 @@ fn operator_of(run: &str) -> Option<Operator>
 }
 
 // The operator at the front, and what follows it.
-#[tactic(auto, using(crate::proofs::Operators::run_boundary, crate::proofs::Operators::run_before, crate::proofs::Operators::only_run, crate::proofs::Operators::before_run))]
+#[tactic(auto, using(crate::proofs::Operators::operator_at_front))]
 fn operator_before(text: &str) -> Option<(Operator, &str)>
     ensures found { IfSome result (λ x. IsOperatorBefore text.now x.0 x.1.now) }
     ensures only { IfSome result (λ x. (operator : Operator) (rest : List ℕ)
         → IsOperatorBefore text.now operator rest → (x.0 ≡ operator) × (x.1.now ≡ rest)) }
-    ensures none { IfNone result ((operator : Operator) (rest : List ℕ) → IsOperatorBefore text.now operator rest → ⊥) }
+    ensures none { IfNone result ((operator : Operator) (rest : List ℕ)
+        → IsOperatorBefore text.now operator rest → ⊥) }
 {
     let (run, rest) = text.split_at(run_len(text.as_bytes()));
     let operator = operator_of(run)?;
@@ -92,7 +93,7 @@ fn operator_before(text: &str) -> Option<(Operator, &str)>
 }
 
 // The refusal for a fault so many bytes before the end, white space there apart.
-fn told(
+fn refusal_before(
     alloc: Global,
     text: &str,
     rest: usize,
@@ -118,7 +119,7 @@ fn of_pattern(
     ensures fault { IfFault result (λ error. IsToldOf error text.now) }
 {
     let rest = pattern.len().saturating_sub(fault.offset());
-    told(alloc, text, rest, SpecifierFault::Version(fault.expected()))
+    refusal_before(alloc, text, rest, SpecifierFault::Version(fault.expected()))
 }
 
 // The refusal for an operator and a pattern that do not go together.
@@ -139,5 +140,5 @@ fn of_combination(
         },
         _ => pattern.trim_start().len(),
     };
-    told(alloc, text, rest, fault)
+    refusal_before(alloc, text, rest, fault)
 }

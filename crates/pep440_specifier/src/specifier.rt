@@ -14,8 +14,8 @@ use std::marker::Model;
 
 /// An operator with a version, such as `>= 3.8` or `== 3.9.*`.
 ///
-/// Only what PEP 440 allows is one: a star stands behind a release alone, `~=` has two release numbers at
-/// least, and a local part stands with `==`, `!=` and `===` alone.
+/// Only what PEP 440 allows is one: a star stands behind a release alone, `~=` has two release
+/// numbers at least, and a local part stands with `==`, `!=` and `===` alone.
 #[derive(Debug, Drop)]
 pub struct VersionSpecifier {
     pub(crate) operator: Operator,
@@ -34,18 +34,20 @@ impl Model for VersionSpecifier {
 }
 
 impl VersionSpecifier {
-    /// A specifier of an operator and a pattern; `==` and `!=` before a release with `.*` after it are
-    /// `EqualStar` and `NotEqualStar`.
+    /// A specifier of an operator and a pattern; `==` and `!=` before a release with `.*` after it
+    /// are `EqualStar` and `NotEqualStar`.
     ///
-    /// It is refused where `.*` stands behind another operator than `==` and `!=`, and where `from_version`
-    /// refuses. The error tells which.
+    /// It is refused where `.*` stands behind another operator than `==` and `!=`, and where
+    /// `from_version` refuses. The error tells which.
     pub fn from_pattern(
         operator: Operator,
         pattern: VersionPattern,
     ) -> Result<VersionSpecifier, VersionSpecifierError>
         ensures made { IfOk result (λ s. Makes operator pattern.version pattern.wildcard s) }
-        ensures refused { IfErr result (λ e. (s : Specifier) → Makes operator pattern.version pattern.wildcard s → ⊥) }
-        ensures why { IfErr result (λ e. IsFault e.fault operator pattern.version pattern.wildcard) }
+        ensures refused { IfErr result (λ e. (s : Specifier)
+            → Makes operator pattern.version pattern.wildcard s → ⊥) }
+        ensures why { IfErr result (λ e.
+            IsFault e.fault operator pattern.version pattern.wildcard) }
     {
         let (version, star) = pattern.into_parts();
         if !star {
@@ -59,9 +61,9 @@ impl VersionSpecifier {
 
     /// A specifier of an operator and a version.
     ///
-    /// It is refused where more than an epoch and a release stands behind a star operator, where one
-    /// release number alone stands behind `~=`, and where a local part stands behind another operator than
-    /// `==`, `!=` and `===`. The error tells which.
+    /// It is refused where more than an epoch and a release stands behind a star operator, where
+    /// one release number alone stands behind `~=`, and where a local part stands behind another
+    /// operator than `==`, `!=` and `===`. The error tells which.
     pub fn from_version(
         operator: Operator,
         version: Version,
@@ -132,8 +134,10 @@ pub(crate) fn is_alone(version: &Version) -> bool
 
 // Why the operator and the version do not go together.
 fn fault_between(operator: Operator, version: &Version) -> Option<SpecifierFault>
-    ensures allowed { IfNone result (IsAllowed (record { operator = operator; version = version.now })) }
-    ensures refused { IfSome result (λ fault. IsAllowed (record { operator = operator; version = version.now }) → ⊥) }
+    ensures allowed { IfNone result
+        (IsAllowed (record { operator = operator; version = version.now })) }
+    ensures refused { IfSome result (λ fault.
+        IsAllowed (record { operator = operator; version = version.now }) → ⊥) }
     ensures why { IfSome result (λ fault. IsFault fault operator version.now false) }
 {
     if operator.is_star() && !is_alone(version) {
@@ -148,8 +152,8 @@ fn fault_between(operator: Operator, version: &Version) -> Option<SpecifierFault
     None
 }
 
-/// A clone is written as its source is. It is refused for want of memory, and never where the version
-/// has at most four release numbers and no local part.
+/// A clone is written as its source is. It is refused for want of memory, and never where the
+/// version has at most four release numbers and no local part.
 impl Clone for VersionSpecifier {
     ghost is_clone = { λ s copy. copy ≡ s };
 

@@ -24,6 +24,13 @@ use std::hash::{Hash, Hasher};
 use std::marker::Model;
 
 /// Specifiers that all have to hold, as `>=3.8, <4`, in the order of their versions.
+///
+/// ```
+/// let below = VersionSpecifier::parse(alloc, "< 3")?;
+/// let from = VersionSpecifier::parse(alloc, ">= 2.8")?;
+/// let specifiers = VersionSpecifiers::from_list(vec![in alloc; below, from]?)?;
+/// println!(rt; "{specifiers}")?;
+/// ```
 #[derive(Debug, Drop)]
 pub struct VersionSpecifiers {
     specifiers: Vec<VersionSpecifier>,
@@ -96,7 +103,8 @@ fn write_later<W: fmt::Write>(
     Ok(())
 }
 
-/// Writes the specifiers with a comma and a space between each two, and nothing where there is none.
+/// Writes the specifiers with a comma and a space between each two, and nothing where there is
+/// none.
 impl fmt::Display for VersionSpecifiers {
     ghost output = { λ set. Some (set_text set) };
 

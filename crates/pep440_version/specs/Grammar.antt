@@ -1,5 +1,6 @@
--- The grammar of versions (PEP 440, appendix B, and its "Normalization"), on a text in lower case with no
--- white space around it. In the comments `?` is for what may be left out, and N for a number.
+-- The grammar of versions (PEP 440, appendix B, and its "Normalization"), on a text in lower case
+-- with no white space around it. In the comments `?` is for what may be left out, and N for a
+-- number.
 use Rattle.std.specs.Prelude.{◌≡◌, ℕ, ◌+◌, ◌-◌, ◌*◌, ◌<◌, Bool, true, false, List, [], ◌∷◌, ◌++◌, length, Option, None, Some, codes, map}
 use Rattle.std.specs.Char.{is_ascii_digit, to_ascii_lowercase}
 use Rattle.std.specs.List.{list_all}
@@ -47,7 +48,8 @@ pub data IsEpoch : List ℕ → ℕ → Type 0 where
 -- N (`.` N) and so on
 pub data IsRelease : List ℕ → List ℕ → Type 0 where
   last : {ds : List ℕ} {n : ℕ} → IsNumber ds n → IsRelease ds (n ∷ [])
-  before : {ds t : List ℕ} {n : ℕ} {ns : List ℕ} → IsNumber ds n → IsRelease t ns → IsRelease (ds ++ (codes "." ++ t)) (n ∷ ns)
+  before : {ds t : List ℕ} {n : ℕ} {ns : List ℕ} → IsNumber ds n → IsRelease t ns
+      → IsRelease (ds ++ (codes "." ++ t)) (n ∷ ns)
 
 -- the words of a pre-release, and the kind that each is normalized to
 pub data IsPreWord : List ℕ → PrereleaseKind → Type 0 where
@@ -63,7 +65,8 @@ pub data IsPreWord : List ℕ → PrereleaseKind → Type 0 where
 -- (separator? word numbering)?, and whether it ends in its word
 pub data IsPre : List ℕ → Option Prerelease → Bool → Type 0 where
   no_pre : IsPre [] None false
-  pre : {s w t : List ℕ} {kind : PrereleaseKind} {n : ℕ} {b : Bool} → IsSeparator s → IsPreWord w kind → IsNumbering t n b
+  pre : {s w t : List ℕ} {kind : PrereleaseKind} {n : ℕ} {b : Bool}
+      → IsSeparator s → IsPreWord w kind → IsNumbering t n b
       → IsPre (s ++ (w ++ t)) (Some (record { kind = kind; number = n })) b
 
 pub data IsPostWord : List ℕ → Type 0 where
@@ -71,16 +74,20 @@ pub data IsPostWord : List ℕ → Type 0 where
   word_rev : IsPostWord (codes "rev")
   word_r : IsPostWord (codes "r")
 
--- (separator? word numbering)?, or `-` N, but after a bare word, whose number `-` N is: `1a-1` is `1a1`
+-- (separator? word numbering)?, or `-` N, but after a bare word, whose number `-` N is: `1a-1` is
+-- `1a1`
 pub data IsPost : Bool → List ℕ → Option ℕ → Type 0 where
   no_post : {after : Bool} → IsPost after [] None
-  post : {after : Bool} {s w t : List ℕ} {n : ℕ} {b : Bool} → IsSeparator s → IsPostWord w → IsNumbering t n b → IsPost after (s ++ (w ++ t)) (Some n)
+  post : {after : Bool} {s w t : List ℕ} {n : ℕ} {b : Bool}
+      → IsSeparator s → IsPostWord w → IsNumbering t n b
+      → IsPost after (s ++ (w ++ t)) (Some n)
   dashed : {ds : List ℕ} {n : ℕ} → IsNumber ds n → IsPost false (codes "-" ++ ds) (Some n)
 
 -- (separator? `dev` numbering)?
 pub data IsDev : List ℕ → Option ℕ → Type 0 where
   no_dev : IsDev [] None
-  dev : {s t : List ℕ} {n : ℕ} {b : Bool} → IsSeparator s → IsNumbering t n b → IsDev (s ++ (codes "dev" ++ t)) (Some n)
+  dev : {s t : List ℕ} {n : ℕ} {b : Bool} → IsSeparator s → IsNumbering t n b
+      → IsDev (s ++ (codes "dev" ++ t)) (Some n)
 
 -- a segment of the local part: digits alone are a number
 pub data IsSegment : List ℕ → Segment → Type 0 where
@@ -90,7 +97,9 @@ pub data IsSegment : List ℕ → Segment → Type 0 where
 -- segments with a separator between each two
 pub data IsSegments : List ℕ → List Segment → Type 0 where
   last_segment : {t : List ℕ} {s : Segment} → IsSegment t s → IsSegments t (s ∷ [])
-  segment_before : {t p u : List ℕ} {s : Segment} {ss : List Segment} → IsSegment t s → IsSeparator p → 0 < length p → IsSegments u ss → IsSegments (t ++ (p ++ u)) (s ∷ ss)
+  segment_before : {t p u : List ℕ} {s : Segment} {ss : List Segment}
+      → IsSegment t s → IsSeparator p → 0 < length p → IsSegments u ss
+      → IsSegments (t ++ (p ++ u)) (s ∷ ss)
 
 -- (`+` segments)?
 pub data IsLocal : List ℕ → List Segment → Type 0 where
@@ -100,7 +109,8 @@ pub data IsLocal : List ℕ → List Segment → Type 0 where
 -- v? epoch? release pre? post? dev? local?
 pub data IsVersion : List ℕ → Parts → Type 0 where
   version : {m e r p q d l : List ℕ} {after : Bool} {v : Parts}
-      → IsMark m → IsEpoch e v.epoch → IsRelease r v.release → IsPre p v.pre after → IsPost after q v.post → IsDev d v.dev → IsLocal l v.locals
+      → IsMark m → IsEpoch e v.epoch → IsRelease r v.release
+      → IsPre p v.pre after → IsPost after q v.post → IsDev d v.dev → IsLocal l v.locals
       → IsVersion (m ++ (e ++ (r ++ (p ++ (q ++ (d ++ l)))))) v
 
 -- a text of a version: letters in any ASCII case, Unicode's white space around it dropped
@@ -109,12 +119,14 @@ IsVersionText text v = IsVersion (map to_ascii_lowercase (trim text)) v
 
 -- an epoch and a release alone
 abbrev pub starred_parts : ℕ → List ℕ → Parts
-starred_parts n ns = record { epoch = n; release = ns; pre = None; post = None; dev = None; locals = [] }
+starred_parts n ns =
+    record { epoch = n; release = ns; pre = None; post = None; dev = None; locals = [] }
 
 -- a version, or v? epoch? release `.*`; and whether it is the second (PEP 440, "Version matching")
 pub data IsPattern : List ℕ → Parts → Bool → Type 0 where
   plain : {t : List ℕ} {v : Parts} → IsVersion t v → IsPattern t v false
-  starred : {m e r : List ℕ} {n : ℕ} {ns : List ℕ} → IsMark m → IsEpoch e n → IsRelease r ns → IsPattern (m ++ (e ++ (r ++ codes ".*"))) (starred_parts n ns) true
+  starred : {m e r : List ℕ} {n : ℕ} {ns : List ℕ} → IsMark m → IsEpoch e n → IsRelease r ns
+      → IsPattern (m ++ (e ++ (r ++ codes ".*"))) (starred_parts n ns) true
 
 -- a text of a pattern, as a text of a version
 abbrev pub IsPatternText : List ℕ → Parts → Bool → Type 0

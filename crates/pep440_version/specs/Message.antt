@@ -22,16 +22,20 @@ first_of (c ∷ cs) = Some c
 abbrev pub found_in : List ℕ → Option ℕ
 found_in rest = if length (trim rest) == 0 then None else first_of (chars rest)
 
--- what was found in a text, and at which byte. A text and a character are quoted as `{:?}` quotes them, of
--- which only ASCII is known here
+-- what was found in a text, and at which byte. A text and a character are quoted as `{:?}` quotes
+-- them, of which only ASCII is known here
 abbrev pub found_text : List ℕ → ℕ → Option ℕ → Option (List ℕ)
 found_text text offset None = Some (codes "the end of ") ++? debug_str text
-found_text text offset (Some found) = debug_char found ++? Some (codes " at byte " ++ (decimal offset ++ codes " of ")) ++? debug_str text
+found_text text offset (Some found) =
+    debug_char found ++? Some (codes " at byte " ++ (decimal offset ++ codes " of "))
+    ++? debug_str text
 
--- the same of what stands at that byte
+-- what stands in a text at a byte, and which byte that is
 abbrev pub place_text : List ℕ → ℕ → Option (List ℕ)
 place_text text offset = found_text text offset (found_in (drop offset text))
 
 -- the message of a fault: what was expected, what was found, and where
 abbrev pub error_text : Expected → List ℕ → ℕ → Option (List ℕ)
-error_text expected text offset = Some (codes "Expected " ++ (expected_text expected ++ codes ", found ")) ++? place_text text offset
+error_text expected text offset =
+    Some (codes "Expected " ++ (expected_text expected ++ codes ", found "))
+    ++? place_text text offset

@@ -1,4 +1,5 @@
--- The order of versions is total, and versions that tie have one hash. The laws of the comparisons cite these.
+-- The order of versions is total, and versions that tie have one hash. The laws of the comparisons
+-- cite these.
 use Rattle.std.proofs.Common.{◌≡◌, ◌++◌, ℕ, Option, Some, None, List, [], ◌∷◌, refl, sym, ap, ◌∙◌, subst, arith}
 use Rattle.std.proofs.lemmas.Bool.Decides.{nat_tests}
 use Rattle.std.specs.Ordering.{eq_by_cmp, is_eq, nat_cmp, on, ordering_then, then_cmp}
@@ -21,27 +22,37 @@ use Rattle.pep440_version.specs.declared.version.PrereleaseKind.TheVariants.{Alp
 
 -- ---- releases
 
-keep-cmp : (x y : ℕ) (s t : List ℕ) → slice_cmp nat_cmp (keep x s) (keep y t) ≡ ordering_then (nat_cmp x y) (slice_cmp nat_cmp s t)
+keep-cmp : (x y : ℕ) (s t : List ℕ)
+    → slice_cmp nat_cmp (keep x s) (keep y t) ≡ ordering_then (nat_cmp x y) (slice_cmp nat_cmp s t)
 keep-cmp x y [] [] = grind (arith, nat_tests)
 keep-cmp x y [] (b ∷ t) = grind (arith, nat_tests)
 keep-cmp x y (a ∷ s) [] = grind (arith, nat_tests)
 keep-cmp x y (a ∷ s) (b ∷ t) = refl
 
 -- padding with zeros compares what is left without them
-pub padded-significant : (xs ys : List ℕ) → padded_cmp xs ys ≡ slice_cmp nat_cmp (significant xs) (significant ys)
+pub padded-significant : (xs ys : List ℕ)
+    → padded_cmp xs ys ≡ slice_cmp nat_cmp (significant xs) (significant ys)
 unfolding padded_cmp significant
 padded-significant [] [] = refl
-padded-significant [] (y ∷ ys) = ap (ordering_then (nat_cmp 0 y)) (padded-significant [] ys) ∙ sym (keep-cmp 0 y [] (significant ys))
-padded-significant (x ∷ xs) [] = ap (ordering_then (nat_cmp x 0)) (padded-significant xs []) ∙ sym (keep-cmp x 0 (significant xs) [])
-padded-significant (x ∷ xs) (y ∷ ys) = ap (ordering_then (nat_cmp x y)) (padded-significant xs ys) ∙ sym (keep-cmp x y (significant xs) (significant ys))
+padded-significant [] (y ∷ ys) =
+    ap (ordering_then (nat_cmp 0 y)) (padded-significant [] ys)
+    ∙ sym (keep-cmp 0 y [] (significant ys))
+padded-significant (x ∷ xs) [] =
+    ap (ordering_then (nat_cmp x 0)) (padded-significant xs [])
+    ∙ sym (keep-cmp x 0 (significant xs) [])
+padded-significant (x ∷ xs) (y ∷ ys) =
+    ap (ordering_then (nat_cmp x y)) (padded-significant xs ys)
+    ∙ sym (keep-cmp x y (significant xs) (significant ys))
 
 pub padded_total : IsTotalOrder padded_cmp
-padded_total = subst IsTotalOrder (λ i xs ys. sym (padded-significant xs ys) i) (on_total significant nat_list_cmp_total)
+padded_total = subst IsTotalOrder (λ i xs ys. sym (padded-significant xs ys) i)
+    (on_total significant nat_list_cmp_total)
 
 -- ---- the other keys
 
 pub ranked_total : IsTotalOrder ranked_cmp
-ranked_total = then_total (on_total (λ (k : ℕ × ℕ). k.0) nat_cmp_total) (on_total (λ (k : ℕ × ℕ). k.1) nat_cmp_total)
+ranked_total = then_total (on_total (λ (k : ℕ × ℕ). k.0) nat_cmp_total)
+    (on_total (λ (k : ℕ × ℕ). k.1) nat_cmp_total)
 
 abbrev class_of : Segment → ℕ
 class_of (word a) = 0
@@ -56,7 +67,8 @@ number_of (word a) = 0
 number_of (number n) = n
 
 abbrev by_parts_cmp : Segment → Segment → Ordering
-by_parts_cmp = then_cmp (on class_of nat_cmp) (then_cmp (on word_of (slice_cmp nat_cmp)) (on number_of nat_cmp))
+by_parts_cmp = then_cmp (on class_of nat_cmp)
+    (then_cmp (on word_of (slice_cmp nat_cmp)) (on number_of nat_cmp))
 
 then_equal : (r : Ordering) → ordering_then r Equal ≡ r
 then_equal Less = refl
@@ -71,7 +83,8 @@ segment-by_parts (number m) (number n) = refl
 
 pub segment_total : IsTotalOrder segment_cmp
 segment_total = subst IsTotalOrder (λ i a b. sym (segment-by_parts a b) i)
-    (then_total (on_total class_of nat_cmp_total) (then_total (on_total word_of nat_list_cmp_total) (on_total number_of nat_cmp_total)))
+    (then_total (on_total class_of nat_cmp_total)
+    (then_total (on_total word_of nat_list_cmp_total) (on_total number_of nat_cmp_total)))
 
 pub version_total : IsTotalOrder version_cmp
 version_total =
@@ -113,7 +126,9 @@ ranked-second : (j k : ℕ × ℕ) → ranked_cmp j k ≡ Equal → j.1 ≡ k.1
 ranked-second j k e = nat_cmp-IsAntisymmetric j.1 k.1 (then_second _ _ e)
 
 pub padded-tie : (xs ys : List ℕ) → padded_cmp xs ys ≡ Equal → significant xs ≡ significant ys
-padded-tie xs ys e = slice_cmp-IsAntisymmetric nat_cmp-IsAntisymmetric (significant xs) (significant ys) (sym (padded-significant xs ys) ∙ e)
+padded-tie xs ys e =
+    slice_cmp-IsAntisymmetric nat_cmp-IsAntisymmetric (significant xs) (significant ys)
+    (sym (padded-significant xs ys) ∙ e)
 
 -- ---- the order ties the same version alone
 
@@ -129,7 +144,8 @@ kind_rank-injective Rc Beta e = absurd (omega arith)
 kind_rank-injective Rc Rc e = refl
 
 -- the rank of no pre-release is no kind's
-no_kind : (k : PrereleaseKind) (post dev : Option ℕ) → kind_rank k ≡ (pre_key_of None post dev).0 → ⊥
+no_kind : (k : PrereleaseKind) (post dev : Option ℕ)
+    → kind_rank k ≡ (pre_key_of None post dev).0 → ⊥
 no_kind Alpha None None e = omega arith
 no_kind Alpha None (Some d) e = omega arith
 no_kind Alpha (Some q) dev e = omega arith
@@ -141,13 +157,17 @@ no_kind Rc None (Some d) e = omega arith
 no_kind Rc (Some q) dev e = omega arith
 
 same_pre : (p r : Option Prerelease) (post dev : Option ℕ)
-    → (pre_key_of p post dev).0 ≡ (pre_key_of r post dev).0 → (pre_key_of p post dev).1 ≡ (pre_key_of r post dev).1 → p ≡ r
+    → (pre_key_of p post dev).0 ≡ (pre_key_of r post dev).0
+    → (pre_key_of p post dev).1 ≡ (pre_key_of r post dev).1 → p ≡ r
 same_pre None None post dev rank count = refl
 same_pre None (Some r) post dev rank count = absurd (no_kind r.kind post dev (sym rank))
 same_pre (Some p) None post dev rank count = absurd (no_kind p.kind post dev rank)
-same_pre (Some p) (Some r) post dev rank count = let kind = kind_rank-injective p.kind r.kind rank in λ i. Some (record { kind = kind i; number = count i })
+same_pre (Some p) (Some r) post dev rank count =
+    let kind = kind_rank-injective p.kind r.kind rank in
+    λ i. Some (record { kind = kind i; number = count i })
 
-same_dev : (d e : Option ℕ) → (dev_key_of d).0 ≡ (dev_key_of e).0 → (dev_key_of d).1 ≡ (dev_key_of e).1 → d ≡ e
+same_dev : (d e : Option ℕ)
+    → (dev_key_of d).0 ≡ (dev_key_of e).0 → (dev_key_of d).1 ≡ (dev_key_of e).1 → d ≡ e
 same_dev None None rank count = refl
 same_dev None (Some e) rank count = absurd (omega arith)
 same_dev (Some d) None rank count = absurd (omega arith)
@@ -160,10 +180,17 @@ tied-same x y tie =
     let t3 = then_second _ _ t2 in
     let t4 = then_second _ _ t3 in
     let post : x.post ≡ y.post = option-anti _ _ (then_first _ _ t3) in
-    let dev : x.dev ≡ y.dev = same_dev _ _ (ranked-first (dev_key x) (dev_key y) (then_first _ _ t4)) (ranked-second (dev_key x) (dev_key y) (then_first _ _ t4)) in
-    let key : pre_key y ≡ pre_key_of y.pre x.post x.dev = λ i. pre_key_of y.pre (sym post i) (sym dev i) in
-    let rank : (pre_key x).0 ≡ (pre_key_of y.pre x.post x.dev).0 = ranked-first (pre_key x) (pre_key y) (then_first _ _ t2) ∙ ap (λ (k : ℕ × ℕ). k.0) key in
-    let number : (pre_key x).1 ≡ (pre_key_of y.pre x.post x.dev).1 = ranked-second (pre_key x) (pre_key y) (then_first _ _ t2) ∙ ap (λ (k : ℕ × ℕ). k.1) key in
+    let dev : x.dev ≡ y.dev = same_dev _ _
+    (ranked-first (dev_key x) (dev_key y) (then_first _ _ t4))
+    (ranked-second (dev_key x) (dev_key y) (then_first _ _ t4)) in
+    let key : pre_key y ≡ pre_key_of y.pre x.post x.dev =
+    λ i. pre_key_of y.pre (sym post i) (sym dev i) in
+    let rank : (pre_key x).0 ≡ (pre_key_of y.pre x.post x.dev).0 =
+    ranked-first (pre_key x) (pre_key y) (then_first _ _ t2)
+    ∙ ap (λ (k : ℕ × ℕ). k.0) key in
+    let number : (pre_key x).1 ≡ (pre_key_of y.pre x.post x.dev).1 =
+    ranked-second (pre_key x) (pre_key y) (then_first _ _ t2)
+    ∙ ap (λ (k : ℕ × ℕ). k.1) key in
     record {
       release = then_first _ _ t1;
       pre = same_pre x.pre y.pre x.post x.dev rank number;
@@ -181,8 +208,11 @@ version_alike = record {
       let same = tied-same x y ((Equal-is (version_cmp x y)).0 h) in
       let release = padded-tie _ _ same.release in
       λ i. fed.u64 (same.epoch i) ++ (fed.slice fed.u64 (release i)
-      ++ (fed.u8 (pre_key_of (same.pre i) (same.post i) (same.dev i)).0 ++ (fed.u64 (pre_key_of (same.pre i) (same.post i) (same.dev i)).1 ++ (fed.option fed.u64 (same.post i)
-      ++ (fed.u8 (dev_key_of (same.dev i)).0 ++ (fed.u64 (dev_key_of (same.dev i)).1 ++ fed.slice segment_writes (same.locals i)))))));
+      ++ (fed.u8 (pre_key_of (same.pre i) (same.post i) (same.dev i)).0
+      ++ (fed.u64 (pre_key_of (same.pre i) (same.post i) (same.dev i)).1
+      ++ (fed.option fed.u64 (same.post i)
+      ++ (fed.u8 (dev_key_of (same.dev i)).0
+      ++ (fed.u64 (dev_key_of (same.dev i)).1 ++ fed.slice segment_writes (same.locals i)))))));
 }
 
 -- ---- equality
@@ -206,9 +236,20 @@ same-tied x y same =
     (tied (lists_total segment_total) _ _ same.locals)))))
 
 -- the test of the order for a tie is one for the same version
-pub same-eq : (x y : Parts) (b : Bool) → (IsTrue b → IsSameVersion x y) → (IsSameVersion x y → IsTrue b) → b ≡ eq_by_cmp version_cmp x y
-same-eq x y b f g = one_answer b (eq_by_cmp version_cmp x y) (f, g)
-    (λ e. tied-same x y ((Equal-is (version_cmp x y)).0 e), λ s. (Equal-is (version_cmp x y)).1 (same-tied x y s))
+pub same-eq : (x y : Parts) (b : Bool)
+    → (IsTrue b → IsSameVersion x y) → (IsSameVersion x y → IsTrue b)
+    → b ≡ eq_by_cmp version_cmp x y
+same-eq x y b f g = one_answer b (eq_by_cmp version_cmp x y) (f, g) (
+  λ e. tied-same x y ((Equal-is (version_cmp x y)).0 e),
+  λ s. (Equal-is (version_cmp x y)).1 (same-tied x y s),
+)
 
-pub same_locals : (xs ys : List Segment) → (IsTrue (is_eq (slice_cmp segment_cmp xs ys)) → xs ≡ ys) × (xs ≡ ys → IsTrue (is_eq (slice_cmp segment_cmp xs ys)))
-same_locals xs ys = (λ e. slice_cmp-IsAntisymmetric segment-anti xs ys ((Equal-is (slice_cmp segment_cmp xs ys)).0 e), λ e. (Equal-is (slice_cmp segment_cmp xs ys)).1 (tied (lists_total segment_total) xs ys e))
+pub same_locals : (xs ys : List Segment)
+    → (IsTrue (is_eq (slice_cmp segment_cmp xs ys)) → xs ≡ ys)
+    × (xs ≡ ys → IsTrue (is_eq (slice_cmp segment_cmp xs ys)))
+same_locals xs ys = (
+  λ e. slice_cmp-IsAntisymmetric segment-anti xs ys
+      ((Equal-is (slice_cmp segment_cmp xs ys)).0 e),
+  λ e. (Equal-is (slice_cmp segment_cmp xs ys)).1
+      (tied (lists_total segment_total) xs ys e),
+)

@@ -11,7 +11,8 @@ IsGivenUnlessMemory (Ok x) v = x ≡ v
 IsGivenUnlessMemory (Err e) v = e ≡ OutOfMemory
 
 -- this pattern, or out of memory
-abbrev pub IsPatternGivenUnlessMemory : {E : Type 0} → Result VersionPattern (Refusal E) → Parts → Bool → Type 0
+abbrev pub IsPatternGivenUnlessMemory :
+    {E : Type 0} → Result VersionPattern (Refusal E) → Parts → Bool → Type 0
 IsPatternGivenUnlessMemory (Ok p) v star = (p.version ≡ v) × (p.wildcard ≡ star)
 IsPatternGivenUnlessMemory (Err e) v star = e ≡ OutOfMemory
 

@@ -18,4 +18,5 @@ pub record Parts : Type 0 where
 
 -- a version of release numbers alone
 abbrev pub release_only : List ℕ → Parts
-release_only numbers = record { epoch = 0; release = numbers; pre = None; post = None; dev = None; locals = [] }
+release_only numbers =
+    record { epoch = 0; release = numbers; pre = None; post = None; dev = None; locals = [] }

@@ -124,7 +124,8 @@ release_at t = release_of (number_at t)
 
 abbrev pub pre_of : List ℕ → Option (PrereleaseKind × List ℕ) → Option Prerelease × List ℕ
 pre_of t None = (None, t)
-pre_of t (Some w) = (Some (record { kind = w.0; number = (numbered_at w.1).0 }), (numbered_at w.1).1)
+pre_of t (Some w) =
+    (Some (record { kind = w.0; number = (numbered_at w.1).0 }), (numbered_at w.1).1)
 
 unfoldable pub pre_at : List ℕ → Option Prerelease × List ℕ
 pre_at t = pre_of t (pre_word_at (after_separator t))
@@ -175,11 +176,13 @@ abbrev pub prepend : Segment → Option (List Segment) → Option (List Segment)
 prepend s None = None
 prepend s (Some ss) = Some (s ∷ ss)
 
-abbrev pub after_segment : (List ℕ → Option (List Segment)) → Segment → List ℕ → Option (List Segment)
+abbrev pub after_segment :
+    (List ℕ → Option (List Segment)) → Segment → List ℕ → Option (List Segment)
 after_segment next s [] = Some (s ∷ [])
 after_segment next s (b ∷ rest) = if is_separator b then prepend s (next rest) else None
 
-abbrev pub segments_of : (List ℕ → Option (List Segment)) → Option (Segment × List ℕ) → Option (List Segment)
+abbrev pub segments_of :
+    (List ℕ → Option (List Segment)) → Option (Segment × List ℕ) → Option (List Segment)
 segments_of next None = None
 segments_of next (Some x) = after_segment next x.0 x.1
 
@@ -198,10 +201,18 @@ abbrev pub after_mark : List ℕ → List ℕ
 after_mark [] = []
 after_mark (b ∷ rest) = if b == 118 then rest else b ∷ rest
 
-abbrev pub finish : ℕ → List ℕ → Option Prerelease → Option ℕ → Option ℕ → Option (List Segment) → Option Parts
+abbrev pub finish : ℕ → List ℕ
+    → Option Prerelease → Option ℕ → Option ℕ → Option (List Segment) → Option Parts
 finish epoch release pre post dev None = None
 finish epoch release pre post dev (Some locals) =
-    Some (record { epoch = epoch; release = release; pre = pre; post = post; dev = dev; locals = locals })
+    Some (record {
+      epoch = epoch;
+      release = release;
+      pre = pre;
+      post = post;
+      dev = dev;
+      locals = locals;
+    })
 
 abbrev pub after_release : ℕ → Option (List ℕ × List ℕ) → Option Parts
 after_release epoch None = None

@@ -58,4 +58,5 @@ abbrev pub suffix_text : Option Prerelease → Option ℕ → Option ℕ → Lis
 suffix_text pre post dev = pre_text pre ++ (post_text post ++ dev_text dev)
 
 unfoldable pub version_text : Parts → List ℕ
-version_text v = epoch_text v.epoch ++ (release_text v.release ++ (suffix_text v.pre v.post v.dev ++ local_text v.locals))
+version_text v = epoch_text v.epoch ++ (release_text v.release ++
+    (suffix_text v.pre v.post v.dev ++ local_text v.locals))

@@ -1,5 +1,5 @@
--- What the parts of every version keep: each number fits 64 bits, there is a release number, and each
--- segment of the local part is written as PEP 440 normalizes it.
+-- What the parts of every version keep: each number fits 64 bits, there is a release number, and
+-- each segment of the local part is written as PEP 440 normalizes it.
 use Rattle.std.specs.Prelude.{ℕ, ◌<◌, ◌^◌, ◌≡◌, ◌||◌, Bool, true, false, List, Option, None, Some, ⊤, length}
 use Rattle.std.specs.Char.{is_ascii_digit, is_ascii_lowercase}
 use Rattle.std.specs.List.{AllByRecursion, list_all}

@@ -10,4 +10,11 @@ segment_of (String s) = word (string_bytes s)
 segment_of (Number n) = number n
 
 abbrev pub parts_of : Inside → Parts
-parts_of v = record { epoch = v.epoch; release = v.release.items; pre = v.pre; post = v.post; dev = v.dev; locals = map segment_of v.local.items }
+parts_of v = record {
+  epoch = v.epoch;
+  release = v.release.items;
+  pre = v.pre;
+  post = v.post;
+  dev = v.dev;
+  locals = map segment_of v.local.items;
+}

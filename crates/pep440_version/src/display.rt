@@ -44,7 +44,8 @@ fn write_segments<W: fmt::Write>(
     segments: &[LocalSegment],
     f: &mut fmt::Formatter<W>,
 ) -> fmt::Result
-    ensures { DisplaysOnOk W.write_str_gives f.old result (Some (dotted_segments (map segment_of segments.now))) f.new }
+    ensures { DisplaysOnOk W.write_str_gives f.old result
+        (Some (dotted_segments (map segment_of segments.now))) f.new }
 {
     for segment in segments {
         write!(f, ".{segment}")?;
@@ -95,7 +96,8 @@ fn write_suffix<W: fmt::Write>(
 }
 
 fn write_local<W: fmt::Write>(segments: &[LocalSegment], f: &mut fmt::Formatter<W>) -> fmt::Result
-    ensures { DisplaysOnOk W.write_str_gives f.old result (Some (local_text (map segment_of segments.now))) f.new }
+    ensures { DisplaysOnOk W.write_str_gives f.old result
+        (Some (local_text (map segment_of segments.now))) f.new }
 {
     match segments {
         [first, others @ ..] => {

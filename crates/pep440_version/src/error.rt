@@ -37,7 +37,8 @@ impl fmt::Display for Expected {
     }
 }
 
-/// Why a text is no version, or no pattern of versions: what was expected, and at which byte of the text.
+/// Why a text is no version, or no pattern of versions: what was expected, and at which byte of the
+/// text.
 #[derive(Debug, Drop, PartialEq, Eq)]
 pub struct VersionParseError {
     text: String,
@@ -71,7 +72,8 @@ impl VersionParseError {
         self.text.as_str()
     }
 
-    /// How many bytes of the text stand before the fault. There a character begins, or the text ends.
+    /// How many bytes of the text stand before the fault. There a character begins, or the text
+    /// ends.
     pub fn offset(&self) -> usize
         ensures value { result ≡ self.now.offset }
         ensures boundary { IsCharBoundary (string_bytes self.now.text) result }

@@ -10,7 +10,7 @@ use std::alloc::{AllocError, Global};
 pub(crate) fn of_version(alloc: Global, text: &str) -> Result<VersionParseError, AllocError>
     ensures { IfOk result (λ fault. string_bytes fault.text ≡ text.now) }
 {
-    let version = read::lowered(alloc, text.trim())?;
+    let version = read::lower_case(alloc, text.trim())?;
     let (expected, rest) = version_fault(&version);
     before_rest(alloc, text, rest.len(), expected)
 }
@@ -19,13 +19,13 @@ pub(crate) fn of_version(alloc: Global, text: &str) -> Result<VersionParseError,
 pub(crate) fn of_pattern(alloc: Global, text: &str) -> Result<VersionParseError, AllocError>
     ensures { IfOk result (λ fault. string_bytes fault.text ≡ text.now) }
 {
-    let pattern = read::lowered(alloc, text.trim())?;
+    let pattern = read::lower_case(alloc, text.trim())?;
     let (expected, rest) = pattern_fault(&pattern);
     before_rest(alloc, text, rest.len(), expected)
 }
 
-// A fault with so many bytes from it to the end of the text, white space at the end apart. What was read
-// before it is ASCII, so that a character begins there.
+// A fault with so many bytes from it to the end of the text, white space at the end apart. What was
+// read before it is ASCII, so that a character begins there.
 fn before_rest(
     alloc: Global,
     text: &str,
@@ -39,8 +39,8 @@ fn before_rest(
     VersionParseError::new(alloc, text, offset, expected)
 }
 
-// The functions below take a text in lower case. Each gives what was expected, and the rest of the text
-// from there.
+// The functions below take a text in lower case. Each gives what was expected, and the rest of the
+// text from there.
 
 fn version_fault(text: &[u8]) -> (Expected, &[u8]) {
     let (_, release) = read::epoch(read::after_mark(text));

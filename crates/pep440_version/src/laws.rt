@@ -21,8 +21,8 @@ pub fn order_is_total()
     ensures { IsTotalOrder version_cmp }
 {}
 
-/// The order tells two versions apart but where they are the same: where their releases differ in zeros
-/// at the end alone, and every other part is the same.
+/// The order tells two versions apart but where they are the same: where their releases differ in
+/// zeros at the end alone, and every other part is the same.
 pub fn order_ties_the_same_version()
     ensures { (v w : Parts) → version_cmp v w ≡ Equal ↔ IsSameVersion v w }
 {}
@@ -39,7 +39,8 @@ pub fn text_says_one_version()
 
 /// A text says at most one pattern: no version ends in `.*`.
 pub fn text_says_one_pattern()
-    ensures { (text : List ℕ) (v w : Parts) (star end : Bool) → IsPatternText text v star → IsPatternText text w end → (v ≡ w) × (star ≡ end) }
+    ensures { (text : List ℕ) (v w : Parts) (star end : Bool)
+        → IsPatternText text v star → IsPatternText text w end → (v ≡ w) × (star ≡ end) }
 {}
 
 /// The parts of a version are valid, and its normal text is read back as that version, with as many

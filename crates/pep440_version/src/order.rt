@@ -1,4 +1,5 @@
-//! The order, the equality and the hash of versions. Each looks at each part once, and allocates nothing.
+//! The order, the equality and the hash of versions. Each looks at each part once, and allocates
+//! nothing.
 
 ghost use Rattle.std.specs.Prelude.{◌↔◌, IsTrue, ◌≡◌, ◌≤◌, Some, fold, length, map, refl, take};
 ghost use Rattle.std.specs.Hash as fed;
@@ -98,7 +99,8 @@ fn is_same_version(a: &Version, b: &Version) -> bool
 }
 
 fn hash_locals<H: Hasher>(locals: &[LocalSegment], state: &mut H)
-    ensures { state.new ≡ fold H.write state.old (fed.slice segment_writes (map segment_of locals.now)) }
+    ensures { state.new
+        ≡ fold H.write state.old (fed.slice segment_writes (map segment_of locals.now)) }
 {
     locals.hash(state);
 }

@@ -15,11 +15,12 @@ use refusal::Refusal;
 use std::alloc::{AllocError, Global};
 
 impl Version {
-    /// Reads a version: `v`, an epoch, a release, a pre-release, a post release, a development release and
-    /// a local part, of which the release alone must stand (PEP 440, appendix B).
+    /// Reads a version: `v`, an epoch, a release, a pre-release, a post release, a development
+    /// release and a local part, of which the release alone must stand (PEP 440, appendix B).
     ///
-    /// Letters may be in any ASCII case, and white space around the version is dropped. A text that is no
-    /// version is a `Fault`, which says what was expected at which byte. `SegmentAtEnd` never comes.
+    /// Letters may be in any ASCII case, and white space around the version is dropped. A text that
+    /// is no version is a `Fault`, which says what was expected at which byte. `SegmentAtEnd` never
+    /// comes.
     pub fn parse(alloc: Global, text: &str) -> Result<Version, Refusal<VersionParseError>>
         // What is read is what the text says.
         ensures found { IfOk result (λ v. IsVersionText text.now v) }
@@ -27,7 +28,8 @@ impl Version {
         // What the text says is read, unless memory runs out.
         ensures only { (v : Parts) → IsVersionText text.now v → IsGivenUnlessMemory result v }
         ensures at_end { IfErr result (λ e. e ≢ SegmentAtEnd) }
-        ensures fault { IfErr result (λ e. IfFault e (λ fault. string_bytes fault.text ≡ text.now)) }
+        ensures fault { IfErr result (λ e. IfFault e
+            (λ fault. string_bytes fault.text ≡ text.now)) }
     {
         match version_of(alloc, text.trim())? {
             Some(version) => Ok(version),
@@ -40,5 +42,5 @@ impl Version {
 fn version_of(alloc: Global, text: &str) -> Result<Option<Version>, AllocError>
     ensures { IfOk result (λ found. found ≡ version_at (map to_ascii_lowercase text.now)) }
 {
-    read::version(alloc, &read::lowered(alloc, text)?)
+    read::version(alloc, &read::lower_case(alloc, text)?)
 }

@@ -23,18 +23,22 @@ impl VersionPattern {
     ghost use Rattle.pep440_version.specs.Parse.{IfFault, IsPatternGivenUnlessMemory};
     ghost use Rattle.pep440_version.specs.Parts.{Parts};
 
-    /// Reads a version, or an optional `v`, an optional epoch and a release that `.*` follows directly.
+    /// Reads a version, or an optional `v`, an optional epoch and a release that `.*` follows
+    /// directly.
     ///
-    /// Letters may be in any ASCII case, and white space around the pattern is dropped. A text that is no
-    /// pattern is a `Fault`, which says what was expected at which byte. `SegmentAtEnd` never comes.
+    /// Letters may be in any ASCII case, and white space around the pattern is dropped. A text that
+    /// is no pattern is a `Fault`, which says what was expected at which byte. `SegmentAtEnd` never
+    /// comes.
     pub fn parse(alloc: Global, text: &str) -> Result<VersionPattern, Refusal<VersionParseError>>
         // What is read is what the text says.
         ensures found { IfOk result (λ p. IsPatternText text.now p.version p.wildcard) }
 
         // What the text says is read, unless memory runs out.
-        ensures only { (v : Parts) (star : Bool) → IsPatternText text.now v star → IsPatternGivenUnlessMemory result v star }
+        ensures only { (v : Parts) (star : Bool) → IsPatternText text.now v star
+            → IsPatternGivenUnlessMemory result v star }
         ensures at_end { IfErr result (λ e. e ≢ SegmentAtEnd) }
-        ensures fault { IfErr result (λ e. IfFault e (λ fault. string_bytes fault.text ≡ text.now)) }
+        ensures fault { IfErr result (λ e. IfFault e
+            (λ fault. string_bytes fault.text ≡ text.now)) }
     {
         match pattern_of(alloc, text.trim())? {
             Some(pattern) => Ok(pattern),
@@ -106,7 +110,8 @@ fn pattern(alloc: Global, text: &[u8]) -> Result<Option<VersionPattern>, AllocEr
 
 // The pattern of a text with no white space around it.
 fn pattern_of(alloc: Global, text: &str) -> Result<Option<VersionPattern>, AllocError>
-    ensures { IfOk result (λ found. Spec.pattern_view found ≡ Spec.pattern_at (map to_ascii_lowercase text.now)) }
+    ensures { IfOk result (λ found. Spec.pattern_view found
+        ≡ Spec.pattern_at (map to_ascii_lowercase text.now)) }
 {
-    pattern(alloc, &read::lowered(alloc, text)?)
+    pattern(alloc, &read::lower_case(alloc, text)?)
 }

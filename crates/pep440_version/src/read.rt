@@ -1,5 +1,5 @@
-//! Readers of the parts of a version, over a text in lower case. Each reads the front of a slice of bytes,
-//! and gives what it read and the rest.
+//! Readers of the parts of a version, over a text in lower case. Each reads the front of a slice of
+//! bytes, and gives what it read and the rest.
 
 ghost use Rattle.std.specs.Prelude.{◌≡◌, ◌≤◌, ◌<◌, ◌+◌, ◌-◌, ◌*◌, ◌^◌, ◌++◌, length, IfNone, IfSome, IfOk, OnOk, IsAscii, map, take};
 ghost use Rattle.std.specs.Char.{is_ascii_digit, to_ascii_lowercase};
@@ -67,7 +67,7 @@ pub(crate) fn after_separator(text: &[u8]) -> &[u8]
 
 // The number after a word, which may be left out.
 #[tactic(auto, unfolding(crate::specs::Reading::numbered_at))]
-fn numbered(text: &[u8]) -> (u64, &[u8])
+fn optional_number(text: &[u8]) -> (u64, &[u8])
     ensures { Spec.pair_view result ≡ Spec.numbered_at text.now }
 {
     match number(after_separator(text)) {
@@ -147,7 +147,7 @@ pub(crate) fn pre(text: &[u8]) -> (Option<Prerelease>, &[u8])
     let Some((kind, rest)) = pre_word(after_separator(text)) else {
         return (None, text);
     };
-    let (number, rest) = numbered(rest);
+    let (number, rest) = optional_number(rest);
     (Some(Prerelease { kind, number }), rest)
 }
 
@@ -156,7 +156,7 @@ pub(crate) fn post(text: &[u8]) -> (Option<u64>, &[u8])
     ensures { Spec.pair_view result ≡ Spec.post_at text.now }
 {
     if let Some(rest) = post_word(after_separator(text)) {
-        let (number, rest) = numbered(rest);
+        let (number, rest) = optional_number(rest);
         return (Some(number), rest);
     }
     match number_after(b'-', text) {
@@ -172,13 +172,14 @@ pub(crate) fn dev(text: &[u8]) -> (Option<u64>, &[u8])
     let Some(rest) = strip(after_separator(text), b"dev") else {
         return (None, text);
     };
-    let (number, rest) = numbered(rest);
+    let (number, rest) = optional_number(rest);
     (Some(number), rest)
 }
 
 // Adds the further numbers of a release, and gives the text after them.
 fn more<'a>(numbers: &mut SmallVec<u64, 4>, text: &'a [u8]) -> Result<&'a [u8], AllocError>
-    ensures numbers { OnOk result (numbers.new.items ≡ numbers.old.items ++ (Spec.more_at (length text.now) text.now).0) }
+    ensures numbers { OnOk result (numbers.new.items
+        ≡ numbers.old.items ++ (Spec.more_at (length text.now) text.now).0) }
     ensures rest { IfOk result (λ rest. rest.now ≡ (Spec.more_at (length text.now) text.now).1) }
 {
     let mut rest = text;
@@ -257,7 +258,8 @@ fn segment(alloc: Global, text: &[u8]) -> Result<Option<(LocalSegment, &[u8])>, 
 }
 
 fn segments(alloc: Global, text: &[u8]) -> Result<Option<Vec<LocalSegment>>, AllocError>
-    ensures { IfOk result (λ found. Spec.segments_view found ≡ Spec.segments_at (length text.now) text.now) }
+    ensures { IfOk result (λ found. Spec.segments_view found
+        ≡ Spec.segments_at (length text.now) text.now) }
 {
     let mut segments = Vec::new(alloc);
     let mut rest = text;
@@ -320,7 +322,7 @@ pub(crate) fn version(alloc: Global, text: &[u8]) -> Result<Option<Version>, All
 }
 
 // The bytes of a text, its ASCII letters in lower case.
-pub(crate) fn lowered(alloc: Global, text: &str) -> Result<Vec<u8>, AllocError>
+pub(crate) fn lower_case(alloc: Global, text: &str) -> Result<Vec<u8>, AllocError>
     ensures { IfOk result (λ bytes. bytes.items ≡ map to_ascii_lowercase text.now) }
 {
     text.bytes()

@@ -27,14 +27,15 @@ impl Serialize for Version {
     }
 }
 
-/// Reads a text that is a version, as `Version::parse` does. The error tells want of memory, or what was expected and
-/// where.
+/// Reads a text that is a version, as `Version::parse` does. The error tells want of memory, or
+/// what was expected and where.
 impl DeserializeOwned for Version {
     fn deserialize_owned<F: Format>(
         alloc: Global,
         from: &mut Deserializer<'_, '_, F>,
     ) -> Result<Version, F::Error>
-        ensures { IfOk result (λ v. (t : List ℕ) × Gives F.gives from.old (text t) from.new × IsVersionText t v) }
+        ensures { IfOk result (λ v. (t : List ℕ) × Gives F.gives from.old (text t) from.new
+            × IsVersionText t v) }
     {
         let text = from.string(alloc)?;
         match Version::parse(alloc, text.as_str()) {
@@ -53,7 +54,8 @@ impl<'de> Deserialize<'de> for Version {
         alloc: Global,
         from: &mut Deserializer<'de, '_, F>,
     ) -> Result<Version, F::Error>
-        ensures { IfOk result (λ v. (t : List ℕ) × Gives F.gives from.old (text t) from.new × IsVersionText t v) }
+        ensures { IfOk result (λ v. (t : List ℕ) × Gives F.gives from.old (text t) from.new
+            × IsVersionText t v) }
     {
         Version::deserialize_owned(alloc, from)
     }

@@ -8,8 +8,8 @@ use smallvec::SmallVec;
 use std::alloc::{AllocError, Global};
 use std::marker::Model;
 
-/// The kind of a pre-release, in the order of PEP 440: an alpha comes before a beta, and that before a
-/// release candidate.
+/// The kind of a pre-release, in the order of PEP 440: an alpha comes before a beta, and that
+/// before a release candidate.
 #[derive(Clone, Copy, Debug, PartialEq, Eq, PartialOrd, Ord, Hash)]
 pub enum PrereleaseKind {
     /// An alpha, written `a`.
@@ -29,8 +29,8 @@ pub struct Prerelease {
     pub number: u64,
 }
 
-/// A segment of the local part of a version, as `ubuntu` and `7` of `1.0+ubuntu.7`. A text comes before a
-/// number.
+/// A segment of the local part of a version, as `ubuntu` and `7` of `1.0+ubuntu.7`. A text comes
+/// before a number.
 #[derive(Clone, Debug, Drop, PartialEq, Eq, PartialOrd, Ord, Hash)]
 pub enum LocalSegment {
     /// Lower-case ASCII letters and digits, not digits alone.
@@ -40,6 +40,12 @@ pub enum LocalSegment {
 }
 
 /// A version of PEP 440, with its release numbers as they were written.
+///
+/// ```
+/// let version = Version::parse(alloc, "v1.0-Beta.2")?;
+/// let release = Version::parse(alloc, "1.0")?;
+/// println!(rt; "{version} before {release}: {}", version < release)?;
+/// ```
 #[derive(Debug, Drop)]
 pub struct Version {
     pub(crate) epoch: u64,
@@ -112,11 +118,13 @@ impl Version {
 
     /// The same version without the zeros at the end of its release, down to one number.
     ///
-    /// It is refused for want of memory alone, and never where at most four numbers and no local part are left.
+    /// It is refused for want of memory alone, and never where at most four numbers and no local
+    /// part are left.
     pub fn trimmed(&self) -> Result<Version, AllocError>
         ensures value { IfOk result (λ version. version ≡ trimmed_parts self.now) }
         ensures same { IfOk result (λ version. IsSameVersion version self.now) }
-        ensures inline { length (trimmed self.now.release) ≤ 4 → self.now.locals ≡ [] → IsOk result }
+        ensures inline { length (trimmed self.now.release) ≤ 4
+            → self.now.locals ≡ [] → IsOk result }
     {
         Ok(Version {
             epoch: self.epoch,
@@ -159,7 +167,8 @@ impl Version {
 
 // A list without segments needs no memory.
 fn clone_locals(locals: &Vec<LocalSegment>) -> Result<Vec<LocalSegment>, AllocError>
-    ensures value { IfOk result (λ copy. map segment_of copy.items ≡ map segment_of locals.now.items) }
+    ensures value { IfOk result (λ copy.
+        map segment_of copy.items ≡ map segment_of locals.now.items) }
     ensures none { map segment_of locals.now.items ≡ [] → IsOk result }
 {
     if locals.is_empty() {
@@ -168,8 +177,8 @@ fn clone_locals(locals: &Vec<LocalSegment>) -> Result<Vec<LocalSegment>, AllocEr
     locals.clone()
 }
 
-/// A clone is written as its source is. It is refused for want of memory, and never where the version
-/// has at most four release numbers and no local part.
+/// A clone is written as its source is. It is refused for want of memory, and never where the
+/// version has at most four release numbers and no local part.
 impl Clone for Version {
     ghost is_clone = { λ v copy. copy ≡ v };
 

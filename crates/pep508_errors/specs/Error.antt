@@ -7,7 +7,8 @@ use Rattle.pep508_errors.specs.declared.error.Pep508ErrorSource.TheVariants as s
 use Rattle.pep508_errors.specs.Underline.{shown}
 
 -- what is said of a fault, as far as it is known: `fault_text` is what the faults of URLs print
-abbrev pub source_text : {T E : Type 0} → (E → Option (List ℕ)) → Pep508ErrorSource T E → Option (List ℕ)
+abbrev pub source_text : {T E : Type 0}
+    → (E → Option (List ℕ)) → Pep508ErrorSource T E → Option (List ℕ)
 source_text fault_text (sources.String message) = Some (string_bytes message)
 source_text fault_text (sources.UrlError fault) = fault_text fault
 source_text fault_text (sources.UnsupportedRequirement message) = Some (string_bytes message)

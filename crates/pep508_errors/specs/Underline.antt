@@ -16,7 +16,8 @@ columns cs = sum_by column_width cs
 -- those of the characters that end within the first n bytes
 abbrev pub ending_within : ℕ → List ℕ → List ℕ
 ending_within n [] = []
-ending_within n (c ∷ cs) = if nat_le (len_utf8 c) n then c ∷ ending_within (n - len_utf8 c) cs else []
+ending_within n (c ∷ cs) =
+    if nat_le (len_utf8 c) n then c ∷ ending_within (n - len_utf8 c) cs else []
 
 -- the columns of what stands before a place in the text
 abbrev pub columns_before : List ℕ → ℕ → ℕ
@@ -30,7 +31,8 @@ carets text start len =
 
 -- spaces up to the span, and carets
 abbrev pub underline : List ℕ → ℕ → ℕ → List ℕ
-underline text start len = replicate (columns_before text start) 32 ++ replicate (carets text start len) 94
+underline text start len =
+    replicate (columns_before text start) 32 ++ replicate (carets text start len) 94
 
 -- three lines: the message, the text and the underline
 abbrev pub shown : List ℕ → List ℕ → ℕ → ℕ → List ℕ

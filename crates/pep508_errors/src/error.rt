@@ -32,12 +32,12 @@ impl<T: Pep508Url> fmt::Display for Pep508ErrorSource<T> {
 
 /// What is wrong with a text, and where.
 ///
-/// A span at the end of the text starts at its length and is 1 long. Any other begins and ends between
-/// two characters.
+/// A span at the end of the text starts at its length and is 1 long. Any other begins and ends
+/// between two characters.
 ///
-/// It prints as three lines: what is wrong, the text, and under the span as many carets as its columns,
-/// or one at the end of the text. A span that is none of this text prints too: a start past the end as the
-/// end, and a place within a character as the place before it.
+/// It prints as three lines: what is wrong, the text, and under the span as many carets as its
+/// columns, or one at the end of the text. A span that is none of this text prints too: a start
+/// past the end as the end, and a place within a character as the place before it.
 #[derive(Debug, Drop)]
 pub struct Pep508Error<T: Pep508Url> {
     /// What is wrong.

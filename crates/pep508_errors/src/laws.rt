@@ -4,8 +4,8 @@ ghost use Rattle.std.specs.Prelude.{◌≡◌, ◌∷◌, ◌++◌, ◌+◌, ◌
 ghost use Rattle.std.specs.Str.{chars, IsCharBoundary};
 ghost use Rattle.pep508_errors.specs.Underline.{columns, underline};
 
-/// Under a span of whole characters stand as many carets as the characters have columns, behind as many
-/// spaces as the text before it has columns.
+/// Under a span of whole characters stand as many carets as the characters have columns, behind as
+/// many spaces as the text before it has columns.
 pub fn underline_of_a_span()
     ensures { (text : List ℕ) (start len : ℕ) → IsUtf8 text → start < length text
         → IsCharBoundary text start → IsCharBoundary text (start + len)
@@ -13,7 +13,8 @@ pub fn underline_of_a_span()
         ++ replicate (columns (chars (take len (drop start text)))) 94 }
 {}
 
-/// At the end of a text, and past it, stands one caret, behind as many spaces as the text has columns.
+/// At the end of a text, and past it, stands one caret, behind as many spaces as the text has
+/// columns.
 pub fn underline_at_the_end()
     ensures { (text : List ℕ) (start len : ℕ) → IsUtf8 text → length text ≤ start
         → underline text start len ≡ replicate (columns (chars text)) 32 ++ 94 ∷ [] }

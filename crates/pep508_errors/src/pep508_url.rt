@@ -58,8 +58,9 @@ pub fn refusal_of(fault: ParseError) -> Refusal<ParseError>
     }
 }
 
-/// A text has the value that the URL Standard gives it, whatever the surroundings. The fault of size is
-/// [`ParseError::Overflow`], for URLs of 4 GB; `url` does not say of which texts it tells that.
+/// A text has the value that the URL Standard gives it, whatever the surroundings. The fault of
+/// size is [`ParseError::Overflow`], for URLs of 4 GB; `url` does not say of which texts it tells
+/// that.
 impl Pep508Url for Url {
     type Err = ParseError;
 

@@ -2,8 +2,8 @@
 
 use std::collections::BTreeMap;
 
-/// What a text may speak of without saying it: the variables that it names, and the folders that its
-/// paths start from.
+/// What a text may speak of without saying it: the variables that it names, and the folders that
+/// its paths start from.
 #[derive(Clone, Copy, Debug)]
 pub struct Surroundings<'a> {
     /// The values of variables, by their names, as `HOME` for `${HOME}`.

@@ -70,7 +70,8 @@ pub(crate) fn write_underline<W: fmt::Write>(
     len: usize,
     f: &mut fmt::Formatter<W>,
 ) -> fmt::Result
-    ensures { DisplaysOnOk W.write_str_gives f.old result (Some (spec.underline text.now start len)) f.new }
+    ensures { DisplaysOnOk W.write_str_gives f.old result
+        (Some (spec.underline text.now start len)) f.new }
 {
     write_spaces(columns_before(text, start), f)?;
     write_carets(carets(text, start, len), f)

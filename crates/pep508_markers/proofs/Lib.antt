@@ -1,10 +1,5 @@
-mod ReadingLaws
-mod OneReading
-mod StackLaws
-mod EndLaws
-mod ReaderLaws
-mod FaultsOfReader
-mod CellLaws
-mod TruthLaws
-mod ValidLaws
-mod OpenLaws
+mod TreeLaws
+mod DoneLaws
+mod SessionLaws
+mod FaultLaws
+mod JsonLaws

@@ -1,12 +1,13 @@
-//! Marker texts (PEP 508, "Environment Markers"): how a whole text is read, what it says, and its truth in an environment
-//! as the formula itself tells it.
+//! Sessions that keep markers in numbered cells, and markers of texts and as texts.
 #![tactic(auto)]
 
-mod cell;
-mod formula;
-pub mod laws;
-mod reader;
+mod formula_tree;
+pub mod json;
+mod marker_text;
+mod run;
+pub mod ser;
+mod session;
 
-pub use cell::Cell;
-pub use formula::{FlatFormula, Token};
-pub use reader::{Reading, read};
+pub use formula_tree::tree_of;
+pub use marker_text::{MarkerText, parse_behind};
+pub use session::{Command, Reason, Reply, Session};

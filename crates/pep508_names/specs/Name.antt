@@ -1,4 +1,5 @@
--- Names of packages and of extras: which texts are names (PEP 508), and the normal form of a name (PEP 503). A text is its bytes.
+-- Names of packages and of extras: which texts are names (PEP 508), and the normal form of a name
+-- (PEP 503). A text is its bytes.
 use Rattle.std.specs.Prelude.{◌≢◌, ◌==◌, ◌||◌, ◌-◌, ℕ, Bool, List, [], ◌∷◌, ◌++◌, length, map, slice_get, if◌then◌else◌, IsTrue, IsSomeAnd}
 use Rattle.std.specs.Char.{is_ascii_alphanumeric}
 use Rattle.std.specs.List.{list_all}
@@ -18,11 +19,12 @@ pub record IsRun (s : List ℕ) : Type 0 where
   pub nonempty : s ≢ []
   pub separators : IsTrue (list_all is_separator s)
 
--- t is a name, and n its normal form: a name is words joined by runs of separators, and in its normal form the words are lowercase
--- and each run is one `-`
+-- t is a name, and n its normal form: a name is words joined by runs of separators, and in its
+-- normal form the words are lowercase and each run is one `-`
 pub data NormalizesTo : List ℕ → List ℕ → Type 0 where
   word : {w : List ℕ} → IsWord w → NormalizesTo w (str_to_ascii_lowercase w)
-  joined : {w s t n : List ℕ} → IsWord w → IsRun s → NormalizesTo t n → NormalizesTo (w ++ (s ++ t)) (str_to_ascii_lowercase w ++ (45 ∷ n))
+  joined : {w s t n : List ℕ} → IsWord w → IsRun s → NormalizesTo t n
+      → NormalizesTo (w ++ (s ++ t)) (str_to_ascii_lowercase w ++ (45 ∷ n))
 
 -- the text is a name
 abbrev pub IsName : List ℕ → Type 0
@@ -32,7 +34,8 @@ IsName t = (n : List ℕ) × NormalizesTo t n
 abbrev pub is_name_character : ℕ → Bool
 is_name_character c = is_ascii_alphanumeric c || is_separator c
 
--- the same texts, as PEP 508 tells them: letters, digits and separators, with a letter or digit at each end
+-- the same texts, as PEP 508 tells them: letters, digits and separators, with a letter or digit at
+-- each end
 pub record IsIdentifier (t : List ℕ) : Type 0 where
   pub characters : IsTrue (list_all is_name_character t)
   pub first : IsSomeAnd (slice_get t 0) (λ c. IsTrue (is_ascii_alphanumeric c))

@@ -5,7 +5,7 @@ ghost use Rattle.pep508_names.specs.Fault.{IsNameRefusal};
 ghost use Rattle.pep508_names.specs.Name.{IsName, NormalizesTo};
 
 use crate::invalid_name::InvalidNameError;
-use crate::normal::{deserialized, normalized};
+use crate::normal::{next_name, normal_form};
 use refusal::Refusal;
 use serde::{
     Described, Deserialize, DeserializeOwned, Deserializer, Format, Serialize, Serializer,
@@ -16,9 +16,16 @@ use std::fmt;
 use std::hash::{Hash, Hasher};
 use std::marker::Model;
 
-/// The name of an extra, in the normal form of PEP 503: lowercase, with each run of `-`, `_` and `.` as one `-`.
+/// The name of an extra, in the normal form of PEP 503: lowercase, with each run of `-`, `_` and
+/// `.` as one `-`.
 ///
 /// Names are compared, ordered and hashed by the bytes of their normal forms.
+///
+/// ```
+/// let dev = [ExtraName::parse(alloc, "dev")?];
+/// let left = left.simplify_extras(&mut interner, &dev)?;
+/// println!(rt; "with dev: {}", left.view(&interner))?;
+/// ```
 #[derive(Debug, Drop)]
 pub struct ExtraName(String);
 
@@ -34,14 +41,16 @@ impl Model for ExtraName {
 }
 
 impl ExtraName {
-    /// Reads a name, in the memory of its text: a text that is in normal form is kept as it is, and no memory is asked for.
+    /// Reads a name, in the memory of its text: a text that is in normal form is kept as it is, and
+    /// no memory is asked for.
     ///
     /// A text that is no name (PEP 508) is refused as a fault, which holds it.
     pub fn new(text: String) -> Result<ExtraName, Refusal<InvalidNameError>>
         ensures read { IfOk result (λ name. NormalizesTo (string_bytes text) name) }
-        ensures refused { IfErr result (λ refusal. (refusal ≡ Refusal.Fault (string_bytes text)) × ¬ IsName (string_bytes text)) }
+        ensures refused { IfErr result (λ refusal.
+            (refusal ≡ Refusal.Fault (string_bytes text)) × ¬ IsName (string_bytes text)) }
     {
-        match normalized(text) {
+        match normal_form(text) {
             Ok(name) => Ok(ExtraName(name)),
             Err(error) => Err(Refusal::Fault(error)),
         }
@@ -173,7 +182,8 @@ impl<'de> Deserialize<'de> for ExtraName {
         alloc: Global,
         from: &mut Deserializer<'de, '_, F>,
     ) -> Result<ExtraName, F::Error>
-        ensures { IfOk result (λ name. (t : List ℕ) × NormalizesTo t name × Gives F.gives from.old (text t) from.new) }
+        ensures { IfOk result (λ name. (t : List ℕ)
+            × NormalizesTo t name × Gives F.gives from.old (text t) from.new) }
     {
         DeserializeOwned::deserialize_owned(alloc, from)
     }
@@ -187,8 +197,9 @@ impl DeserializeOwned for ExtraName {
         alloc: Global,
         from: &mut Deserializer<'_, '_, F>,
     ) -> Result<ExtraName, F::Error>
-        ensures { IfOk result (λ name. (t : List ℕ) × NormalizesTo t name × Gives F.gives from.old (text t) from.new) }
+        ensures { IfOk result (λ name. (t : List ℕ)
+            × NormalizesTo t name × Gives F.gives from.old (text t) from.new) }
     {
-        Ok(ExtraName(deserialized(alloc, from)?))
+        Ok(ExtraName(next_name(alloc, from)?))
     }
 }

@@ -1,9 +1,11 @@
-//! Laws of names and their normal forms. Each is a function that does nothing, whose contract is the law.
+//! Laws of names and their normal forms. Each is a function that does nothing, whose contract is
+//! the law.
 
 ghost use Rattle.std.specs.Prelude.{◌≡◌, ◌↔◌, List, ℕ};
 ghost use Rattle.pep508_names.specs.Name.{IsIdentifier, IsName, NormalizesTo};
 
-/// Names are the identifiers of PEP 508: letters, digits, `-`, `_` and `.`, with a letter or digit at each end.
+/// Names are the identifiers of PEP 508: letters, digits, `-`, `_` and `.`, with a letter or digit
+/// at each end.
 pub fn names_are_identifiers()
     ensures { (t : List ℕ) → IsName t ↔ IsIdentifier t }
 {}

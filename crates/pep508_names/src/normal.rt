@@ -69,11 +69,13 @@ fn into_normal_form(name: String) -> String
     String::from_utf8(bytes).unwrap()
 }
 
-// The normal form of a text, in the memory of the text; of a text that is no name the text itself, as the error.
-pub(crate) fn normalized(text: String) -> Result<String, InvalidNameError>
+// The normal form of a text, in the memory of the text; of a text that is no name the text itself,
+// as the error.
+pub(crate) fn normal_form(text: String) -> Result<String, InvalidNameError>
     ensures read { IfOk result (λ name. NormalizesTo (string_bytes text) (string_bytes name)) }
     ensures normal { IfOk result (λ name. NormalizesTo (string_bytes name) (string_bytes name)) }
-    ensures refused { IfErr result (λ error. (error ≡ string_bytes text) × ¬ IsName (string_bytes text)) }
+    ensures refused { IfErr result (λ error.
+        (error ≡ string_bytes text) × ¬ IsName (string_bytes text)) }
 {
     if is_name(&text) {
         Ok(into_normal_form(text))
@@ -82,15 +84,17 @@ pub(crate) fn normalized(text: String) -> Result<String, InvalidNameError>
     }
 }
 
-// The normal form of the text that comes next, which is told as the format's own error where it is no name.
-pub(crate) fn deserialized<F: Format>(
+// The normal form of the text that comes next, which is told as the format's own error where it is
+// no name.
+pub(crate) fn next_name<F: Format>(
     alloc: Global,
     from: &mut Deserializer<'_, '_, F>,
 ) -> Result<String, F::Error>
-    ensures read { IfOk result (λ name. (t : List ℕ) × NormalizesTo t (string_bytes name) × Gives F.gives from.old (text t) from.new) }
+    ensures read { IfOk result (λ name. (t : List ℕ)
+        × NormalizesTo t (string_bytes name) × Gives F.gives from.old (text t) from.new) }
     ensures normal { IfOk result (λ name. NormalizesTo (string_bytes name) (string_bytes name)) }
 {
-    match normalized(from.string(alloc)?) {
+    match normal_form(from.string(alloc)?) {
         Ok(name) => Ok(name),
         Err(error) => match error.to_string(alloc) {
             Ok(message) => Err(from.custom(&message)),

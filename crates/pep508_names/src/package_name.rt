@@ -6,7 +6,7 @@ ghost use Rattle.pep508_names.specs.Fault.{IsNameRefusal};
 ghost use Rattle.pep508_names.specs.Name.{dist_info_name, IsName, NormalizesTo};
 
 use crate::invalid_name::InvalidNameError;
-use crate::normal::{deserialized, normalized};
+use crate::normal::{next_name, normal_form};
 use refusal::Refusal;
 use serde::{
     Described, Deserialize, DeserializeOwned, Deserializer, Format, Serialize, Serializer,
@@ -18,9 +18,15 @@ use std::fmt;
 use std::hash::{Hash, Hasher};
 use std::marker::Model;
 
-/// The name of a package, in the normal form of PEP 503: lowercase, with each run of `-`, `_` and `.` as one `-`.
+/// The name of a package, in the normal form of PEP 503: lowercase, with each run of `-`, `_` and
+/// `.` as one `-`.
 ///
 /// Names are compared, ordered and hashed by the bytes of their normal forms.
+///
+/// ```
+/// let name = PackageName::parse(alloc, "Flask_Login")?;
+/// println!(rt; "{name}")?;
+/// ```
 #[derive(Debug, Drop)]
 pub struct PackageName(String);
 
@@ -36,14 +42,16 @@ impl Model for PackageName {
 }
 
 impl PackageName {
-    /// Reads a name, in the memory of its text: a text that is in normal form is kept as it is, and no memory is asked for.
+    /// Reads a name, in the memory of its text: a text that is in normal form is kept as it is, and
+    /// no memory is asked for.
     ///
     /// A text that is no name (PEP 508) is refused as a fault, which holds it.
     pub fn new(text: String) -> Result<PackageName, Refusal<InvalidNameError>>
         ensures read { IfOk result (λ name. NormalizesTo (string_bytes text) name) }
-        ensures refused { IfErr result (λ refusal. (refusal ≡ Refusal.Fault (string_bytes text)) × ¬ IsName (string_bytes text)) }
+        ensures refused { IfErr result (λ refusal.
+            (refusal ≡ Refusal.Fault (string_bytes text)) × ¬ IsName (string_bytes text)) }
     {
-        match normalized(text) {
+        match normal_form(text) {
             Ok(name) => Ok(PackageName(name)),
             Err(error) => Err(Refusal::Fault(error)),
         }
@@ -67,8 +75,8 @@ impl PackageName {
         &self.0
     }
 
-    /// The name as it stands in the file names of distributions: each `-` is `_`. It is borrowed where there is no `-`, and then no
-    /// memory is asked for.
+    /// The name as it stands in the file names of distributions: each `-` is `_`. It is borrowed
+    /// where there is no `-`, and then no memory is asked for.
     pub fn as_dist_info_name(&self, alloc: Global) -> Result<CowStr<'_>, AllocError>
         ensures text { IfOk result (λ text. cow_str_bytes text ≡ dist_info_name self.now) }
         ensures borrowed { ¬ Contains self.now 45 → IsOkAnd result IsBorrowedStr }
@@ -193,7 +201,8 @@ impl<'de> Deserialize<'de> for PackageName {
         alloc: Global,
         from: &mut Deserializer<'de, '_, F>,
     ) -> Result<PackageName, F::Error>
-        ensures { IfOk result (λ name. (t : List ℕ) × NormalizesTo t name × Gives F.gives from.old (text t) from.new) }
+        ensures { IfOk result (λ name. (t : List ℕ)
+            × NormalizesTo t name × Gives F.gives from.old (text t) from.new) }
     {
         DeserializeOwned::deserialize_owned(alloc, from)
     }
@@ -207,8 +216,9 @@ impl DeserializeOwned for PackageName {
         alloc: Global,
         from: &mut Deserializer<'_, '_, F>,
     ) -> Result<PackageName, F::Error>
-        ensures { IfOk result (λ name. (t : List ℕ) × NormalizesTo t name × Gives F.gives from.old (text t) from.new) }
+        ensures { IfOk result (λ name. (t : List ℕ)
+            × NormalizesTo t name × Gives F.gives from.old (text t) from.new) }
     {
-        Ok(PackageName(deserialized(alloc, from)?))
+        Ok(PackageName(next_name(alloc, from)?))
     }
 }

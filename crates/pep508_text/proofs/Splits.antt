@@ -1,5 +1,6 @@
 -- A text that is cut where a front of it ends, over any two functions of characters: one that tells the front, and one
--- that tells what follows it. A reader that takes characters while they pass keeps `Passed`, and has `Stopped` at its end.
+-- that tells what follows it. On the way they may change, as with a count of what was seen. A reader that takes characters
+-- while they pass keeps `PassedAs`, or `Passed` where they stay, and has `Stopped` at its end.
 use Rattle.std.proofs.Common.{◌≡◌, ℕ, true, false, ◌-◌, ◌≤◌, List, [], ◌∷◌, ◌++◌, length, take, drop, refl, sym, ap, ◌∙◌, subst, append_assoc, arith, length-append, IsUtf8}
 use Rattle.std.specs.Prelude.{encode_utf8, encode_utf8_all}
 use Rattle.std.specs.Str.{chars, IsCharBoundary}
@@ -17,6 +18,10 @@ front_is_utf8 text front rest e utf8 rest_utf8 =
     let cut = IsUtf8-take text (length front) utf8 (IsCharBoundary-at_seam text front rest e rest_utf8) in
     subst IsUtf8 (ap (take (length front)) e ∙ take_at front rest (length front) refl) cut
 
+-- the characters of a text that is cut
+chars_joined : (text front rest : List ℕ) → text ≡ front ++ rest → IsUtf8 text → IsUtf8 rest → chars text ≡ chars front ++ chars rest
+chars_joined text front rest e utf8 rest_utf8 = ap chars e ∙ chars-append front rest (front_is_utf8 text front rest e utf8 rest_utf8)
+
 -- the characters of a front and one more
 front_and_one : (text front rest after : List ℕ) (c : ℕ) → IsUtf8 text → text ≡ front ++ rest → IsUtf8 rest → rest ≡ encode_utf8 c ++ after → chars rest ≡ c ∷ chars after
     → (text ≡ (front ++ encode_utf8 c) ++ after) × (chars (front ++ encode_utf8 c) ≡ chars front ++ (c ∷ [])) × IsUtf8 after
@@ -24,34 +29,53 @@ front_and_one text front rest after c utf8 joined rest_utf8 bytes characters =
     let after_utf8 = IsUtf8-past_char rest after c rest_utf8 bytes in
     let longer = front ++ encode_utf8 c in
     let again : text ≡ longer ++ after = joined ∙ ap (λ (x : List ℕ). front ++ x) bytes ∙ sym (append_assoc front (encode_utf8 c) after) in
-    let old : chars text ≡ chars front ++ chars rest = ap chars joined ∙ chars-append front rest (front_is_utf8 text front rest joined utf8 rest_utf8) in
-    let new : chars text ≡ chars longer ++ chars after = ap chars again ∙ chars-append longer after (front_is_utf8 text longer after again utf8 after_utf8) in
+    let old : chars text ≡ chars front ++ chars rest = chars_joined text front rest joined utf8 rest_utf8 in
+    let new : chars text ≡ chars longer ++ chars after = chars_joined text longer after again utf8 after_utf8 in
     let whole : chars text ≡ (chars front ++ (c ∷ [])) ++ chars after = old ∙ ap (λ (x : List ℕ). chars front ++ x) characters ∙ sym (append_assoc (chars front) (c ∷ []) (chars after)) in
     (again, append_cancel_right (chars longer) (chars front ++ (c ∷ [])) (chars after) (sym new ∙ whole), after_utf8)
 
 module _ (front_of after_front : List ℕ → List ℕ) where
-  -- the front passes, and `rest` is still to be looked at
-  pub record Passed (text rest : List ℕ) : Type 0 where
+  -- the front passes, and `rest` is still to be looked at, by these functions
+  pub record PassedAs (now after_now : List ℕ → List ℕ) (text rest : List ℕ) : Type 0 where
     pub front : List ℕ
     pub joined : text ≡ front ++ rest
-    pub run : front_of (chars text) ≡ chars front ++ front_of (chars rest)
-    pub after : after_front (chars text) ≡ after_front (chars rest)
+    pub run : front_of (chars text) ≡ chars front ++ now (chars rest)
+    pub after : after_front (chars text) ≡ after_now (chars rest)
     pub rest_utf8 : IsUtf8 rest
+
+  -- the same, by the functions that it began with
+  abbrev pub Passed : List ℕ → List ℕ → Type 0
+  Passed = PassedAs front_of after_front
 
   pub none_passed : (text : List ℕ) → IsUtf8 text → Passed text text
   none_passed text utf8 = record { front = []; joined = refl; run = ap (λ (x : List ℕ). x ++ front_of (chars text)) (sym chars-nil); after = refl; rest_utf8 = utf8 }
 
   -- one more character passes
-  pub passed_more : (text rest after : List ℕ) (c : ℕ) → IsUtf8 text → Passed text rest → rest ≡ encode_utf8 c ++ after → chars rest ≡ c ∷ chars after
-      → front_of (c ∷ chars after) ≡ c ∷ front_of (chars after) → after_front (c ∷ chars after) ≡ after_front (chars after) → Passed text after
-  passed_more text rest after c utf8 passed bytes characters run_on after_on =
+  pub passed_more : (now after_now next after_next : List ℕ → List ℕ) (text rest after : List ℕ) (c : ℕ) → IsUtf8 text
+      → PassedAs now after_now text rest → rest ≡ encode_utf8 c ++ after → chars rest ≡ c ∷ chars after
+      → now (c ∷ chars after) ≡ c ∷ next (chars after) → after_now (c ∷ chars after) ≡ after_next (chars after) → PassedAs next after_next text after
+  passed_more now after_now next after_next text rest after c utf8 passed bytes characters run_on after_on =
       let one = front_and_one text passed.front rest after c utf8 passed.joined passed.rest_utf8 bytes characters in
       record {
         front = passed.front ++ encode_utf8 c;
         joined = one.0;
-        run = passed.run ∙ ap (λ (x : List ℕ). chars passed.front ++ front_of x) characters ∙ ap (λ (x : List ℕ). chars passed.front ++ x) run_on ∙ sym (append_assoc (chars passed.front) (c ∷ []) (front_of (chars after))) ∙ ap (λ (x : List ℕ). x ++ front_of (chars after)) (sym one.1);
-        after = passed.after ∙ ap after_front characters ∙ after_on;
+        run = passed.run ∙ ap (λ (x : List ℕ). chars passed.front ++ now x) characters ∙ ap (λ (x : List ℕ). chars passed.front ++ x) run_on ∙ sym (append_assoc (chars passed.front) (c ∷ []) (next (chars after))) ∙ ap (λ (x : List ℕ). x ++ next (chars after)) (sym one.1);
+        after = passed.after ∙ ap after_now characters ∙ after_on;
         rest_utf8 = one.2;
+      }
+
+  -- one more run passes
+  pub passed_run : (now after_now next after_next : List ℕ → List ℕ) (text rest run after : List ℕ) → IsUtf8 text
+      → PassedAs now after_now text rest → rest ≡ run ++ after → IsUtf8 after
+      → now (chars rest) ≡ chars run ++ next (chars after) → after_now (chars rest) ≡ after_next (chars after) → PassedAs next after_next text after
+  passed_run now after_now next after_next text rest run after utf8 passed joined after_utf8 run_on after_on =
+      let front_utf8 = front_is_utf8 text passed.front rest passed.joined utf8 passed.rest_utf8 in
+      record {
+        front = passed.front ++ run;
+        joined = passed.joined ∙ ap (λ (x : List ℕ). passed.front ++ x) joined ∙ sym (append_assoc passed.front run after);
+        run = passed.run ∙ ap (λ (x : List ℕ). chars passed.front ++ x) run_on ∙ sym (append_assoc (chars passed.front) (chars run) (next (chars after))) ∙ ap (λ (x : List ℕ). x ++ next (chars after)) (sym (chars-append passed.front run front_utf8));
+        after = passed.after ∙ after_on;
+        rest_utf8 = after_utf8;
       }
 
   -- what is known where the front ends
@@ -59,6 +83,7 @@ module _ (front_of after_front : List ℕ → List ℕ) where
     pub front : List ℕ
     pub joined : text ≡ front ++ rest
     pub rest_utf8 : IsUtf8 rest
+    pub run : chars front ≡ front_of (chars text)
     pub bytes : front ≡ encode_utf8_all (front_of (chars text))
     pub after : chars rest ≡ after_front (chars text)
     pub boundary : IsCharBoundary text (length text - length rest)
@@ -72,6 +97,7 @@ module _ (front_of after_front : List ℕ → List ℕ) where
         front = front;
         joined = joined;
         rest_utf8 = rest_utf8;
+        run = run;
         bytes = sym (encodes-chars front (front_is_utf8 text front rest joined utf8 rest_utf8)) ∙ ap encode_utf8_all run;
         after = after;
         boundary = subst (IsCharBoundary text) (sym len) (IsCharBoundary-at_seam text front rest joined rest_utf8);
@@ -80,20 +106,22 @@ module _ (front_of after_front : List ℕ → List ℕ) where
       }
 
   -- before what is left
-  pub stopped : (text rest : List ℕ) → IsUtf8 text → Passed text rest → front_of (chars rest) ≡ [] → after_front (chars rest) ≡ chars rest → Stopped text rest
-  stopped text rest utf8 passed none all =
+  pub stopped : (now after_now : List ℕ → List ℕ) (text rest : List ℕ) → IsUtf8 text → PassedAs now after_now text rest
+      → now (chars rest) ≡ [] → after_now (chars rest) ≡ chars rest → Stopped text rest
+  stopped now after_now text rest utf8 passed none all =
       ended text passed.front rest utf8 passed.joined passed.rest_utf8
       (sym (passed.run ∙ ap (λ (x : List ℕ). chars passed.front ++ x) none ∙ append-nil (chars passed.front)))
       (sym (passed.after ∙ all))
 
   -- behind one more character
-  pub stopped_behind : (text rest after : List ℕ) (c : ℕ) → IsUtf8 text → Passed text rest → rest ≡ encode_utf8 c ++ after → chars rest ≡ c ∷ chars after
-      → front_of (c ∷ chars after) ≡ c ∷ [] → after_front (c ∷ chars after) ≡ chars after → Stopped text after
-  stopped_behind text rest after c utf8 passed bytes characters last left =
+  pub stopped_behind : (now after_now : List ℕ → List ℕ) (text rest after : List ℕ) (c : ℕ) → IsUtf8 text → PassedAs now after_now text rest
+      → rest ≡ encode_utf8 c ++ after → chars rest ≡ c ∷ chars after
+      → now (c ∷ chars after) ≡ c ∷ [] → after_now (c ∷ chars after) ≡ chars after → Stopped text after
+  stopped_behind now after_now text rest after c utf8 passed bytes characters last left =
       let one = front_and_one text passed.front rest after c utf8 passed.joined passed.rest_utf8 bytes characters in
       ended text (passed.front ++ encode_utf8 c) after utf8 one.0 one.2
-      (one.1 ∙ sym (passed.run ∙ ap (λ (x : List ℕ). chars passed.front ++ front_of x) characters ∙ ap (λ (x : List ℕ). chars passed.front ++ x) last))
-      (sym (passed.after ∙ ap after_front characters ∙ left))
+      (one.1 ∙ sym (passed.run ∙ ap (λ (x : List ℕ). chars passed.front ++ now x) characters ∙ ap (λ (x : List ℕ). chars passed.front ++ x) last))
+      (sym (passed.after ∙ ap after_now characters ∙ left))
 
 -- what is left of a text that was cut is its end
 pub suffix_of : (front : List ℕ) {text rest : List ℕ} → text ≡ front ++ rest → IsUtf8 rest → IsSuffix text rest
@@ -106,17 +134,17 @@ module _ (p : Class) where
   pub passed_in_run : (text rest after : List ℕ) (c : ℕ) → IsUtf8 text → Passed (run_of p) (after_run p) text rest → rest ≡ encode_utf8 c ++ after → chars rest ≡ c ∷ chars after
       → holds p c ≡ true → Passed (run_of p) (after_run p) text after
   passed_in_run text rest after c utf8 passed bytes characters passes =
-      passed_more (run_of p) (after_run p) text rest after c utf8 passed bytes characters (run_of-holds p c (chars after) passes) (after_run-holds p c (chars after) passes)
+      passed_more (run_of p) (after_run p) (run_of p) (after_run p) (run_of p) (after_run p) text rest after c utf8 passed bytes characters (run_of-holds p c (chars after) passes) (after_run-holds p c (chars after) passes)
 
   -- a run ends at the end of the text
   pub stopped_at_end : (text rest : List ℕ) → IsUtf8 text → Passed (run_of p) (after_run p) text rest → chars rest ≡ [] → Stopped (run_of p) (after_run p) text rest
-  stopped_at_end text rest utf8 passed e = stopped (run_of p) (after_run p) text rest utf8 passed (ap (run_of p) e) (ap (after_run p) e ∙ sym e)
+  stopped_at_end text rest utf8 passed e = stopped (run_of p) (after_run p) (run_of p) (after_run p) text rest utf8 passed (ap (run_of p) e) (ap (after_run p) e ∙ sym e)
 
   -- or before a character that is not of the class
   pub stopped_before : (text rest : List ℕ) → IsUtf8 text → Passed (run_of p) (after_run p) text rest → (c : ℕ) (cs : List ℕ) → chars rest ≡ c ∷ cs → holds p c ≡ false
       → Stopped (run_of p) (after_run p) text rest
   stopped_before text rest utf8 passed c cs e fails =
-      stopped (run_of p) (after_run p) text rest utf8 passed
+      stopped (run_of p) (after_run p) (run_of p) (after_run p) text rest utf8 passed
       (ap (run_of p) e ∙ run_of-fails p c cs fails)
       (ap (after_run p) e ∙ after_run-fails p c cs fails ∙ sym e)
 

@@ -8,7 +8,8 @@ pub record IsSuffix (text rest : List ℕ) : Type 0 where
   pub joined : text ≡ front ++ rest
   pub utf8 : IsUtf8 rest
 
--- `piece` stands in the text from `left` bytes before its end on, and begins and ends between two characters
+-- `piece` stands in the text from `left` bytes before its end on, and begins and ends between two
+-- characters
 pub record IsPiece (text piece : List ℕ) (left : ℕ) : Type 0 where
   pub back : List ℕ
   pub begins : IsSuffix text (piece ++ back)
@@ -24,5 +25,6 @@ pub record StandsAt (text piece : List ℕ) (start : ℕ) : Type 0 where
 
 -- a span of the text: whole characters, of which there may be none, or the end with the length 1
 pub data IsSpan (text : List ℕ) (start len : ℕ) : Type 0 where
-  within : start < length text → IsCharBoundary text start → IsCharBoundary text (start + len) → IsSpan text start len
+  within : start < length text
+      → IsCharBoundary text start → IsCharBoundary text (start + len) → IsSpan text start len
   at_end : start ≡ length text → len ≡ 1 → IsSpan text start len

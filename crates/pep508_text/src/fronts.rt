@@ -7,8 +7,10 @@ use crate::classes::Class;
 
 /// The first character of the text and what follows it, or `None` for the empty text.
 pub fn first(text: &str) -> Option<(char, &str)>
-    ensures bytes { MatchOption result (text.now ≡ []) (λ x. text.now ≡ encode_utf8 x.0 ++ x.1.now) }
-    ensures characters { MatchOption result (chars text.now ≡ []) (λ x. chars text.now ≡ x.0 ∷ chars x.1.now) }
+    ensures bytes { MatchOption result (text.now ≡ [])
+        (λ x. text.now ≡ encode_utf8 x.0 ++ x.1.now) }
+    ensures characters { MatchOption result (chars text.now ≡ [])
+        (λ x. chars text.now ≡ x.0 ∷ chars x.1.now) }
     ensures shorter { IfSome result (λ x. length x.1.now < length text.now) }
     ensures suffix { IfSome result (λ x. IsSuffix text.now x.1.now) }
 {
@@ -19,8 +21,10 @@ pub fn first(text: &str) -> Option<(char, &str)>
 
 /// The last character of the text and what stands before it, or `None` for the empty text.
 pub fn last(text: &str) -> Option<(&str, char)>
-    ensures bytes { MatchOption result (text.now ≡ []) (λ x. text.now ≡ x.0.now ++ encode_utf8 x.1) }
-    ensures characters { MatchOption result (chars text.now ≡ []) (λ x. chars text.now ≡ chars x.0.now ++ x.1 ∷ []) }
+    ensures bytes { MatchOption result (text.now ≡ [])
+        (λ x. text.now ≡ x.0.now ++ encode_utf8 x.1) }
+    ensures characters { MatchOption result (chars text.now ≡ [])
+        (λ x. chars text.now ≡ chars x.0.now ++ x.1 ∷ []) }
     ensures shorter { IfSome result (λ x. length x.0.now < length text.now) }
 {
     let mut characters = text.chars();

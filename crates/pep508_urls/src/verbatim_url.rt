@@ -38,6 +38,14 @@ use url::{ParseError, ParseResult, Url};
 /// A URL with the text that it was given as, if it was.
 ///
 /// It is compared, ordered, hashed and printed as the URL alone.
+///
+/// ```
+/// let url = VerbatimUrl::parse(rt.alloc(), "https://Example.org/a b")?;
+/// println!(rt; "{url}")?;
+/// if let Some(given) = url.given() {
+///     println!(rt; "given as {given}")?;
+/// }
+/// ```
 #[derive(Debug, Drop)]
 pub struct VerbatimUrl {
     url: Url,

@@ -41,8 +41,8 @@ impl<T: Drop, E> From<AllocFailed<T>> for Refusal<E> {
     }
 }
 
-/// What a reader read, or nothing where what it was given is at fault. Any other refusal of it is want of memory, since it
-/// raises no number.
+/// What a reader read, or nothing where what it was given is at fault. Any other refusal of it is
+/// want of memory, since it raises no number.
 pub fn unless_fault<T, E: Drop>(answer: Result<T, Refusal<E>>) -> Result<Option<T>, AllocError>
     requires { IfErr answer (λ refusal. refusal ≢ SegmentAtEnd) }
     ensures read { IfOk result (λ read. IfSome read (λ value. answer ≡ Ok value)) }

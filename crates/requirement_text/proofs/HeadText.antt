@@ -1,7 +1,7 @@
 -- The text of a requirement up to its marker reads back.
-use Rattle.std.proofs.Common.{◌≡◌, ◌≢◌, ◌==◌, ◌||◌, not, ℕ, suc, ◌<◌, Bool, true, false, List, [], ◌∷◌, ◌++◌, refl, sym, ap, ◌∙◌, subst, append_assoc, append-nil, arith, lit<}
+use Rattle.std.proofs.Common.{◌≡◌, ◌==◌, ℕ, suc, true, false, List, [], ◌∷◌, ◌++◌, refl, sym, ap, ◌∙◌, subst, append_assoc, append-nil, arith, lit<}
 use Rattle.std.specs.Prelude.{encode_utf8_all, codes, if◌then◌else◌}
-use Rattle.std.specs.List.{All, list_all, AllByRecursion, flat_map}
+use Rattle.std.specs.List.{All, list_all, AllByRecursion}
 use Rattle.std.specs.Str.{IsAscii, trim}
 use Rattle.std.proofs.lemmas.Bool.{and_from, and_parts}
 use Rattle.std.proofs.lemmas.List.Folds.{list_all-append}
@@ -25,15 +25,15 @@ use Rattle.pep440_specifier.proofs.ReadBack.{byte-is_plain, reads-back, text-is_
 use Rattle.requirement_words.specs.Archive.{IsArchive}
 use Rattle.requirement_words.specs.Runs.{holds, part_of, after_part}
 use Rattle.requirement_words.specs.declared.runs.Part.TheVariants as parts
-use Rattle.requirement_words.specs.Extras.{IsNameAt, IsExtras, left_out as no_extras, some, begins_bracket}
-use Rattle.requirement_words.specs.Specifiers.{Pieces, last, more, IsSetOf, IsSpecifiers}
-use Rattle.requirement_words.specs.Head.{Asked, nothing, specifiers, url, begins_specifier, ended, marked, IsBody, left_out, bare, IsHead, written_name}
+use Rattle.requirement_words.specs.Extras.{IsExtras, left_out as no_extras, some, begins_bracket}
+use Rattle.requirement_words.specs.Specifiers.{Pieces, last, more, IsSetOf}
+use Rattle.requirement_words.specs.Head.{Asked, nothing, specifiers, url, begins_specifier, ended, marked, IsBody, left_out, bare, IsHead}
 use Rattle.requirement_words.proofs.ExtrasLaws.{not_eqb}
 use Rattle.requirement_words.proofs.NameEnds.{name_ascii}
 use Rattle.requirement_words.proofs.RunLaws.{part_fails}
-use Rattle.requirement_text.specs.Text.{later_names, extras_text, later_specifiers, joined_text, asked_text, head_text, IsTailText, no_marker, marker, IsNormal, IsPrintedAs, IsPrintable}
+use Rattle.requirement_text.specs.Text.{later_names, extras_text, later_specifiers, asked_text, head_text, IsTailText, no_marker, marker, IsNormal, IsPrintedAs, IsPrintable}
 use Rattle.requirement_text.proofs.NameText.{run_over, name_at, name_before, name_parts, name_run, names_read, normal_no_archive}
-use Rattle.requirement_text.proofs.PlainText.{IsPlain, ascii-cons, plain-first, plain-ascii, plain-trim, plain-spaced, spaced-ascii}
+use Rattle.requirement_text.proofs.PlainText.{IsPlain, ascii-cons, plain-ascii, plain-trim, plain-spaced, spaced-ascii}
 
 -- ---- pieces
 

@@ -1,9 +1,8 @@
 -- Names in a text: a normal form reads back as itself, whatever follows that is no part of a name.
-use Rattle.std.proofs.Common.{◌≡◌, ◌≢◌, ℕ, ◌<◌, ◌||◌, Bool, true, false, not, eqb, List, [], ◌∷◌, ◌++◌, map, IsTrue, IsSomeAnd, refl, sym, ap, ◌∙◌, subst, append_assoc, arith}
+use Rattle.std.proofs.Common.{◌≡◌, ℕ, true, false, not, eqb, List, [], ◌∷◌, ◌++◌, map, IsTrue, IsSomeAnd, refl, sym, ap, ◌∙◌, subst, append_assoc, arith}
 use Rattle.std.specs.Prelude.{encode_utf8_all, slice_get}
 use Rattle.std.specs.Char.{is_ascii_alphanumeric, is_whitespace, to_ascii_lowercase}
-use Rattle.std.specs.List.{list_all, AllByRecursion, flat_map}
-use Rattle.std.specs.Str.{IsAscii, str_to_ascii_lowercase}
+use Rattle.std.specs.List.{list_all, AllByRecursion}
 use Rattle.std.proofs.lemmas.Bool.{and_from, and_parts}
 use Rattle.std.proofs.lemmas.Bool.Decides.{nat_tests}
 use Rattle.std.proofs.lemmas.List.Folds.{list_all-append}
@@ -12,7 +11,7 @@ use Rattle.pep508_text.specs.Run.{after_space}
 use Rattle.pep508_text.proofs.RunLaws.{trimmed_cons}
 use Rattle.pep508_names.specs.Name.{NormalizesTo, word, joined, is_name_character}
 use Rattle.pep508_names.proofs.IdentifierLaws.{names_are_identifiers}
-use Rattle.requirement_words.specs.Archive.{HasExtension, IsArchive, archive, compressed}
+use Rattle.requirement_words.specs.Archive.{IsArchive, archive, compressed}
 use Rattle.requirement_words.specs.Runs.{holds, part_of, after_part}
 use Rattle.requirement_words.specs.declared.runs.Part.{Part}
 use Rattle.requirement_words.specs.declared.runs.Part.TheVariants.{Name}

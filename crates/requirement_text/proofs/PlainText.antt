@@ -1,5 +1,5 @@
 -- The text of a specifier is not changed where white space is dropped, with a space behind it or without.
-use Rattle.std.proofs.Common.{◌≡◌, ℕ, ◌<◌, zero, suc, Bool, true, List, [], ◌∷◌, ◌++◌, refl, sym, ap, ◌∙◌, subst, arith}
+use Rattle.std.proofs.Common.{◌≡◌, ℕ, ◌<◌, zero, suc, true, List, [], ◌∷◌, ◌++◌, refl, ap, arith}
 use Rattle.std.specs.List.{list_all}
 use Rattle.std.specs.Str.{IsAscii, drop_trailing_whitespace, skip_leading_whitespace, trim, trim_end, trim_start}
 use Rattle.std.proofs.lemmas.Bool.{and_parts}

@@ -1,6 +1,6 @@
--- The text of a requirement up to its marker. (This project's own.) A text is a list of characters; as
--- these are ASCII it is a list of bytes too.
-use Rattle.std.specs.Prelude.{◌≡◌, ℕ, ⊤, List, [], ◌∷◌, ◌++◌}
+-- The text of a requirement up to its marker. A text is a list of characters;
+-- as these are ASCII it is a list of bytes too.
+use Rattle.std.specs.Prelude.{ℕ, ⊤, List, [], ◌∷◌, ◌++◌}
 use Rattle.std.specs.List.{AllByRecursion, flat_map}
 use Rattle.pep440_specifier.specs.Set.{IsSet}
 use Rattle.pep440_specifier.specs.Specifier.{Specifier}
@@ -35,7 +35,8 @@ asked_text (url text) = 32 ∷ (64 ∷ (32 ∷ text))
 abbrev pub head_text : List ℕ → List (List ℕ) → Asked → List ℕ
 head_text name extras asked = name ++ (extras_text extras ++ asked_text asked)
 
--- what is printed behind it: nothing, or a space, `;` (59) and the marker; and that without the space
+-- what is printed behind it: nothing, or a space, `;` (59) and the marker; and that without the
+-- space
 pub data IsTailText : List ℕ → List ℕ → Type 0 where
   no_marker : IsTailText [] []
   marker : {text : List ℕ} → IsTailText (32 ∷ (59 ∷ text)) (59 ∷ text)

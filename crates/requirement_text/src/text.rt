@@ -44,7 +44,8 @@ fn write_later_specifiers<W: fmt::Write>(
     Ok(())
 }
 
-/// Writes specifiers as `>=3.8,<4`, with a comma alone between each two, and nothing where there is none.
+/// Writes specifiers as `>=3.8,<4`, with a comma alone between each two, and nothing where there is
+/// none.
 pub fn write_specifiers<W: fmt::Write>(
     set: &VersionSpecifiers,
     f: &mut fmt::Formatter<W>,

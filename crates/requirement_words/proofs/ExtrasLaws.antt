@@ -145,7 +145,7 @@ unnamed (joined {w = w} {s = s} {t = t} h r g) e = h.nonempty (empty_front w (s 
 no_name_at : {i o a n : List ℕ} → i ≡ 93 ∷ o → IsNameAt i a n → ⊥
 no_name_at {i} {o} e name = unnamed name.name (ap (λ (x : List ℕ). encode_utf8_all (part_of Name x)) e)
 
-closed_name : {i o p : List ℕ} {ns : List (List ℕ)} → after_space i ≡ 93 ∷ o → Names i p ns → ⊥
+pub closed_name : {i o p : List ℕ} {ns : List (List ℕ)} → after_space i ≡ 93 ∷ o → Names i p ns → ⊥
 closed_name e (last name bracket) = no_name_at e name
 closed_name e (more name comma h) = no_name_at e name
 

@@ -12,8 +12,8 @@ use Rattle.pep440_specifier.specs.Specifier.{Specifier}
 use Rattle.pep508_text.specs.Class.{is_comparison}
 use Rattle.pep508_text.specs.Run.{after_space, run_of}
 use Rattle.pep508_text.specs.declared.classes.Class.TheVariants.{NotSpace}
-use Rattle.pep508_text.specs.Suffix.{IsPiece, IsSuffix}
-use Rattle.pep508_text.proofs.SuffixLaws.{piece_in_front, suffix_self, suffix_then}
+use Rattle.pep508_text.specs.Suffix.{IsSuffix}
+use Rattle.pep508_text.proofs.SuffixLaws.{suffix_self, suffix_then}
 use Rattle.requirement_words.specs.Archive.{IsArchive}
 use Rattle.requirement_words.specs.Extras.{IsNameAt, IsExtras}
 use Rattle.requirement_words.specs.Fault.{Holds, IsBehindExtras, IsBroken, IsFault, IsFaultAt, begins_name, may_follow_name, run_at_name}
@@ -65,21 +65,21 @@ body_at behind e (bare b s) = absurd (false≢true (sym (ap begins_specifier e) 
 body_at behind e (enclosed {input = j} s) = absurd (firsts 40 64 j behind (40 ∷ j) (64 ∷ behind) e refl refl (lit< tt))
 
 -- behind `(`
-pub body_enclosed : {i o : List ℕ} {a : Asked} (behind : List ℕ) → i ≡ 40 ∷ behind → IsBody i o a → (set : List Specifier) × IsSpecifiers 41 (after_space behind) (41 ∷ o) set
+pub body_enclosed : {i o : List ℕ} {a : Asked} (behind : List ℕ) → i ≡ 40 ∷ behind → IsBody i o a → (set : List Specifier) × IsSpecifiers 41 (after_space behind) (41 ∷ o) set × (a ≡ specifiers set)
 body_enclosed behind e (left_out b) = absurd (differ 40 59 (sym (bare_first b 40 behind e)) (lit< tt))
 body_enclosed behind e (at_url {input = j} u) = absurd (firsts 40 64 behind j (40 ∷ behind) (64 ∷ j) (sym e) refl refl (lit< tt))
 body_enclosed behind e (bare b s) = absurd (false≢true (sym (ap begins_specifier e) ∙ b))
-body_enclosed behind e (enclosed {input = j} {output = o} {set = set} s) = (set, subst (λ (x : List ℕ). IsSpecifiers 41 (after_space x) (41 ∷ o) set) (tails 40 j behind (40 ∷ j) (40 ∷ behind) e refl refl) s)
+body_enclosed behind e (enclosed {input = j} {output = o} {set = set} s) = (set, subst (λ (x : List ℕ). IsSpecifiers 41 (after_space x) (41 ∷ o) set) (tails 40 j behind (40 ∷ j) (40 ∷ behind) e refl refl) s, refl)
 
 pub bare_begins : {i : List ℕ} → IsBare i → begins_specifier i ≡ true → ⊥
 bare_begins ended b = false≢true b
 bare_begins marked b = false≢true b
 
 -- before a specifier
-pub body_bare : {i o : List ℕ} {a : Asked} → begins_specifier i ≡ true → IsBody i o a → (set : List Specifier) × IsSpecifiers 59 i o set
+pub body_bare : {i o : List ℕ} {a : Asked} → begins_specifier i ≡ true → IsBody i o a → (set : List Specifier) × IsSpecifiers 59 i o set × (a ≡ specifiers set)
 body_bare b (left_out bare_) = absurd (bare_begins bare_ b)
 body_bare b (at_url u) = absurd (false≢true b)
-body_bare b (bare {set = set} c s) = (set, s)
+body_bare b (bare {set = set} c s) = (set, s, refl)
 body_bare b (enclosed s) = absurd (false≢true b)
 
 -- before anything else

@@ -1,13 +1,15 @@
 pub mod Characters
+pub mod ClosingLaws
 pub mod ExtrasLaws
 pub mod FaultLaws
 pub mod HeadLaws
 pub mod NameEnds
 pub mod NamelessLaws
 pub mod OpenLaws
+pub mod Readings
 pub mod RunLaws
 pub mod SpecifierLaws
+pub mod Stable
 pub mod TailLaws
 pub mod UnnamedLaws
 pub mod UrlLaws
-mod Splits

@@ -1,21 +1,18 @@
 -- The last character of a run of a name's characters.
-use Rattle.std.proofs.Common.{◌≡◌, ◌≢◌, ◌||◌, ◌+◌, ◌-◌, ◌<◌, ◌≤◌, ℕ, zero, suc, Bool, Option, true, false, cond, List, [], ◌∷◌, ◌++◌, length, refl, sym, ap, ◌∙◌, subst, arith, length-append, IsUtf8}
-use Rattle.std.specs.Prelude.{IsTrue, IsSomeAnd, slice_get, encode_utf8, encode_utf8_all, Some}
+use Rattle.std.proofs.Common.{◌≡◌, ◌||◌, ◌+◌, ◌-◌, ◌<◌, ℕ, zero, suc, Bool, Option, true, false, List, [], ◌∷◌, ◌++◌, length, refl, sym, ap, ◌∙◌, subst, arith, length-append, IsUtf8}
+use Rattle.std.specs.Prelude.{IsTrue, IsSomeAnd, slice_get, Some}
 use Rattle.std.specs.Char.{is_ascii_alphanumeric}
 use Rattle.std.specs.List.{list_all}
 use Rattle.std.specs.Str.{chars, IsAscii}
-use Rattle.std.proofs.lemmas.Bool.{and_parts, cases_Bool, false≢true}
+use Rattle.std.proofs.lemmas.Bool.{and_parts}
 use Rattle.std.proofs.lemmas.Bool.Decides.{nat_tests}
 use Rattle.std.proofs.lemmas.List.Folds.{list_all-append}
 use Rattle.std.proofs.lemmas.Option.{slice_get-get_or}
 use Rattle.std.proofs.Math.Seq.{get_or-append_seam}
 use Rattle.std.proofs.lemmas.Str.{encodes-IsAscii, encodes-chars}
-use Rattle.pep508_names.specs.Name.{IsIdentifier, IsName, is_name_character, is_separator}
+use Rattle.pep508_names.specs.Name.{IsName, is_name_character, is_separator}
 use Rattle.pep508_names.proofs.IdentifierLaws as identifiers
 use Rattle.requirement_words.proofs.FaultLaws.{last_of}
-use Rattle.requirement_words.specs.Runs.{holds, part_of, after_part}
-use Rattle.requirement_words.specs.declared.runs.Part.{Part}
-use Rattle.requirement_words.specs.declared.runs.Part.TheVariants.{Name}
 
 pub name_byte : (c : ℕ) → is_name_character c ≡ true → c < 128
 name_byte c h = grind (arith, nat_tests)

@@ -1,8 +1,7 @@
 -- Extensions of files, and what stands in place of a name.
-use Rattle.std.proofs.Common.{◌≡◌, ◌≢◌, ℕ, zero, suc, ◌+◌, ◌-◌, ◌<◌, ◌≤◌, min, Bool, true, false, List, [], ◌∷◌, ◌++◌, length, get_or, take, drop, refl, sym, ap, ◌∙◌, subst, arith, length-append, length-drop, ⊎_elim, codes, lit<, IsTrue}
-use Rattle.std.proofs.lemmas.Bool.{cases_lt, false≢true, true≢false}
+use Rattle.std.proofs.Common.{◌≡◌, ◌≢◌, ℕ, suc, ◌+◌, ◌-◌, ◌<◌, min, false, List, [], ◌∷◌, ◌++◌, length, get_or, take, drop, refl, sym, ap, ◌∙◌, subst, arith, length-append, length-drop, ⊎_elim, codes}
+use Rattle.std.proofs.lemmas.Bool.{cases_lt, false≢true}
 use Rattle.std.proofs.lemmas.List.{take-append-drop, drop_more, drop_at, take_at, get_or_at, get_or-drop, get_or-append-add, length-take}
-use Rattle.pep508_urls.specs.Extras.{SplitsExtras}
 use Rattle.pep508_urls.specs.Scheme.{SplitsScheme}
 use Rattle.pep508_urls.specs.Variables.{Expands}
 use Rattle.pep508_urls.proofs.ExtrasLaws.{extras_same}

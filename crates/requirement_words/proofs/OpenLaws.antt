@@ -1,10 +1,9 @@
 -- What is left behind an opening character, where the closing one has not stood yet.
-use Rattle.std.proofs.Common.{◌≡◌, ◌≢◌, ◌&&◌, ℕ, Bool, true, false, cond, eqb, not, List, [], ◌∷◌, ◌++◌, refl, sym, ap, ◌∙◌, subst, append_assoc, append-nil}
+use Rattle.std.proofs.Common.{◌≡◌, ◌&&◌, ℕ, Bool, true, false, cond, eqb, not, List, [], ◌∷◌, ◌++◌, refl, sym, ap, ◌∙◌, append_assoc, append-nil}
 use Rattle.std.specs.Char.{is_whitespace}
 use Rattle.std.specs.List.{list_all}
 use Rattle.std.proofs.lemmas.Bool.{and_from, and_parts, eqb-true, false≢true}
 use Rattle.std.proofs.lemmas.List.Folds.{list_all-append}
-use Rattle.pep508_text.specs.Class.{holds as is_in}
 use Rattle.pep508_text.specs.declared.classes.Class.TheVariants.{Space}
 use Rattle.pep508_text.specs.Run.{after_space, run_of}
 use Rattle.pep508_text.proofs.RunLaws.{run_of-after_run}

@@ -12,10 +12,10 @@ use Rattle.pep440_specifier.specs.Specifier.{Specifier}
 use Rattle.pep508_text.specs.Suffix.{IsSuffix}
 use Rattle.requirement_words.specs.Runs.{holds, part_of, after_part}
 use Rattle.requirement_words.specs.declared.runs.Part.TheVariants as parts
-use Rattle.requirement_words.specs.Part.{Finds, IsOpen, IsPartFaultAt, IsPieceFault}
+use Rattle.requirement_words.specs.Part.{Finds, IsOpen, IsPieceFault}
 use Rattle.requirement_words.specs.declared.fault.Fault.{Fault}
 use Rattle.requirement_words.specs.declared.fault.FaultKind.{FaultKind}
-use Rattle.requirement_words.specs.Specifiers.{piece_of, begins_comma, Pieces, last, more, IsSetOf, IsSpecifiers}
+use Rattle.requirement_words.specs.Specifiers.{piece_of, begins_comma, Pieces, last, more, IsSpecifiers}
 
 -- how the whole goes on: the specifiers so far, and then those that are left
 pub record Reading (end : ℕ) (text left : List ℕ) (list : List Specifier) : Type 0 where

@@ -1,7 +1,6 @@
 -- The end of a requirement.
-use Rattle.std.proofs.Common.{◌≡◌, ◌≢◌, ℕ, ◌-◌, ◌<◌, Bool, true, false, eqb, not, Option, List, [], ◌∷◌, ◌++◌, ◌⊎◌, length, drop, take, refl, sym, ap, ◌∙◌, subst, append_assoc, IsUtf8}
+use Rattle.std.proofs.Common.{◌≡◌, ◌≢◌, ℕ, ◌-◌, ◌<◌, true, not, Option, List, [], ◌∷◌, ◌++◌, ◌⊎◌, length, drop, take, refl, sym, ap, ◌∙◌, append_assoc, IsUtf8}
 use Rattle.std.specs.Prelude.{encode_utf8}
-use Rattle.std.specs.Char.{is_whitespace}
 use Rattle.std.specs.Str.{chars}
 use Rattle.pep508_text.specs.Run.{after_space}
 use Rattle.pep508_text.specs.Suffix.{IsSuffix}
@@ -10,7 +9,6 @@ use Rattle.requirement_words.specs.Part.{IsPartFaultAt, goes_on}
 use Rattle.requirement_words.specs.Tail.{IsTail, unmarked, marked}
 use Rattle.requirement_words.specs.declared.fault.FaultKind.{FaultKind}
 use Rattle.requirement_words.specs.declared.fault.FaultKind.TheVariants.{AmbiguousEnd, Trailing}
-use Rattle.requirement_words.proofs.Characters.{tails}
 use Rattle.requirement_words.proofs.ExtrasLaws.{not_eqb, trimmed_first}
 use Rattle.requirement_words.proofs.FaultLaws.{part_at_first, part_at_last, part_of_suffix}
 

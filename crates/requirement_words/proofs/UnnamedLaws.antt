@@ -1,5 +1,5 @@
 -- URLs of requirements with and without a name.
-use Rattle.std.proofs.Common.{◌≡◌, ◌≢◌, ℕ, ◌<◌, List, [], ◌∷◌, ◌++◌, length, drop, get_or, refl, sym, ap, ◌∙◌, subst, arith, append_assoc, length-append, lit<, IsUtf8}
+use Rattle.std.proofs.Common.{◌≡◌, ℕ, ◌<◌, List, [], ◌∷◌, ◌++◌, length, drop, get_or, refl, sym, ap, ◌∙◌, subst, arith, append_assoc, length-append, lit<, IsUtf8}
 use Rattle.std.specs.Prelude.{encode_utf8_all}
 use Rattle.std.specs.Str.{chars, IsCharBoundary}
 use Rattle.std.proofs.lemmas.List.{drop_at, get_or_at, nil_from_length}
@@ -14,7 +14,8 @@ use Rattle.requirement_words.specs.Unnamed.{IsCut, bare, with_extras, IsUnnamedH
 use Rattle.requirement_words.specs.Url.{url_of, after_url}
 use Rattle.requirement_words.specs.declared.url.UrlPlace.{UrlPlace}
 use Rattle.requirement_words.specs.declared.url.UrlPlace.TheVariants.{Alone}
-use Rattle.requirement_words.proofs.Splits.{front_is_utf8}
+use Rattle.requirement_words.proofs.ClosingLaws.{extras_end}
+use Rattle.pep508_text.proofs.Splits.{front_is_utf8}
 
 -- nothing stands before what is left
 pub nothing_before : (piece rest : List ℕ) → rest ≡ piece ++ rest → piece ≡ []
@@ -45,6 +46,7 @@ pub record IsOpening (place url rest opening : List ℕ) (extras : List ℕ) : T
   pub boundary : IsCharBoundary place (length url)
   pub opening_is : drop (length url) place ≡ opening
   pub characters : chars opening ≡ chars extras ++ chars rest
+  pub extras_utf8 : IsUtf8 extras
   pub suffix : IsSuffix place opening
 
 pub opening_of : (place given rest url extras : List ℕ) → IsUtf8 place → place ≡ given ++ rest → IsUtf8 rest → SplitsExtras given url extras → IsOpening place url rest (extras ++ rest) extras
@@ -57,24 +59,28 @@ opening_of place given rest url extras utf8 joined rest_utf8 s =
     let boundary = IsCharBoundary-before_ascii place (length url) within (subst (λ (x : ℕ). x < 128) (sym here) (lit< tt)) in
     let back : drop (length url) place ≡ extras ++ rest = ap (drop (length url)) whole ∙ drop_at url (extras ++ rest) (length url) refl in
     let opening_utf8 : IsUtf8 (extras ++ rest) = subst IsUtf8 back (IsUtf8-drop place (length url) utf8 boundary) in
+    let extras_utf8 : IsUtf8 extras = front_is_utf8 (extras ++ rest) extras rest refl opening_utf8 rest_utf8 in
     record {
       joined = whole;
       boundary = boundary;
       opening_is = back;
-      characters = chars-append extras rest (front_is_utf8 (extras ++ rest) extras rest refl opening_utf8 rest_utf8);
+      characters = chars-append extras rest extras_utf8;
+      extras_utf8 = extras_utf8;
       suffix = record { front = url; joined = whole; utf8 = opening_utf8 };
     }
 
 -- the URL is cut where its extras begin, and they are read there
-pub cut_by : (given rest url extras opening left : List ℕ) (names : List (List ℕ)) → SplitsExtras given url extras → chars opening ≡ chars extras ++ chars rest → IsExtras (chars opening) left names → IsCut given (chars rest) url names
-cut_by given rest url extras opening left names s e h = with_extras extras left s (subst (λ (x : List ℕ). IsExtras x left names) e h)
+pub cut_by : (given rest url extras opening left : List ℕ) (names : List (List ℕ)) → IsUtf8 extras → SplitsExtras given url extras → chars opening ≡ chars extras ++ chars rest → IsExtras (chars opening) left names → IsCut given (chars rest) url names
+cut_by given rest url extras opening left names utf8 s e h =
+    let here : IsExtras (chars extras ++ chars rest) left names = subst (λ (x : List ℕ). IsExtras x left names) e h in
+    with_extras extras s (subst (λ (x : List ℕ). IsExtras (chars extras ++ chars rest) x names) (extras_end utf8 s here) here)
 
 -- no extras are read there
 no_cut : (given output url extras : List ℕ) → SplitsExtras given url extras → ((left : List ℕ) (names : List (List ℕ)) → ¬ IsExtras (chars extras ++ output) left names)
     → (other : List ℕ) (names : List (List ℕ)) → ¬ IsCut given output other names
 no_cut given output url extras s h other names (bare none is no_names) = none url extras s
-no_cut given output url extras s h other names (with_extras more left t g) =
-    h left names (subst (λ (x : List ℕ). IsExtras (chars x ++ output) left names) (extras_same t s).1 g)
+no_cut given output url extras s h other names (with_extras more t g) =
+    h output names (subst (λ (x : List ℕ). IsExtras (chars x ++ output) output names) (extras_same t s).1 g)
 
 pub not_cut : (input place given rest url extras opening : List ℕ) → place ≡ after_space input → given ≡ encode_utf8_all (url_of Alone 0 place) → chars rest ≡ after_url Alone 0 place
     → SplitsExtras given url extras → chars opening ≡ chars extras ++ chars rest → ((left : List ℕ) (names : List (List ℕ)) → ¬ IsExtras (chars opening) left names)

@@ -13,7 +13,7 @@ use Rattle.requirement_words.specs.Url.{after_url, closes, is_url_stop, may_end_
 use Rattle.requirement_words.specs.declared.url.UrlPlace.{UrlPlace}
 use Rattle.requirement_words.specs.declared.url.UrlPlace.TheVariants.{BehindName, Alone}
 use Rattle.requirement_words.proofs.RunLaws.{part_holds, part_fails}
-use Rattle.requirement_words.proofs.Splits.{Passed, Stopped, none_passed, passed_more, passed_run, stopped, stopped_behind}
+use Rattle.pep508_text.proofs.Splits.{PassedAs, Stopped, none_passed, passed_more, passed_run, stopped, stopped_behind}
 
 url_step : UrlPlace → ℕ → ℕ → List ℕ → Bool → Bool → List ℕ
 url_step p n c cs stop close = cond stop [] (c ∷ cond close [] (url_of p (open_behind p c n) cs))
@@ -124,7 +124,7 @@ blank_goes p (c ∷ cs) stays = go (holds Blank c) refl (λ later. blank_goes p 
 
 -- no more brackets are open than characters have passed
 pub record Going (place : UrlPlace) (text rest : List ℕ) (n : ℕ) : Type 0 where
-  pub passed : Passed (url_of place 0) (after_url place 0) (url_of place n) (after_url place n) text rest
+  pub passed : PassedAs (url_of place 0) (after_url place 0) (url_of place n) (after_url place n) text rest
   pub room : n + length rest ≤ length text
 
 pub opens_one : (p : UrlPlace) (c n : ℕ) → open_behind p c n ≤ n + 1

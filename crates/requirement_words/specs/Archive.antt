@@ -1,5 +1,5 @@
--- Names of archives. (This project's own; PEP 508 leaves it open which files an installer takes.) Texts
--- are lists of bytes.
+-- Names of archives. (This project's own; PEP 508 leaves it open which files an installer takes.)
+-- Texts are lists of bytes.
 use Rattle.std.specs.Prelude.{◌≡◌, ◌≢◌, ◌<◌, ◌||◌, ℕ, Bool, true, List, [], ◌∷◌, ◌++◌, codes, get_or, length}
 use Rattle.std.specs.Str.{bytes_eq}
 

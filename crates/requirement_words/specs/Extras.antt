@@ -1,6 +1,6 @@
 -- The extras of a requirement (PEP 508, "Extras"). Each relation goes from what is left of the text
--- before a part to what is left behind it; texts are lists of characters, and names are bytes in their
--- normal form.
+-- before a part to what is left behind it; texts are lists of characters, and names are bytes in
+-- their normal form.
 use Rattle.std.specs.Prelude.{◌≡◌, ℕ, Bool, false, List, [], ◌∷◌, ◌==◌, encode_utf8_all}
 use Rattle.pep508_text.specs.Run.{after_space}
 use Rattle.pep508_names.specs.Name.{NormalizesTo}
@@ -12,8 +12,8 @@ pub record IsNameAt (input output n : List ℕ) : Type 0 where
   pub name : NormalizesTo (encode_utf8_all (part_of Name input)) n
   pub rest : after_part Name input ≡ output
 
--- Names with a comma between each two, up to the bracket behind the last, and any white space around
--- each. 44 is `,` and 93 is `]`.
+-- Names with a comma between each two, up to the bracket behind the last, and any white space
+-- around each. 44 is `,` and 93 is `]`.
 pub data Names : List ℕ → List ℕ → List (List ℕ) → Type 0 where
   last : {input a output n : List ℕ} → IsNameAt (after_space input) a n
       → after_space a ≡ 93 ∷ output → Names input output (n ∷ [])

@@ -1,5 +1,5 @@
 -- What is wrong with a text that begins with no requirement. Texts are lists of bytes.
-use Rattle.std.specs.Prelude.{◌≡◌, ℕ, ⊤, Bool, true, false, List, [], ◌∷◌, ◌++◌, ◌||◌, ◌==◌, ◌⊎◌, encode_utf8, encode_utf8_all}
+use Rattle.std.specs.Prelude.{◌≡◌, ℕ, ⊤, Bool, true, false, List, [], ◌∷◌, ◌++◌, ◌||◌, ◌==◌, ◌⊎◌, encode_utf8_all}
 use Rattle.std.specs.Char.{is_ascii_alphanumeric}
 use Rattle.std.specs.Str.{chars}
 use Rattle.pep508_names.specs.Name.{is_separator}
@@ -51,8 +51,8 @@ pub record IsBroken (text : List ℕ) : Type 0 where
 abbrev pub IsAtName : List ℕ → List ℕ → List ℕ → Type 0
 IsAtName text piece back = chars (piece ++ back) ≡ after_space (chars text)
 
--- What was found in the text at a fault of this kind: the piece, and `back` from its end to the end of
--- the text. `value` is what variables stand for.
+-- What was found in the text at a fault of this kind: the piece, and `back` from its end to the end
+-- of the text. `value` is what variables stand for.
 abbrev pub Holds : (List ℕ → List ℕ) → FaultKind → List ℕ → List ℕ → List ℕ → Type 0
 Holds value Blank text piece back = (after_space (chars text) ≡ []) × (text ≡ piece ++ back)
     × ((text ≡ []) ⊎ IsOne piece (λ c. ⊤))

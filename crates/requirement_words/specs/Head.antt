@@ -1,7 +1,7 @@
--- A requirement up to its marker: a name, extras, and version specifiers, a URL, or neither (PEP 508,
--- "Grammar"). Each relation goes from what is left of the text before a part to what is left behind it;
--- texts are lists of characters.
-use Rattle.std.specs.Prelude.{◌≡◌, ◌≢◌, ℕ, Bool, true, false, List, [], ◌∷◌, ◌||◌, ◌==◌, encode_utf8_all}
+-- A requirement up to its marker: a name, extras, and version specifiers, a URL, or neither (PEP
+-- 508, "Grammar"). Each relation goes from what is left of the text before a part to what is left
+-- behind it; texts are lists of characters.
+use Rattle.std.specs.Prelude.{◌≡◌, ◌≢◌, ℕ, Bool, true, false, List, [], ◌∷◌, encode_utf8_all}
 use Rattle.pep508_text.specs.Class.{is_comparison}
 use Rattle.pep508_text.specs.Run.{after_space}
 use Rattle.pep440_specifier.specs.Specifier.{Specifier}
@@ -57,8 +57,8 @@ pub data IsBody : List ℕ → List ℕ → Asked → Type 0 where
 abbrev pub written_name : List ℕ → List ℕ
 written_name input = encode_utf8_all (part_of Name (after_space input))
 
--- a body is read behind the name and the extras of a text; where nothing is asked, the name as it is
--- written is none of an archive
+-- a body is read behind the name and the extras of a text; where nothing is asked, the name as it
+-- is written is none of an archive
 pub record IsAskedIn (text behind output : List ℕ) (asked : Asked) : Type 0 where
   pub body : IsBody behind output asked
   pub no_archive : asked ≡ nothing → ¬ IsArchive (written_name text)

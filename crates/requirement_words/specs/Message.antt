@@ -7,7 +7,8 @@ use Rattle.requirement_words.specs.declared.fault.FaultKind.TheVariants.{Blank, 
 
 -- something else was expected than the piece that was found
 abbrev pub expected_text : List ℕ → List ℕ → List ℕ
-expected_text expected piece = codes "Expected " ++ (expected ++ (codes ", found `" ++ (piece ++ codes "`")))
+expected_text expected piece =
+    codes "Expected " ++ (expected ++ (codes ", found `" ++ (piece ++ codes "`")))
 
 -- a name has to end otherwise
 abbrev pub end_text : List ℕ → List ℕ → List ℕ

@@ -39,22 +39,25 @@ abbrev pub goes_on : List ℕ → Bool
 goes_on [] = false
 goes_on (c ∷ cs) = not (c == 59)
 
--- What was found at a fault of this kind: the piece, and `back` from its end to the end of the text.
--- 44 is `,`; 91 and 93 are the brackets, 40 and 41 the parentheses, 59 is `;` and 35 is `#`.
+-- What was found at a fault of this kind: the piece, and `back` from its end to the end of the
+-- text. 44 is `,`; 91 and 93 are the brackets, 40 and 41 the parentheses, 59 is `;` and 35 is `#`.
 abbrev pub Finds : FaultKind → List ℕ → List ℕ → Type 0
 Finds LeadingComma piece back = piece ≡ 44 ∷ []
 Finds NoSeparator piece back = IsOne piece (λ c. (c ≢ 44) × (c ≢ 93))
 Finds NoExtra piece back = IsOne piece (λ c. is_ascii_alphanumeric c ≡ false)
-Finds InvalidExtra piece back = IsOne piece (λ c. (is_name_character c ≡ false) × (may_follow_extra c ≡ false))
+Finds InvalidExtra piece back =
+    IsOne piece (λ c. (is_name_character c ≡ false) × (may_follow_extra c ≡ false))
 -- a separator, and no more of the name behind it
-Finds ExtraEnd piece back = IsOne piece (λ c. is_separator c ≡ true) × (after_part Name (chars back) ≡ chars back)
+Finds ExtraEnd piece back =
+    IsOne piece (λ c. is_separator c ≡ true) × (after_part Name (chars back) ≡ chars back)
 Finds UnclosedBracket piece back = (piece ≡ 91 ∷ []) × (is_absent 93 (chars back) ≡ true)
 Finds UnclosedParenthesis piece back = (piece ≡ 40 ∷ []) × (is_absent 41 (chars back) ≡ true)
 -- a whole piece, up to a comma or what ends the specifiers, that is no specifier
 Finds (Specifier error) piece back = (end : ℕ) × (piece ≡ piece_of end (chars (piece ++ back)))
     × ((s : specifiers.Specifier) → ¬ IsSpecifierText piece s) × IsToldOf error piece
 Finds NoUrl piece back = (piece ≡ []) × ((place : UrlPlace) × (url_of place 0 (chars back) ≡ []))
-Finds AmbiguousEnd piece back = IsOne piece (λ c. (c ≡ 59) ⊎ (c ≡ 35)) × (goes_on (after_space (chars back)) ≡ true)
+Finds AmbiguousEnd piece back =
+    IsOne piece (λ c. (c ≡ 59) ⊎ (c ≡ 35)) × (goes_on (after_space (chars back)) ≡ true)
 Finds Trailing piece back = IsOne piece (λ c. (c ≢ 59) × (is_whitespace c ≡ false))
 -- these are faults of a whole text alone
 Finds Blank piece back = ⊥
@@ -72,7 +75,8 @@ pub record IsOpen (closing : ℕ) (inside left : List ℕ) : Type 0 where
   pub absent : is_absent closing front ≡ true
 
 -- a fault of this kind stands in the text
-pub record IsPartFaultAt (text : List ℕ) (kind : FaultKind) (piece : List ℕ) (left : ℕ) : Type 0 where
+pub record IsPartFaultAt (text : List ℕ) (kind : FaultKind) (piece : List ℕ) (left : ℕ)
+    : Type 0 where
   pub place : IsPiece text piece left
   pub found : Finds kind piece place.back
 
@@ -93,7 +97,7 @@ pub record IsBehindName (rest behind : List ℕ) : Type 0 where
   pub behind_is : chars behind ≡ after_space (chars rest)
   pub suffix : IsSuffix rest behind
 
--- the fault is that of a piece that is no specifier, and what ends the specifiers stands nowhere before it
+-- the fault is a piece that is no specifier, and what ends the specifiers stands nowhere before it
 pub record IsPieceFault (end : ℕ) (text : List ℕ) (fault : Fault) : Type 0 where
   pub part : IsPartFault text fault
   pub piece_is : fault.piece.now ≡ piece_of end (chars (fault.piece.now ++ part.place.back))

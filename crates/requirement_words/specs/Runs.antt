@@ -10,8 +10,8 @@ use Rattle.requirement_words.specs.declared.runs.Part.TheVariants.{Name, Specifi
 abbrev pub is_line_break : ℕ → Bool
 is_line_break c = c == 13 || c == 10
 
--- the character belongs to the part: a letter or digit of ASCII, `-`, `_` or `.` to a name; 44 is the
--- comma
+-- the character belongs to the part: a letter or digit of ASCII, `-`, `_` or `.` to a name; 44 is
+-- the comma
 abbrev pub holds : Part → ℕ → Bool
 holds Name c = is_name_character c
 holds (Specifier end) c = not (c == 44 || c == end)

@@ -1,4 +1,5 @@
--- The version specifiers of a requirement (PEP 508; PEP 440, "Version specifiers"), in pieces at commas.
+-- The version specifiers of a requirement, in pieces at commas (PEP 508; PEP 440, "Version
+-- specifiers").
 use Rattle.std.specs.Prelude.{◌≡◌, ℕ, Bool, false, List, [], ◌∷◌, ◌==◌, encode_utf8_all}
 use Rattle.std.specs.List.Sorted.{IsPermutation, IsSortedBy, IsStableBy}
 use Rattle.pep440_specifier.specs.Grammar.{IsSpecifierText}

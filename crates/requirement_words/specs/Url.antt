@@ -10,7 +10,8 @@ use Rattle.requirement_words.specs.declared.url.UrlPlace.TheVariants.{BehindName
 -- open does not count, and behind a name no bracket counts.
 abbrev pub open_behind : UrlPlace → ℕ → ℕ → ℕ
 open_behind BehindName c brackets = brackets
-open_behind Alone c brackets = if c == 91 then brackets + 1 else (if c == 93 then brackets - 1 else brackets)
+open_behind Alone c brackets =
+    if c == 91 then brackets + 1 else (if c == 93 then brackets - 1 else brackets)
 
 -- what may stand behind white space that ends a URL: the end, `;` (59) or `#` (35)
 abbrev pub is_url_stop : List ℕ → Bool
@@ -21,8 +22,8 @@ is_url_stop (c ∷ cs) = c == 59 || c == 35
 abbrev pub may_end_before : ℕ → ℕ → Bool
 may_end_before brackets c = brackets == 0 && is_whitespace c
 
--- A URL ends before this: at the end, at a line break, and with no bracket open at white space behind
--- which the end, `;` or `#` stands.
+-- A URL ends before this: at the end, at a line break, and with no bracket open at white space
+-- behind which the end, `;` or `#` stands.
 abbrev pub stops : ℕ → List ℕ → Bool
 stops brackets [] = true
 stops brackets (c ∷ cs) =

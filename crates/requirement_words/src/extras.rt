@@ -53,8 +53,8 @@ fn no_extra_end<'a>(text: &'a str, run: &'a str, rest: &'a str) -> Fault<'a>
     Fault::at_last(FaultKind::ExtraEnd, run, rest)
 }
 
-// What is wrong where neither a comma nor the bracket follows a name. `behind` is what follows the name
-// without white space in front, and this character stands in front of it.
+// What is wrong where neither a comma nor the bracket follows a name. `behind` is what follows the
+// name without white space in front, and this character stands in front of it.
 fn no_separator<'a>(found: char, rest: &'a str, behind: &'a str, after: &str) -> Fault<'a>
     requires behind { IsBehindName rest.now behind.now }
     requires first { behind.now ≡ encode_utf8 found ++ after.now }

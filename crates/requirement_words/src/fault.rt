@@ -135,8 +135,8 @@ impl<'a> Fault<'a> {
         if self.left == 0 { 1 } else { self.piece.len() }
     }
 
-    /// Whether the text is a path, a URL or an archive that stands without a name, which a requirement
-    /// has to have.
+    /// Whether the text is a path, a URL or an archive that stands without a name, which a
+    /// requirement has to have.
     pub fn is_unsupported(&self) -> bool
         ensures { result ≡ is_unsupported self.now.kind }
     {

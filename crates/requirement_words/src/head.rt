@@ -56,8 +56,8 @@ fn blank(text: &str) -> Fault<'_>
     }
 }
 
-// What is wrong where this character stands in place of a name; `start` is the text without white space
-// in front.
+// What is wrong where this character stands in place of a name; `start` is the text without white
+// space in front.
 fn no_name<'a>(
     alloc: Global,
     text: &'a str,
@@ -138,8 +138,8 @@ fn read_url<'a>(text: &'a str, behind: &'a str) -> Result<(Body<'a>, &'a str), R
     }
 }
 
-// The specifiers between parentheses, with any white space before them. Where the text ends within the
-// last of them, it is the parenthesis that is told.
+// The specifiers between parentheses, with any white space before them. Where the text ends within
+// the last of them, it is the parenthesis that is told.
 fn read_enclosed<'a>(
     alloc: Global,
     text: &'a str,
@@ -289,8 +289,8 @@ fn read_name<'a>(
     }
 }
 
-/// A requirement up to its marker, and what follows it. The surroundings say what variables stand for: a
-/// path or URL that stands in place of a name is told as such.
+/// A requirement up to its marker, and what follows it. The surroundings say what variables stand
+/// for: a path or URL that stands in place of a name is told as such.
 pub fn read_head<'a>(
     alloc: Global,
     text: &'a str,

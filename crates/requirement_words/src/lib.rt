@@ -1,13 +1,15 @@
-//! The words of a requirement (PEP 508): its name, its extras, its version specifiers, where its URL
-//! ends, and what is wrong with a text in which they are not found.
+//! The words of a requirement (PEP 508): its name, its extras, its version specifiers, where its
+//! URL ends, and what is wrong with a text in which they are not found.
 //!
-//! A reader of a part goes from a text to the part at its front and to what is left behind it. A fault
-//! is known by its place from the end of the text, so that a fault of what is left is one of the whole.
+//! A reader of a part goes from a text to the part at its front and to what is left behind it. A
+//! fault is known by its place from the end of the text, so that a fault of what is left is one of
+//! the whole.
 #![tactic(auto)]
 
 mod extras;
 mod fault;
 mod head;
+pub mod laws;
 mod nameless;
 mod runs;
 mod specifiers;

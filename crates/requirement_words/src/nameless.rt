@@ -9,8 +9,8 @@ use pep508_errors::Surroundings;
 use pep508_urls::{expand_env_vars, split_extras, split_scheme};
 use std::alloc::{AllocError, Global};
 
-// What stands before the last dot of a file's name, and its extension behind it. There is none where
-// nothing stands before the dot.
+// What stands before the last dot of a file's name, and its extension behind it. There is none
+// where nothing stands before the dot.
 fn split_extension(name: &str) -> Option<(&str, &str)>
     ensures found { IfSome result (λ x. HasExtension name.now x.0.now x.1.now) }
     ensures none { IfNone result ((before extension : List ℕ)
@@ -46,8 +46,8 @@ fn is_tar(extension: &str) -> bool
     extension == "tar"
 }
 
-/// Whether this is the name of an archive: by its extension, as `whl`, `zip` or `tar`, or as `gz` where
-/// the rest has the extension `tar`.
+/// Whether this is the name of an archive: by its extension, as `whl`, `zip` or `tar`, or as `gz`
+/// where the rest has the extension `tar`.
 pub fn is_archive(name: &str) -> bool
     ensures yes { IsTrue result → IsArchive name.now }
     ensures no { IsArchive name.now → IsTrue result }

@@ -44,8 +44,8 @@ pub(crate) fn is_line_break(c: char) -> bool
     c == '\r' || c == '\n'
 }
 
-/// The longest front of the text whose characters belong to the part, and what follows it. Either may
-/// be empty.
+/// The longest front of the text whose characters belong to the part, and what follows it. Either
+/// may be empty.
 pub fn split_part(text: &str, part: Part) -> (&str, &str)
     ensures joined { text.now ≡ result.0.now ++ result.1.now }
     ensures bytes { result.0.now ≡ encode_utf8_all (part_of part (chars text.now)) }

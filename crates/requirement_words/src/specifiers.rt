@@ -14,9 +14,9 @@ use pep508_text::strip;
 use refusal::Refusal;
 use std::alloc::Global;
 
-/// The specifiers at the front of a text, with a comma between each two, and what follows them. They go
-/// up to the character that ends them, which is no comma, or to the end of the text. A piece that is no
-/// specifier is refused, an empty one too.
+/// The specifiers at the front of a text, with a comma between each two, and what follows them.
+/// They go up to the character that ends them, which is no comma, or to the end of the text. A
+/// piece that is no specifier is refused, an empty one too.
 pub fn read_specifiers<'a>(
     alloc: Global,
     text: &'a str,

@@ -10,9 +10,9 @@ ghost use Rattle.requirement_words.specs.Tail.{IsTail};
 use crate::fault::{Fault, FaultKind};
 use pep508_text::{first, skip_space};
 
-/// The text of the marker at the end of a requirement, behind `;`, or `None` where nothing but white
-/// space is left. `url` is the URL that stands in front of it as it is written, or empty where none does:
-/// one that ends with `;` or `#` has no marker behind it.
+/// The text of the marker at the end of a requirement, behind `;`, or `None` where nothing but
+/// white space is left. `url` is the URL that stands in front of it as it is written, or empty
+/// where none does: one that ends with `;` or `#` has no marker behind it.
 pub fn read_tail<'a>(url: &'a str, rest: &'a str) -> Result<Option<&'a str>, Fault<'a>>
     ensures found { IfOk result (λ marker.
         IsTail (chars rest.now) (option_map (λ text. chars text.now) marker)) }

@@ -25,8 +25,8 @@ pub struct UnnamedHead<'a> {
     pub extras: Vec<ExtraName>,
 }
 
-/// A requirement without a name up to its marker, and what follows it: a URL, with any white space before
-/// it and extras in brackets at its end.
+/// A requirement without a name up to its marker, and what follows it: a URL, with any white space
+/// before it and extras in brackets at its end.
 pub fn read_unnamed_head<'a>(
     alloc: Global,
     text: &'a str,

@@ -14,7 +14,8 @@ use pep508_text::{first, skip_space};
 pub enum UrlPlace {
     /// Behind a name and `@`.
     BehindName,
-    /// In place of a name. White space, `;` and `#` do not end such a URL while a `[` is open in it.
+    /// In place of a name. White space, `;` and `#` do not end such a URL while a `[` is open in
+    /// it.
     Alone,
 }
 
@@ -64,9 +65,9 @@ fn closes(brackets: usize, c: char, after: &str) -> bool
 
 /// The URL at the front of the text, and what follows it. Either may be empty.
 ///
-/// It ends at a line break, before white space behind which the text ends or a `;` or `#` stands, right
-/// behind a `;` or `#` that white space follows, and else at the end. Each run of white space is looked
-/// past once.
+/// It ends at a line break, before white space behind which the text ends or a `;` or `#` stands,
+/// right behind a `;` or `#` that white space follows, and else at the end. Each run of white space
+/// is looked past once.
 pub fn split_url(text: &str, place: UrlPlace) -> (&str, &str)
     ensures joined { text.now ≡ result.0.now ++ result.1.now }
     ensures bytes { result.0.now ≡ encode_utf8_all (url_of place 0 (chars text.now)) }

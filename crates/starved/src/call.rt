@@ -15,7 +15,8 @@ pub trait Call: Copy {
     /// Whether what was lent is as it was made.
     fn is_kept(lent: &Self::Lent) -> bool;
 
-    /// Makes the call, and says whether its answer is the right one. `Err` where it is refused for want of memory.
+    /// Makes the call, and says whether its answer is the right one. `Err` where it is refused for
+    /// want of memory.
     fn answer(self, alloc: Global, lent: &Self::Lent) -> Result<bool, AllocError>;
 }
 
@@ -30,7 +31,8 @@ pub fn unless_memory<T: Drop, E: Drop>(
     }
 }
 
-/// The fault of an answer. `None` where it is a value, or a number would be raised that has no larger one.
+/// The fault of an answer. `None` where it is a value, or a number would be raised that has no
+/// larger one.
 pub fn fault_of<T: Drop, E: Drop>(answer: Result<T, Refusal<E>>) -> Result<Option<E>, AllocError> {
     match answer {
         Ok(_value) => Ok(None),
@@ -40,8 +42,8 @@ pub fn fault_of<T: Drop, E: Drop>(answer: Result<T, Refusal<E>>) -> Result<Optio
     }
 }
 
-/// Makes each call of a family, and again where it was refused, and tells which one the refused growth met. After each
-/// call what it was lent must be as it was made.
+/// Makes each call of a family, and again where it was refused, and tells which one the refused
+/// growth met. After each call what it was lent must be as it was made.
 pub fn make_each<C: Call>(alloc: Global, family: &'static str, calls: &[C]) -> Met {
     let Some(lent) = C::lend(alloc) else {
         return Met::NoCall;

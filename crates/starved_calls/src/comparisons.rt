@@ -2,7 +2,7 @@
 
 use crate::sets::has_intervals;
 use marker_parts::{
-    ComparisonError, MarkerExpression, MarkerWarningKind, Pep508ErrorSource, Refusal, Version,
+    ComparisonError, MarkerExpression, MarkerWarningKind, Pep508Error, Pep508ErrorSource, Version,
     read_comparison,
 };
 use starved::{Call, fault_of, unless_memory};
@@ -78,11 +78,17 @@ impl Call for ComparisonCall {
     type Lent = Compared;
 
     fn lend(alloc: Global) -> Option<Compared> {
-        Some(Compared {
-            given: all_comparisons(alloc)?,
-            again: all_comparisons(alloc)?,
-            point: Version::new(alloc, [3, 9, 0, 0, 2].as_slice()).ok()?,
-        })
+        let given = all_comparisons(alloc);
+        let again = all_comparisons(alloc);
+        let point = Version::new(alloc, [3, 9, 0, 0, 2].as_slice()).ok();
+        match given.zip(again).zip(point) {
+            Some(((given, again), point)) => Some(Compared {
+                given,
+                again,
+                point,
+            }),
+            None => None,
+        }
     }
 
     fn is_kept(lent: &Compared) -> bool {
@@ -137,14 +143,26 @@ pub fn comparison(alloc: Global, text: &str) -> Option<MarkerExpression> {
 
 // `None` for want of memory.
 fn all_comparisons(alloc: Global) -> Option<Comparisons> {
-    Some(Comparisons {
-        version: comparison(alloc, VERSION)?,
-        version_in: comparison(alloc, VERSION_IN)?,
-        python: comparison(alloc, PYTHON)?,
-        string: comparison(alloc, STRING)?,
-        extra: comparison(alloc, EXTRA)?,
-        arbitrary: comparison(alloc, ARBITRARY)?,
-    })
+    let version = comparison(alloc, VERSION);
+    let version_in = comparison(alloc, VERSION_IN);
+    let python = comparison(alloc, PYTHON);
+    let string = comparison(alloc, STRING);
+    let extra = comparison(alloc, EXTRA);
+    let arbitrary = comparison(alloc, ARBITRARY);
+    let versions = version.zip(version_in).zip(python);
+    match versions.zip(string.zip(extra).zip(arbitrary)) {
+        Some((((version, version_in), python), ((string, extra), arbitrary))) => {
+            Some(Comparisons {
+                version,
+                version_in,
+                python,
+                string,
+                extra,
+                arbitrary,
+            })
+        }
+        None => None,
+    }
 }
 
 fn are_equal(left: &Comparisons, right: &Comparisons) -> bool {
@@ -158,24 +176,32 @@ fn are_equal(left: &Comparisons, right: &Comparisons) -> bool {
 
 // Whether the text is read as this comparison.
 fn parses(alloc: Global, text: &str, expected: &MarkerExpression) -> Result<bool, AllocError> {
-    match unless_memory(MarkerExpression::parse::<Url>(alloc, text))? {
-        Some(Some(found)) => Ok(found == *expected),
-        _ => Ok(false),
-    }
+    let found = unless_memory(MarkerExpression::parse::<Url>(alloc, text))?;
+    let is_so = match &found {
+        Some(Some(comparison)) => *comparison == *expected,
+        _ => false,
+    };
+    drop(found);
+    Ok(is_so)
 }
 
 // Whether the text is a comparison that is dropped.
 fn drops(alloc: Global, text: &str) -> Result<bool, AllocError> {
-    match unless_memory(MarkerExpression::parse::<Url>(alloc, text))? {
-        Some(found) => Ok(found.is_none()),
-        None => Ok(false),
-    }
+    let found = unless_memory(MarkerExpression::parse::<Url>(alloc, text))?;
+    let is_so = match &found {
+        Some(found) => found.is_none(),
+        None => false,
+    };
+    drop(found);
+    Ok(is_so)
 }
 
 // Whether a clone of the first comparison is equal to the second.
 fn clones(given: &MarkerExpression, again: &MarkerExpression) -> Result<bool, AllocError> {
     let clone = given.clone()?;
-    Ok(clone == *again)
+    let is_so = clone == *again;
+    drop(clone);
+    Ok(is_so)
 }
 
 fn is_message(source: &Pep508ErrorSource<Url>, expected: &str) -> bool {
@@ -185,30 +211,56 @@ fn is_message(source: &Pep508ErrorSource<Url>, expected: &str) -> bool {
     }
 }
 
-fn refused(alloc: Global) -> Result<bool, AllocError> {
-    let text = "'é' nots in os_name";
-    match fault_of(MarkerExpression::parse::<Url>(alloc, text))? {
-        Some(error) => Ok(
-            error.start == 5
-                && error.len == 4
-                && error.input.as_str() == text
-                && is_message(
-                    &error.message,
-                    "Expected a valid marker operator (such as `>=` or `not in`), found `nots`",
-                ),
-        ),
-        None => Ok(false),
-    }
+const REFUSED: &str = "'é' nots in os_name";
+
+// Whether the fault is that of the text.
+fn is_fault(error: &Pep508Error<Url>) -> bool {
+    error.start == 5
+        && error.len == 4
+        && error.input.as_str() == REFUSED
+        && is_message(
+            &error.message,
+            "Expected a valid marker operator (such as `>=` or `not in`), found `nots`",
+        )
 }
 
-// Whether the warnings of a dropped comparison are told. Where memory runs out the reporter was told of some.
+fn refused(alloc: Global) -> Result<bool, AllocError> {
+    let found = fault_of(MarkerExpression::parse::<Url>(alloc, REFUSED))?;
+    let is_so = match &found {
+        Some(error) => is_fault(error),
+        None => false,
+    };
+    drop(found);
+    Ok(is_so)
+}
+
+// Whether the comparison is dropped, where a reporter is told of warnings.
+fn drops_with(
+    alloc: Global,
+    reporter: &mut Vec<(MarkerWarningKind, String)>,
+) -> Result<bool, AllocError> {
+    let text = "python_version in 'x'";
+    let found = unless_memory(MarkerExpression::parse_reporter::<Url, _>(alloc, text, reporter))?;
+    let is_so = match &found {
+        Some(found) => found.is_none(),
+        None => false,
+    };
+    drop(found);
+    Ok(is_so)
+}
+
+// Whether the warnings of a dropped comparison are told. Where memory runs out the reporter was
+// told of some.
 fn reported(alloc: Global) -> Result<bool, AllocError> {
     let mut warnings: Vec<(MarkerWarningKind, String)> = Vec::new(alloc);
-    let text = "python_version in 'x'";
-    match MarkerExpression::parse_reporter::<Url, _>(alloc, text, &mut warnings) {
-        Ok(found) => Ok(found.is_none() && warnings.len() == 2 && are_told(&warnings)),
-        Err(Refusal::OutOfMemory) if warnings.len() < 2 && are_told(&warnings) => Err(AllocError),
-        Err(_) => Ok(false),
+    let dropped = drops_with(alloc, &mut warnings);
+    let count = warnings.len();
+    let is_told = are_told(&warnings);
+    drop(warnings);
+    match dropped {
+        Ok(is_dropped) => Ok(is_dropped && count == 2 && is_told),
+        Err(AllocError) if count < 2 && is_told => Err(AllocError),
+        Err(AllocError) => Ok(false),
     }
 }
 
@@ -220,6 +272,13 @@ fn are_told(warnings: &[(MarkerWarningKind, String)]) -> bool {
     is_same
 }
 
+// The kind of the list, and those of a comparison that is dropped.
+const ADDED: [MarkerWarningKind; 3] = [
+    MarkerWarningKind::StringStringComparison,
+    MarkerWarningKind::DeprecatedMarkerName,
+    MarkerWarningKind::LexicographicComparison,
+];
+
 // A list of kinds with one in it.
 fn earlier(alloc: Global) -> Result<Vec<MarkerWarningKind>, AllocError> {
     let mut kinds = Vec::new(alloc);
@@ -227,38 +286,68 @@ fn earlier(alloc: Global) -> Result<Vec<MarkerWarningKind>, AllocError> {
     Ok(kinds)
 }
 
-// Whether a comparison at the front is read as this one. A refusal leaves the list of kinds as it was.
-fn reads(alloc: Global, expected: &MarkerExpression) -> Result<bool, AllocError> {
-    let mut kinds = earlier(alloc)?;
-    let text = "python_full_version in '3.8 3.9.0.0.2') or";
-    let read = read_comparison(alloc, text, &mut kinds);
-    let is_kept = kinds.as_slice() == [MarkerWarningKind::StringStringComparison].as_slice();
-    match &read {
-        Ok((Some(found), rest)) => Ok(is_kept && *found == *expected && *rest == ") or"),
-        Err(ComparisonError::OutOfMemory) if is_kept => Err(AllocError),
-        _ => Ok(false),
+// What a reader of a comparison at the front answers.
+type Front<'a> = Result<(Option<MarkerExpression>, &'a str), ComparisonError<'a>>;
+
+// Whether a comparison at the front was read as this one, or none, before the rest.
+fn is_read(
+    read: Front<'_>,
+    expected: Option<&MarkerExpression>,
+    left: &str,
+) -> Result<bool, AllocError> {
+    match read {
+        Ok((found, rest)) => {
+            let is_so = found.as_ref() == expected && rest == left;
+            drop(found);
+            Ok(is_so)
+        }
+        Err(ComparisonError::OutOfMemory) => Err(AllocError),
+        Err(ComparisonError::Fault(_)) => Ok(false),
     }
 }
 
+// Whether a comparison at the front is read as this one, behind kinds that were told. A refusal
+// leaves the list of kinds as it was.
+fn reads_behind(
+    alloc: Global,
+    expected: &MarkerExpression,
+    kinds: &mut Vec<MarkerWarningKind>,
+) -> Result<bool, AllocError> {
+    let text = "python_full_version in '3.8 3.9.0.0.2') or";
+    let is_so = is_read(read_comparison(alloc, text, kinds), Some(expected), ") or");
+    if kinds.as_slice() == [MarkerWarningKind::StringStringComparison].as_slice() {
+        is_so
+    } else {
+        Ok(false)
+    }
+}
+
+fn reads(alloc: Global, expected: &MarkerExpression) -> Result<bool, AllocError> {
+    let mut kinds = earlier(alloc)?;
+    let is_so = reads_behind(alloc, expected, &mut kinds);
+    drop(kinds);
+    is_so
+}
+
 // The same for a comparison that is dropped, and adds its kinds.
+fn drops_behind(alloc: Global, kinds: &mut Vec<MarkerWarningKind>) -> Result<bool, AllocError> {
+    let text = "'x' ~= os.name or os_name == ''";
+    match is_read(
+        read_comparison(alloc, text, kinds),
+        None,
+        " or os_name == ''",
+    ) {
+        Ok(is_so) => Ok(is_so && kinds.as_slice() == ADDED.as_slice()),
+        Err(AllocError) if kinds.len() == 1 => Err(AllocError),
+        Err(AllocError) => Ok(false),
+    }
+}
+
 fn reads_dropped(alloc: Global) -> Result<bool, AllocError> {
     let mut kinds = earlier(alloc)?;
-    let read = read_comparison(alloc, "'x' ~= os.name or os_name == ''", &mut kinds);
-    match read {
-        Ok((found, rest)) => Ok(
-            found.is_none()
-                && rest == " or os_name == ''"
-                && kinds.as_slice()
-                    == [
-                        MarkerWarningKind::StringStringComparison,
-                        MarkerWarningKind::DeprecatedMarkerName,
-                        MarkerWarningKind::LexicographicComparison,
-                    ]
-                    .as_slice(),
-        ),
-        Err(ComparisonError::OutOfMemory) if kinds.len() == 1 => Err(AllocError),
-        Err(_) => Ok(false),
-    }
+    let is_so = drops_behind(alloc, &mut kinds);
+    drop(kinds);
+    is_so
 }
 
 // Whether the set of a comparison has so many intervals, and the point or not.
@@ -269,8 +358,11 @@ fn ranges(
     intervals: usize,
     has: bool,
 ) -> Result<bool, AllocError> {
-    match unless_memory(given.version_range(alloc))? {
-        Some(Some((_, set))) => Ok(has_intervals(&set, intervals) && set.contains(point) == has),
-        _ => Ok(false),
-    }
+    let found = unless_memory(given.version_range(alloc))?;
+    let is_so = match &found {
+        Some(Some((_, set))) => has_intervals(set, intervals) && set.contains(point) == has,
+        _ => false,
+    };
+    drop(found);
+    Ok(is_so)
 }

@@ -1,5 +1,6 @@
 //! Calls that answer environments, and versions with their texts.
 
+use crate::printed::prints;
 use marker_parts::{MarkerEnvironment, MarkerEnvironmentBuilder, StringVersion, Version};
 use starved::{Call, fault_of, unless_memory};
 use std::alloc::{AllocError, Global};
@@ -41,10 +42,14 @@ impl Call for EnvironmentCall {
     type Lent = Environments;
 
     fn lend(alloc: Global) -> Option<Environments> {
-        Some(Environments {
-            version: StringVersion::parse(alloc, " 1.2.3.4.5").ok()?,
-            environment: MarkerEnvironment::try_from(alloc, BUILDER).ok()?,
-        })
+        let version = StringVersion::parse(alloc, " 1.2.3.4.5").ok();
+        match version.zip(environment(alloc)) {
+            Some((version, environment)) => Some(Environments {
+                version,
+                environment,
+            }),
+            None => None,
+        }
     }
 
     fn is_kept(lent: &Environments) -> bool {
@@ -57,28 +62,35 @@ impl Call for EnvironmentCall {
             EnvironmentCall::RefusedVersion => refused_version(alloc),
             EnvironmentCall::FromVersion => from_version(alloc),
             EnvironmentCall::CloneVersion => clone_version(&lent.version),
-            EnvironmentCall::VersionText => version_text(alloc, &lent.version),
+            EnvironmentCall::VersionText => prints(alloc, &lent.version, " 1.2.3.4.5"),
             EnvironmentCall::TryFrom => try_from(alloc),
             EnvironmentCall::RefusedBuilder => refused_builder(alloc),
-            EnvironmentCall::Clone => Ok(is_as_given(&lent.environment.clone()?)),
+            EnvironmentCall::Clone => clone(&lent.environment),
         }
     }
 }
 
-/// The texts that an environment is made of.
-pub const BUILDER: MarkerEnvironmentBuilder<'static> = MarkerEnvironmentBuilder {
-    implementation_name: "cpython",
-    implementation_version: "3.12.1",
-    os_name: "posix",
-    platform_machine: "x86_64",
-    platform_python_implementation: "CPython",
-    platform_release: "6.1",
-    platform_system: "Linux",
-    platform_version: "1",
-    python_full_version: "3.12.1+local.1",
-    python_version: "3.12",
-    sys_platform: "linux",
-};
+/// The texts that an environment is made of, with this `python_version`.
+pub fn builder_of(python_version: &str) -> MarkerEnvironmentBuilder<'_> {
+    MarkerEnvironmentBuilder {
+        implementation_name: "cpython",
+        implementation_version: "3.12.1",
+        os_name: "posix",
+        platform_machine: "x86_64",
+        platform_python_implementation: "CPython",
+        platform_release: "6.1",
+        platform_system: "Linux",
+        platform_version: "1",
+        python_full_version: "3.12.1+local.1",
+        python_version,
+        sys_platform: "linux",
+    }
+}
+
+/// The environment with the `python_version` 3.12. `None` for want of memory.
+pub fn environment(alloc: Global) -> Option<MarkerEnvironment> {
+    MarkerEnvironment::try_from(alloc, builder_of("3.12")).ok()
+}
 
 fn is_version(version: &StringVersion, text: &str, release: &[u64]) -> bool {
     version.string.as_str() == text && version.version.release() == release
@@ -114,50 +126,64 @@ pub fn is_as_given(environment: &MarkerEnvironment) -> bool {
 }
 
 fn parse_version(alloc: Global) -> Result<bool, AllocError> {
-    match unless_memory(StringVersion::parse(alloc, "V1.2.3.4.5"))? {
-        Some(version) => Ok(is_version(&version, "V1.2.3.4.5", &[1, 2, 3, 4, 5])),
-        None => Ok(false),
-    }
+    let found = unless_memory(StringVersion::parse(alloc, "V1.2.3.4.5"))?;
+    let is_so = match &found {
+        Some(version) => is_version(version, "V1.2.3.4.5", &[1, 2, 3, 4, 5]),
+        None => false,
+    };
+    drop(found);
+    Ok(is_so)
 }
 
 fn refused_version(alloc: Global) -> Result<bool, AllocError> {
-    match fault_of(StringVersion::parse(alloc, "3.x"))? {
-        Some(fault) => Ok(fault.offset() == 2),
-        None => Ok(false),
-    }
+    let found = fault_of(StringVersion::parse(alloc, "3.x"))?;
+    let is_so = match &found {
+        Some(fault) => fault.offset() == 2,
+        None => false,
+    };
+    drop(found);
+    Ok(is_so)
 }
 
 // The version is taken, and not lent, so it is made first.
 fn from_version(alloc: Global) -> Result<bool, AllocError> {
     let version = Version::new(alloc, [1, 2, 3, 4, 5].as_slice())?;
     let version = StringVersion::from_version(alloc, version)?;
-    Ok(is_version(&version, "1.2.3.4.5", &[1, 2, 3, 4, 5]))
+    let is_so = is_version(&version, "1.2.3.4.5", &[1, 2, 3, 4, 5]);
+    drop(version);
+    Ok(is_so)
 }
 
 fn clone_version(version: &StringVersion) -> Result<bool, AllocError> {
     let clone = version.clone()?;
-    Ok(is_version(&clone, " 1.2.3.4.5", &[1, 2, 3, 4, 5]))
-}
-
-fn version_text(alloc: Global, version: &StringVersion) -> Result<bool, AllocError> {
-    let text = version.to_string(alloc)?;
-    Ok(text.as_str() == " 1.2.3.4.5")
+    let is_so = is_version(&clone, " 1.2.3.4.5", &[1, 2, 3, 4, 5]);
+    drop(clone);
+    Ok(is_so)
 }
 
 fn try_from(alloc: Global) -> Result<bool, AllocError> {
-    match unless_memory(MarkerEnvironment::try_from(alloc, BUILDER))? {
-        Some(environment) => Ok(is_as_given(&environment)),
-        None => Ok(false),
-    }
+    let found = unless_memory(MarkerEnvironment::try_from(alloc, builder_of("3.12")))?;
+    let is_so = match &found {
+        Some(environment) => is_as_given(environment),
+        None => false,
+    };
+    drop(found);
+    Ok(is_so)
 }
 
 fn refused_builder(alloc: Global) -> Result<bool, AllocError> {
-    let builder = MarkerEnvironmentBuilder {
-        python_version: "3.*",
-        ..BUILDER
+    let found = fault_of(MarkerEnvironment::try_from(alloc, builder_of("3.*")))?;
+    let is_so = match &found {
+        Some(fault) => fault.offset() == 2,
+        None => false,
     };
-    match fault_of(MarkerEnvironment::try_from(alloc, builder))? {
-        Some(fault) => Ok(fault.offset() == 2),
-        None => Ok(false),
-    }
+    drop(found);
+    Ok(is_so)
+}
+
+fn clone(environment: &MarkerEnvironment) -> Result<bool, AllocError> {
+    let clone = environment.clone()?;
+    let is_so = is_as_given(&clone);
+    drop(clone);
+    Ok(is_so)
 }

@@ -8,6 +8,7 @@
 mod comparisons;
 mod environments;
 mod names;
+mod printed;
 mod serialized;
 mod sets;
 mod specifiers;

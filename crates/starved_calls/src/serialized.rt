@@ -1,6 +1,6 @@
 //! Calls that read and write values as JSON.
 
-use crate::environments::{BUILDER, is_as_given};
+use crate::environments::{environment, is_as_given};
 use marker_parts::{ExtraName, MarkerEnvironment, PackageName, StringVersion, Version};
 use serde_json::Error;
 use starved::Call;
@@ -55,12 +55,18 @@ impl Call for SerializedCall {
     type Lent = Serialized;
 
     fn lend(alloc: Global) -> Option<Serialized> {
-        Some(Serialized {
-            package: PackageName::parse(alloc, "friendly-bard").ok()?,
-            extra: ExtraName::parse(alloc, "dev-tools").ok()?,
-            version: StringVersion::parse(alloc, "1.2.3.4.5+local").ok()?,
-            environment: MarkerEnvironment::try_from(alloc, BUILDER).ok()?,
-        })
+        let package = PackageName::parse(alloc, "friendly-bard").ok();
+        let extra = ExtraName::parse(alloc, "dev-tools").ok();
+        let version = StringVersion::parse(alloc, "1.2.3.4.5+local").ok();
+        match package.zip(extra).zip(version).zip(environment(alloc)) {
+            Some((((package, extra), version), environment)) => Some(Serialized {
+                package,
+                extra,
+                version,
+                environment,
+            }),
+            None => None,
+        }
     }
 
     fn is_kept(lent: &Serialized) -> bool {
@@ -146,46 +152,64 @@ fn unless_memory<T: Drop>(answer: Result<T, Error>) -> Result<Option<T>, AllocEr
 }
 
 fn read_package(alloc: Global) -> Result<bool, AllocError> {
-    match unless_memory(serde_json::from_str::<PackageName>(alloc, "\"Friendly\\u005fBard\""))? {
-        Some(name) => Ok(name.as_str() == "friendly-bard"),
-        None => Ok(false),
-    }
+    let found = unless_memory(serde_json::from_str::<PackageName>(
+        alloc,
+        "\"Friendly\\u005fBard\"",
+    ))?;
+    let is_so = match &found {
+        Some(name) => name.as_str() == "friendly-bard",
+        None => false,
+    };
+    drop(found);
+    Ok(is_so)
 }
 
 fn read_extra(alloc: Global) -> Result<bool, AllocError> {
-    match unless_memory(serde_json::from_str::<ExtraName>(alloc, "\"Dev\\u005fTools\""))? {
-        Some(name) => Ok(name.as_str() == "dev-tools"),
-        None => Ok(false),
-    }
+    let found = unless_memory(serde_json::from_str::<ExtraName>(alloc, "\"Dev\\u005fTools\""))?;
+    let is_so = match &found {
+        Some(name) => name.as_str() == "dev-tools",
+        None => false,
+    };
+    drop(found);
+    Ok(is_so)
 }
 
 fn read_version(alloc: Global) -> Result<bool, AllocError> {
-    match unless_memory(serde_json::from_str::<Version>(alloc, WRITTEN))? {
-        Some(version) => Ok(is_long(&version)),
-        None => Ok(false),
-    }
+    let found = unless_memory(serde_json::from_str::<Version>(alloc, WRITTEN))?;
+    let is_so = match &found {
+        Some(version) => is_long(version),
+        None => false,
+    };
+    drop(found);
+    Ok(is_so)
 }
 
 fn read_string_version(alloc: Global) -> Result<bool, AllocError> {
-    match unless_memory(serde_json::from_str::<StringVersion>(alloc, WRITTEN))? {
-        Some(version) => {
-            Ok(version.string.as_str() == "1.2.3.4.5+local" && is_long(&version.version))
-        }
-        None => Ok(false),
-    }
+    let found = unless_memory(serde_json::from_str::<StringVersion>(alloc, WRITTEN))?;
+    let is_so = match &found {
+        Some(version) => version.string.as_str() == "1.2.3.4.5+local" && is_long(&version.version),
+        None => false,
+    };
+    drop(found);
+    Ok(is_so)
 }
 
 fn read_environment(alloc: Global) -> Result<bool, AllocError> {
-    match unless_memory(serde_json::from_str::<MarkerEnvironment>(alloc, ENVIRONMENT))? {
-        Some(environment) => Ok(is_as_given(&environment)),
-        None => Ok(false),
-    }
+    let found = unless_memory(serde_json::from_str::<MarkerEnvironment>(alloc, ENVIRONMENT))?;
+    let is_so = match &found {
+        Some(environment) => is_as_given(environment),
+        None => false,
+    };
+    drop(found);
+    Ok(is_so)
 }
 
 // Whether a text was refused for another cause than memory.
 fn refused<T: Drop>(answer: Result<T, Error>) -> Result<bool, AllocError> {
     let read = unless_memory(answer)?;
-    Ok(read.is_none())
+    let is_so = read.is_none();
+    drop(read);
+    Ok(is_so)
 }
 
 // Whether a value was not written for want of memory. A version tells that by its error's text.
@@ -194,7 +218,9 @@ fn is_of_memory(alloc: Global, error: &Error) -> Result<bool, AllocError> {
         return Ok(true);
     }
     let text = error.to_string(alloc)?;
-    Ok(text.as_str().starts_with("Out of memory"))
+    let is_so = text.as_str().starts_with("Out of memory");
+    drop(text);
+    Ok(is_so)
 }
 
 // Whether a value was written so.

@@ -49,7 +49,8 @@ impl SetCall {
     ];
 }
 
-/// What the calls are lent: up to 3; from 2 to 12; 7 up to 3, and 8 elsewhere; 5 from 2 to 12, and 6 elsewhere.
+/// What the calls are lent: up to 3; from 2 to 12; 7 up to 3, and 8 elsewhere; 5 from 2 to 12, and
+/// 6 elsewhere.
 #[derive(Drop)]
 pub struct Sets {
     low: Ranges<u8>,
@@ -62,16 +63,11 @@ impl Call for SetCall {
     type Lent = Sets;
 
     fn lend(alloc: Global) -> Option<Sets> {
-        let low = Ranges::lower_than(alloc, 3u8).ok()?;
-        let middle = middle(alloc).ok()?;
-        let low_steps = Cuts::from_ranges(alloc, &low, 7u8, 8).ok()?;
-        let steps = Cuts::from_ranges(alloc, &middle, 5u8, 6).ok()?;
-        Some(Sets {
-            low,
-            middle,
-            low_steps,
-            steps,
-        })
+        let low = Ranges::lower_than(alloc, 3u8).ok();
+        match low.zip(middle(alloc).ok()) {
+            Some((low, middle)) => with_steps(low, middle),
+            None => None,
+        }
     }
 
     fn is_kept(lent: &Sets) -> bool {
@@ -94,13 +90,32 @@ impl Call for SetCall {
             SetCall::Intersection => intersection(alloc, lent),
             SetCall::Complement => complement(alloc, lent),
             SetCall::Clone => clone(lent),
-            SetCall::FromRanges => from_ranges(alloc, lent),
+            SetCall::FromRanges => from_ranges(lent),
             SetCall::Overlay => overlay(alloc, lent),
             SetCall::WithValues => with_values(alloc, lent),
             SetCall::Gather => gather(alloc, lent),
             SetCall::Clamped => clamped(alloc, lent),
             SetCall::CloneFunction => clone_function(lent),
         }
+    }
+}
+
+// This value in the set, and that one elsewhere.
+fn steps(set: &Ranges<u8>, inside: u8, outside: u8) -> Result<Cuts<u8, u8>, AllocError> {
+    Cuts::from_ranges(set.clone()?, inside, outside)
+}
+
+// The sets and their functions. `None` for want of memory.
+fn with_steps(low: Ranges<u8>, middle: Ranges<u8>) -> Option<Sets> {
+    let low_steps = steps(&low, 7, 8).ok();
+    match low_steps.zip(steps(&middle, 5, 6).ok()) {
+        Some((low_steps, steps)) => Some(Sets {
+            low,
+            middle,
+            low_steps,
+            steps,
+        }),
+        None => None,
     }
 }
 
@@ -141,103 +156,150 @@ fn middle(alloc: Global) -> Result<Ranges<u8>, AllocError> {
 
 fn from_range_bounds(alloc: Global) -> Result<bool, AllocError> {
     let set = middle(alloc)?;
-    Ok(is_set(&set, [false, true, true, true, true, false], 1))
+    let is_so = is_set(&set, [false, true, true, true, true, false], 1);
+    drop(set);
+    Ok(is_so)
 }
 
 fn higher_than(alloc: Global) -> Result<bool, AllocError> {
     let set = Ranges::higher_than(alloc, 4u8)?;
-    Ok(is_set(&set, [false, false, false, true, true, true], 1))
+    let is_so = is_set(&set, [false, false, false, true, true, true], 1);
+    drop(set);
+    Ok(is_so)
 }
 
 fn strictly_higher_than(alloc: Global) -> Result<bool, AllocError> {
     let set = Ranges::strictly_higher_than(alloc, 4u8)?;
-    Ok(is_set(&set, [false, false, false, false, true, true], 1))
+    let is_so = is_set(&set, [false, false, false, false, true, true], 1);
+    drop(set);
+    Ok(is_so)
 }
 
 fn lower_than(alloc: Global) -> Result<bool, AllocError> {
     let set = Ranges::lower_than(alloc, 3u8)?;
-    Ok(is_set(&set, [true, true, true, false, false, false], 1))
+    let is_so = is_set(&set, [true, true, true, false, false, false], 1);
+    drop(set);
+    Ok(is_so)
 }
 
 fn strictly_lower_than(alloc: Global) -> Result<bool, AllocError> {
     let set = Ranges::strictly_lower_than(alloc, 3u8)?;
-    Ok(is_set(&set, [true, true, false, false, false, false], 1))
+    let is_so = is_set(&set, [true, true, false, false, false, false], 1);
+    drop(set);
+    Ok(is_so)
+}
+
+/// The numbers as a list.
+pub fn listed(alloc: Global, numbers: &[u8]) -> Result<Vec<u8>, AllocError> {
+    let mut list = Vec::new(alloc);
+    for number in numbers {
+        list.push(*number)?;
+    }
+    Ok(list)
 }
 
 fn from_points(alloc: Global) -> Result<bool, AllocError> {
-    let mut points = Vec::new(alloc);
-    for point in [12u8, 2, 12, 4] {
-        points.push(point)?;
-    }
-    let set = Ranges::from_points(points)?;
-    Ok(is_set(&set, [false, true, false, true, true, false], 3))
+    let set = Ranges::from_points(listed(alloc, &[12, 2, 12, 4])?)?;
+    let is_so = is_set(&set, [false, true, false, true, true, false], 3);
+    drop(set);
+    Ok(is_so)
 }
 
 fn singleton(alloc: Global) -> Result<bool, AllocError> {
     let set = Ranges::singleton(alloc, 4u8)?;
-    Ok(set.as_singleton() == Some(&4))
+    let is_so = set.as_singleton() == Some(&4);
+    drop(set);
+    Ok(is_so)
 }
 
 fn union(alloc: Global, lent: &Sets) -> Result<bool, AllocError> {
     let set = lent.low.union(alloc, &lent.middle)?;
-    Ok(is_set(&set, [true, true, true, true, true, false], 1))
+    let is_so = is_set(&set, [true, true, true, true, true, false], 1);
+    drop(set);
+    Ok(is_so)
 }
 
 fn intersection(alloc: Global, lent: &Sets) -> Result<bool, AllocError> {
     let set = lent.low.intersection(alloc, &lent.middle)?;
-    Ok(is_set(&set, [false, true, true, false, false, false], 1))
+    let is_so = is_set(&set, [false, true, true, false, false, false], 1);
+    drop(set);
+    Ok(is_so)
 }
 
 fn complement(alloc: Global, lent: &Sets) -> Result<bool, AllocError> {
     let set = lent.middle.complement(alloc)?;
-    Ok(is_set(&set, [true, false, false, false, false, true], 2))
+    let is_so = is_set(&set, [true, false, false, false, false, true], 2);
+    drop(set);
+    Ok(is_so)
 }
 
 fn clone(lent: &Sets) -> Result<bool, AllocError> {
     let set = lent.middle.clone()?;
-    Ok(is_set(&set, [false, true, true, true, true, false], 1))
+    let is_so = is_set(&set, [false, true, true, true, true, false], 1);
+    drop(set);
+    Ok(is_so)
 }
 
-fn from_ranges(alloc: Global, lent: &Sets) -> Result<bool, AllocError> {
-    let function = Cuts::from_ranges(alloc, &lent.middle, 5u8, 6)?;
-    Ok(is_function(&function, [6, 5, 5, 5, 5, 6], 3))
+// The set is taken, and not lent, so it is made first.
+fn from_ranges(lent: &Sets) -> Result<bool, AllocError> {
+    let function = steps(&lent.middle, 5, 6)?;
+    let is_so = is_function(&function, [6, 5, 5, 5, 5, 6], 3);
+    drop(function);
+    Ok(is_so)
+}
+
+// Whether a function has the values of both functions that are lent.
+fn is_of_both(both: &Cuts<u8, (u8, u8)>) -> bool {
+    both.piece_count() == 4
+        && *both.at(&1) == (7, 6)
+        && *both.at(&3) == (7, 5)
+        && *both.at(&4) == (8, 5)
+        && *both.at(&13) == (8, 6)
 }
 
 fn overlay(alloc: Global, lent: &Sets) -> Result<bool, AllocError> {
     let (both, _) = lent.low_steps.overlay(alloc, &lent.steps)?;
-    Ok(
-        both.piece_count() == 4
-            && *both.at(&1) == (7, 6)
-            && *both.at(&3) == (7, 5)
-            && *both.at(&4) == (8, 5)
-            && *both.at(&13) == (8, 6),
-    )
+    let is_so = is_of_both(&both);
+    drop(both);
+    Ok(is_so)
+}
+
+// Whether the function with these values is 1 below 2, and 2 from there on.
+fn is_stepped(function: Cuts<u8, u8>, values: Vec<u8>) -> Result<bool, AllocError> {
+    if values.len() != function.piece_count() {
+        return Ok(false);
+    }
+    let stepped = function.with_values(values)?;
+    let is_so = is_function(&stepped, [1, 2, 2, 2, 2, 2], 2);
+    drop(stepped);
+    Ok(is_so)
 }
 
 // The function is taken, and not lent, so it is made first.
 fn with_values(alloc: Global, lent: &Sets) -> Result<bool, AllocError> {
-    let function = Cuts::from_ranges(alloc, &lent.middle, 5u8, 6)?;
-    let mut values = Vec::new(alloc);
-    for value in [1u8, 2, 2] {
-        values.push(value)?;
+    let function = steps(&lent.middle, 5, 6)?;
+    let values = listed(alloc, &[1, 2, 2])?;
+    is_stepped(function, values)
+}
+
+// Whether these are the values of the function that is lent, and their sets.
+fn are_gathered(gathered: &[(&u8, Ranges<u8>)]) -> bool {
+    match gathered {
+        [(outside, elsewhere), (inside, between)] => {
+            **outside == 6
+                && **inside == 5
+                && is_set(elsewhere, [true, false, false, false, false, true], 2)
+                && is_set(between, [false, true, true, true, true, false], 1)
+        }
+        _ => false,
     }
-    if values.len() != function.piece_count() {
-        return Ok(false);
-    }
-    Ok(is_function(&function.with_values(values)?, [1, 2, 2, 2, 2, 2], 2))
 }
 
 fn gather(alloc: Global, lent: &Sets) -> Result<bool, AllocError> {
     let gathered = lent.steps.gather(alloc)?;
-    let [(outside, elsewhere), (inside, between)] = gathered.as_slice() else {
-        return Ok(false);
-    };
-    Ok(
-        **outside == 6
-            && **inside == 5
-            && is_set(elsewhere, [true, false, false, false, false, true], 2)
-            && is_set(between, [false, true, true, true, true, false], 1),
-    )
+    let is_so = are_gathered(gathered.as_slice());
+    drop(gathered);
+    Ok(is_so)
 }
 
 // From 3 on, where the function is 5 up to 12.
@@ -248,10 +310,14 @@ fn clamped(alloc: Global, lent: &Sets) -> Result<bool, AllocError> {
         return Ok(false);
     }
     let function = lent.steps.clamped(alloc, lower, upper)?;
-    Ok(is_function(&function, [5, 5, 5, 5, 5, 6], 2))
+    let is_so = is_function(&function, [5, 5, 5, 5, 5, 6], 2);
+    drop(function);
+    Ok(is_so)
 }
 
 fn clone_function(lent: &Sets) -> Result<bool, AllocError> {
     let function = lent.steps.clone()?;
-    Ok(is_function(&function, [6, 5, 5, 5, 5, 6], 3))
+    let is_so = is_function(&function, [6, 5, 5, 5, 5, 6], 3);
+    drop(function);
+    Ok(is_so)
 }

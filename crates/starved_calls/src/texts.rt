@@ -1,6 +1,7 @@
 //! Calls that answer the texts of comparisons and faults, and URLs.
 
 use crate::comparisons::comparison;
+use crate::printed::prints;
 use marker_parts::{
     ExtraName, MarkerExpression, MarkerValue, MarkerValueExtra, Pep508Error, Pep508Url, Refusal,
     Surroundings,
@@ -44,56 +45,68 @@ impl TextCall {
     ];
 }
 
-/// What the calls are lent.
+/// Comparisons that the calls are lent.
 #[derive(Drop)]
-pub struct Texts {
+pub struct Compared {
     version: MarkerExpression,
     version_in: MarkerExpression,
     string: MarkerExpression,
     extra: MarkerExpression,
-    fault: Pep508Error<Url>,
-    value: MarkerValueExtra,
+}
+
+/// What stands beside `extra`, and a quoted text.
+#[derive(Drop)]
+pub struct Values {
+    name: MarkerValueExtra,
     arbitrary: MarkerValueExtra,
     quoted: MarkerValue,
+}
+
+/// What the calls are lent.
+#[derive(Drop)]
+pub struct Texts {
+    compared: Compared,
+    fault: Pep508Error<Url>,
+    values: Values,
 }
 
 impl Call for TextCall {
     type Lent = Texts;
 
     fn lend(alloc: Global) -> Option<Texts> {
-        Some(Texts {
-            version: comparison(alloc, VERSION)?,
-            version_in: comparison(alloc, VERSION_IN)?,
-            string: comparison(alloc, STRING)?,
-            extra: comparison(alloc, EXTRA)?,
-            fault: fault_of(MarkerExpression::parse::<Url>(alloc, "'好' ié 'a'")).ok()??,
-            value: MarkerValueExtra::Extra(ExtraName::parse(alloc, "dev-tools").ok()?),
-            arbitrary: MarkerValueExtra::Arbitrary(String::from_str(alloc, "é").ok()?),
-            quoted: MarkerValue::QuotedString(String::from_str(alloc, "it's").ok()?),
-        })
+        let compared = make_compared(alloc);
+        let fault = make_fault(alloc).ok().flatten();
+        match compared.zip(fault).zip(make_values(alloc)) {
+            Some(((compared, fault), values)) => Some(Texts {
+                compared,
+                fault,
+                values,
+            }),
+            None => None,
+        }
     }
 
     fn is_kept(lent: &Texts) -> bool {
         lent.fault.start == 6
             && lent.fault.len == 3
             && lent.fault.input.as_str() == "'好' ié 'a'"
-            && is_name(&lent.value, "dev-tools")
-            && is_arbitrary(&lent.arbitrary, "é")
-            && is_quoted(&lent.quoted, "it's")
+            && is_name(&lent.values.name, "dev-tools")
+            && is_arbitrary(&lent.values.arbitrary, "é")
+            && is_quoted(&lent.values.quoted, "it's")
     }
 
     fn answer(self, alloc: Global, lent: &Texts) -> Result<bool, AllocError> {
         match self {
-            TextCall::VersionText => prints(alloc, &lent.version, VERSION),
-            TextCall::VersionInText => prints(alloc, &lent.version_in, VERSION_IN),
-            TextCall::StringText => prints(alloc, &lent.string, STRING),
-            TextCall::ExtraText => prints(alloc, &lent.extra, EXTRA),
-            TextCall::FaultText => fault_text(alloc, &lent.fault),
-            TextCall::ValueText => value_text(alloc, &lent.value),
-            TextCall::CloneValue => Ok(is_name(&lent.value.clone()?, "dev-tools")),
-            TextCall::CloneArbitrary => Ok(is_arbitrary(&lent.arbitrary.clone()?, "é")),
-            TextCall::QuotedText => quoted_text(alloc, &lent.quoted),
-            TextCall::CloneQuoted => Ok(is_quoted(&lent.quoted.clone()?, "it's")),
+            TextCall::VersionText => prints(alloc, &lent.compared.version, VERSION),
+            TextCall::VersionInText => prints(alloc, &lent.compared.version_in, VERSION_IN),
+            TextCall::StringText => prints(alloc, &lent.compared.string, STRING),
+            TextCall::ExtraText => prints(alloc, &lent.compared.extra, EXTRA),
+            TextCall::FaultText => prints(alloc, &lent.fault, FAULT),
+            TextCall::ValueText => prints(alloc, &lent.values.name, "dev-tools"),
+            TextCall::CloneValue => clone_name(&lent.values.name),
+            TextCall::CloneArbitrary => clone_arbitrary(&lent.values.arbitrary),
+            TextCall::QuotedText => prints(alloc, &lent.values.quoted, "\"it's\""),
+            TextCall::CloneQuoted => clone_quoted(&lent.values.quoted),
             TextCall::ParseUrl => parse_url(alloc),
             TextCall::RefusedUrl => refused_url(alloc),
         }
@@ -107,6 +120,45 @@ const VERSION_IN: &str = "python_full_version not in '3.8 1.2.3.4.5'";
 const STRING: &str = "'it is' in platform_version";
 
 const EXTRA: &str = "extra == 'dev-tools'";
+
+const FAULT: &str =
+    "Expected a valid marker operator (such as `>=` or `not in`), found `ié`\n'好' ié 'a'\n     ^^";
+
+// `None` for want of memory.
+fn make_compared(alloc: Global) -> Option<Compared> {
+    let version = comparison(alloc, VERSION);
+    let version_in = comparison(alloc, VERSION_IN);
+    let string = comparison(alloc, STRING);
+    let extra = comparison(alloc, EXTRA);
+    match version.zip(version_in).zip(string).zip(extra) {
+        Some((((version, version_in), string), extra)) => Some(Compared {
+            version,
+            version_in,
+            string,
+            extra,
+        }),
+        None => None,
+    }
+}
+
+fn make_fault(alloc: Global) -> Result<Option<Pep508Error<Url>>, AllocError> {
+    fault_of(MarkerExpression::parse::<Url>(alloc, "'好' ié 'a'"))
+}
+
+// `None` for want of memory.
+fn make_values(alloc: Global) -> Option<Values> {
+    let name = ExtraName::parse(alloc, "dev-tools").ok();
+    let arbitrary = String::from_str(alloc, "é").ok();
+    let quoted = String::from_str(alloc, "it's").ok();
+    match name.zip(arbitrary).zip(quoted) {
+        Some(((name, arbitrary), quoted)) => Some(Values {
+            name: MarkerValueExtra::Extra(name),
+            arbitrary: MarkerValueExtra::Arbitrary(arbitrary),
+            quoted: MarkerValue::QuotedString(quoted),
+        }),
+        None => None,
+    }
+}
 
 fn is_name(value: &MarkerValueExtra, name: &str) -> bool {
     match value {
@@ -129,28 +181,25 @@ fn is_quoted(value: &MarkerValue, text: &str) -> bool {
     }
 }
 
-// Whether the comparison is printed as this text.
-fn prints(alloc: Global, given: &MarkerExpression, text: &str) -> Result<bool, AllocError> {
-    let printed = given.to_string(alloc)?;
-    Ok(printed.as_str() == text)
+fn clone_name(value: &MarkerValueExtra) -> Result<bool, AllocError> {
+    let clone = value.clone()?;
+    let is_so = is_name(&clone, "dev-tools");
+    drop(clone);
+    Ok(is_so)
 }
 
-fn fault_text(alloc: Global, fault: &Pep508Error<Url>) -> Result<bool, AllocError> {
-    let printed = fault.to_string(alloc)?;
-    Ok(
-        printed.as_str()
-            == "Expected a valid marker operator (such as `>=` or `not in`), found `ié`\n'好' ié 'a'\n     ^^",
-    )
+fn clone_arbitrary(value: &MarkerValueExtra) -> Result<bool, AllocError> {
+    let clone = value.clone()?;
+    let is_so = is_arbitrary(&clone, "é");
+    drop(clone);
+    Ok(is_so)
 }
 
-fn value_text(alloc: Global, value: &MarkerValueExtra) -> Result<bool, AllocError> {
-    let printed = value.to_string(alloc)?;
-    Ok(printed.as_str() == "dev-tools")
-}
-
-fn quoted_text(alloc: Global, value: &MarkerValue) -> Result<bool, AllocError> {
-    let printed = value.to_string(alloc)?;
-    Ok(printed.as_str() == "\"it's\"")
+fn clone_quoted(value: &MarkerValue) -> Result<bool, AllocError> {
+    let clone = value.clone()?;
+    let is_so = is_quoted(&clone, "it's");
+    drop(clone);
+    Ok(is_so)
 }
 
 fn url(alloc: Global, text: &str) -> Result<Url, Refusal<ParseError>> {
@@ -164,15 +213,21 @@ fn url(alloc: Global, text: &str) -> Result<Url, Refusal<ParseError>> {
 }
 
 fn parse_url(alloc: Global) -> Result<bool, AllocError> {
-    match unless_memory(url(alloc, "https://Example.org:8080/a b/../c?d#é"))? {
-        Some(url) => Ok(url.as_str() == "https://example.org:8080/c?d#%C3%A9"),
-        None => Ok(false),
-    }
+    let found = unless_memory(url(alloc, "https://Example.org:8080/a b/../c?d#é"))?;
+    let is_so = match &found {
+        Some(url) => url.as_str() == "https://example.org:8080/c?d#%C3%A9",
+        None => false,
+    };
+    drop(found);
+    Ok(is_so)
 }
 
 fn refused_url(alloc: Global) -> Result<bool, AllocError> {
-    match fault_of(url(alloc, "https://example.org:99999/"))? {
-        Some(fault) => Ok(fault == ParseError::InvalidPort),
-        None => Ok(false),
-    }
+    let found = fault_of(url(alloc, "https://example.org:99999/"))?;
+    let is_so = match &found {
+        Some(fault) => *fault == ParseError::InvalidPort,
+        None => false,
+    };
+    drop(found);
+    Ok(is_so)
 }

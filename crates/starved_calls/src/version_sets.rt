@@ -1,6 +1,6 @@
 //! Calls that answer sets of versions, and functions of versions.
 
-use crate::sets::has_intervals;
+use crate::sets::{has_intervals, listed};
 use pep440_rs::{
     Version, VersionSpecifier, laws, python_version_list_to_range,
     python_version_specifier_to_range, release_specifier_to_range, version_list_to_range,
@@ -8,6 +8,7 @@ use pep440_rs::{
 use starved::{Call, unless_memory};
 use std::alloc::{AllocError, Global};
 use std::ops::Bound;
+use std::slice::from_ref;
 use version_ranges::{Cuts, Ranges};
 
 /// A call that answers a set of versions, or a function of versions.
@@ -78,46 +79,54 @@ pub struct Asked {
     compatible: VersionSpecifier,
 }
 
-/// What the calls are lent: with `low` up to 3.9.0.0.2, `high` from there on, and 5 in `low`, 6 elsewhere.
+/// Sets that the calls are lent: up to 3.9.0.0.2, and from there on; and 5 in the first, 6
+/// elsewhere.
+#[derive(Drop)]
+pub struct Sides {
+    low: Ranges<Version>,
+    high: Ranges<Version>,
+    steps: Cuts<Version, u8>,
+}
+
+/// What the calls are lent, with the versions 3.9.0.0.2 and 3.9 for lists of one.
 #[derive(Drop)]
 pub struct VersionSets {
     points: Points,
     asked: Asked,
-    listed: [Version; 1],
-    minor: [Version; 1],
-    low: Ranges<Version>,
-    high: Ranges<Version>,
-    steps: Cuts<Version, u8>,
+    sides: Sides,
+    listed: Version,
+    minor: Version,
 }
 
 impl Call for VersionSetCall {
     type Lent = VersionSets;
 
     fn lend(alloc: Global) -> Option<VersionSets> {
-        let points = make_points(alloc).ok()?;
-        let asked = make_asked(alloc)?;
-        let low = Ranges::lower_than(alloc, long(alloc).ok()?).ok()?;
-        let high = Ranges::higher_than(alloc, long(alloc).ok()?).ok()?;
-        let steps = steps(alloc, &low).ok()?;
-        Some(VersionSets {
-            points,
-            asked,
-            listed: [long(alloc).ok()?],
-            minor: [Version::new(alloc, [3, 9].as_slice()).ok()?],
-            low,
-            high,
-            steps,
-        })
+        let points = make_points(alloc);
+        let asked = make_asked(alloc);
+        let sides = make_sides(alloc);
+        let listed = long(alloc).ok();
+        let minor = Version::new(alloc, [3, 9].as_slice()).ok();
+        match points.zip(asked).zip(sides).zip(listed).zip(minor) {
+            Some(((((points, asked), sides), listed), minor)) => Some(VersionSets {
+                points,
+                asked,
+                sides,
+                listed,
+                minor,
+            }),
+            None => None,
+        }
     }
 
     fn is_kept(lent: &VersionSets) -> bool {
         are_points(&lent.points)
             && are_asked(&lent.asked)
-            && lent.listed[0] == lent.points.second
-            && lent.minor[0] == lent.points.first
-            && is_set(&lent.points, &lent.low, [true, true, false], 1)
-            && is_set(&lent.points, &lent.high, [false, true, true], 1)
-            && is_function(&lent.points, &lent.steps, [5, 5, 6], 2)
+            && lent.listed == lent.points.second
+            && lent.minor == lent.points.first
+            && is_set(&lent.points, &lent.sides.low, [true, true, false], 1)
+            && is_set(&lent.points, &lent.sides.high, [false, true, true], 1)
+            && is_function(&lent.points, &lent.sides.steps, [5, 5, 6], 2)
     }
 
     fn answer(self, alloc: Global, lent: &VersionSets) -> Result<bool, AllocError> {
@@ -162,7 +171,7 @@ impl Call for VersionSetCall {
             VersionSetCall::Intersection => intersection(alloc, lent),
             VersionSetCall::Complement => complement(alloc, lent),
             VersionSetCall::Clone => clone(lent),
-            VersionSetCall::FromRanges => from_ranges(alloc, lent),
+            VersionSetCall::FromRanges => from_ranges(lent),
             VersionSetCall::Overlay => overlay(alloc, lent),
             VersionSetCall::WithValues => with_values(alloc, lent),
             VersionSetCall::Gather => gather(alloc, lent),
@@ -171,17 +180,26 @@ impl Call for VersionSetCall {
     }
 }
 
+const MINORS: [u64; 2] = [10, 9];
+
 // A version whose release is kept in memory of its own.
 fn long(alloc: Global) -> Result<Version, AllocError> {
     Version::new(alloc, [3, 9, 0, 0, 2].as_slice())
 }
 
-fn make_points(alloc: Global) -> Result<Points, AllocError> {
-    Ok(Points {
-        first: Version::new(alloc, [3, 9].as_slice())?,
-        second: long(alloc)?,
-        third: Version::new(alloc, [3, 10].as_slice())?,
-    })
+// `None` for want of memory.
+fn make_points(alloc: Global) -> Option<Points> {
+    let first = Version::new(alloc, [3, 9].as_slice()).ok();
+    let second = long(alloc).ok();
+    let third = Version::new(alloc, [3, 10].as_slice()).ok();
+    match first.zip(second).zip(third) {
+        Some(((first, second), third)) => Some(Points {
+            first,
+            second,
+            third,
+        }),
+        None => None,
+    }
 }
 
 fn are_points(points: &Points) -> bool {
@@ -192,17 +210,55 @@ fn are_points(points: &Points) -> bool {
 
 // `None` for want of memory.
 fn make_asked(alloc: Global) -> Option<Asked> {
-    Some(Asked {
-        not: VersionSpecifier::parse(alloc, "!=3.9.0.0.2").ok()?,
-        star: VersionSpecifier::parse(alloc, "==3.9.*").ok()?,
-        compatible: VersionSpecifier::parse(alloc, "~=3.9.0.0.1").ok()?,
-    })
+    let not = VersionSpecifier::parse(alloc, "!=3.9.0.0.2").ok();
+    let star = VersionSpecifier::parse(alloc, "==3.9.*").ok();
+    let compatible = VersionSpecifier::parse(alloc, "~=3.9.0.0.1").ok();
+    match not.zip(star).zip(compatible) {
+        Some(((not, star), compatible)) => Some(Asked {
+            not,
+            star,
+            compatible,
+        }),
+        None => None,
+    }
 }
 
 fn are_asked(asked: &Asked) -> bool {
     asked.not.version().release() == [3, 9, 0, 0, 2].as_slice()
         && asked.star.version().release() == [3, 9].as_slice()
         && asked.compatible.version().release() == [3, 9, 0, 0, 1].as_slice()
+}
+
+// Up to 3.9.0.0.2.
+fn make_low(alloc: Global) -> Result<Ranges<Version>, AllocError> {
+    Ranges::lower_than(alloc, long(alloc)?)
+}
+
+// From 3.9.0.0.2 on.
+fn make_high(alloc: Global) -> Result<Ranges<Version>, AllocError> {
+    Ranges::higher_than(alloc, long(alloc)?)
+}
+
+// 5 in the set, and 6 elsewhere.
+fn steps(set: &Ranges<Version>) -> Result<Cuts<Version, u8>, AllocError> {
+    Cuts::from_ranges(set.clone()?, 5u8, 6)
+}
+
+// The sets with the function. `None` for want of memory.
+fn with_steps(low: Ranges<Version>, high: Ranges<Version>) -> Option<Sides> {
+    match steps(&low) {
+        Ok(steps) => Some(Sides { low, high, steps }),
+        Err(AllocError) => None,
+    }
+}
+
+// `None` for want of memory.
+fn make_sides(alloc: Global) -> Option<Sides> {
+    let low = make_low(alloc).ok();
+    match low.zip(make_high(alloc).ok()) {
+        Some((low, high)) => with_steps(low, high),
+        None => None,
+    }
 }
 
 // Whether a set has these of the points, and so many intervals.
@@ -235,10 +291,13 @@ fn release(
     has: [bool; 3],
     intervals: usize,
 ) -> Result<bool, AllocError> {
-    match unless_memory(release_specifier_to_range(alloc, specifier))? {
-        Some(set) => Ok(is_set(&lent.points, &set, has, intervals)),
-        None => Ok(false),
-    }
+    let found = unless_memory(release_specifier_to_range(alloc, specifier))?;
+    let is_so = match &found {
+        Some(set) => is_set(&lent.points, set, has, intervals),
+        None => false,
+    };
+    drop(found);
+    Ok(is_so)
 }
 
 fn python(
@@ -248,124 +307,174 @@ fn python(
     has: [bool; 3],
     intervals: usize,
 ) -> Result<bool, AllocError> {
-    match unless_memory(python_version_specifier_to_range(alloc, specifier))? {
-        Some(set) => Ok(is_set(&lent.points, &set, has, intervals)),
-        None => Ok(false),
-    }
+    let found = unless_memory(python_version_specifier_to_range(alloc, specifier))?;
+    let is_so = match &found {
+        Some(set) => is_set(&lent.points, set, has, intervals),
+        None => false,
+    };
+    drop(found);
+    Ok(is_so)
 }
 
 fn list(alloc: Global, lent: &VersionSets, negated: bool) -> Result<bool, AllocError> {
-    let set = version_list_to_range(alloc, lent.listed.as_slice(), negated)?;
+    let set = version_list_to_range(alloc, from_ref(&lent.listed), negated)?;
     let intervals = if negated { 2 } else { 1 };
     Ok(is_set(&lent.points, &set, [negated, !negated, negated], intervals))
 }
 
 fn python_list(alloc: Global, lent: &VersionSets, negated: bool) -> Result<bool, AllocError> {
     let intervals = if negated { 2 } else { 1 };
-    match unless_memory(python_version_list_to_range(alloc, lent.minor.as_slice(), negated))? {
-        Some(set) => Ok(is_set(&lent.points, &set, [!negated, !negated, negated], intervals)),
-        None => Ok(false),
-    }
+    let found = unless_memory(python_version_list_to_range(alloc, from_ref(&lent.minor), negated))?;
+    let is_so = match &found {
+        Some(set) => is_set(&lent.points, set, [!negated, !negated, negated], intervals),
+        None => false,
+    };
+    drop(found);
+    Ok(is_so)
 }
 
 // The version is taken, and not lent, so it is made first.
 fn from_range_bounds(alloc: Global, lent: &VersionSets) -> Result<bool, AllocError> {
-    let bounds = (Bound::Excluded(long(alloc)?), Bound::Unbounded);
-    let set = Ranges::from_range_bounds(alloc, bounds)?;
-    Ok(is_set(&lent.points, &set, [false, false, true], 1))
+    let version = long(alloc)?;
+    let set = Ranges::from_range_bounds(alloc, (Bound::Excluded(version), Bound::Unbounded))?;
+    let is_so = is_set(&lent.points, &set, [false, false, true], 1);
+    drop(set);
+    Ok(is_so)
+}
+
+// Adds 3.10 and 3.9, whose releases are kept in memory of their own.
+fn add_versions(alloc: Global, versions: &mut Vec<Version>) -> Result<(), AllocError> {
+    for minor in MINORS.iter() {
+        let version = Version::new(alloc, [3, *minor, 0, 0, 0].as_slice())?;
+        versions.push(version)?;
+    }
+    Ok(())
 }
 
 // The versions are taken, and not lent, so they are made first.
-fn from_points(alloc: Global, lent: &VersionSets) -> Result<bool, AllocError> {
+fn made_of_points(alloc: Global) -> Result<Ranges<Version>, AllocError> {
     laws::version_clones_are_equal();
     let mut versions = Vec::new(alloc);
-    for minor in [10u64, 9] {
-        versions.push(Version::new(alloc, [3, minor, 0, 0, 0].as_slice())?)?;
-    }
-    let set = Ranges::from_points(versions)?;
-    Ok(is_set(&lent.points, &set, [true, false, true], 2))
+    add_versions(alloc, &mut versions)?;
+    Ranges::from_points(versions)
+}
+
+fn from_points(alloc: Global, lent: &VersionSets) -> Result<bool, AllocError> {
+    let set = made_of_points(alloc)?;
+    let is_so = is_set(&lent.points, &set, [true, false, true], 2);
+    drop(set);
+    Ok(is_so)
 }
 
 fn singleton(alloc: Global, lent: &VersionSets) -> Result<bool, AllocError> {
     laws::version_clones_are_equal();
     let set = Ranges::singleton(alloc, long(alloc)?)?;
-    Ok(set.as_singleton() == Some(&lent.points.second))
+    let is_so = set.as_singleton() == Some(&lent.points.second);
+    drop(set);
+    Ok(is_so)
 }
 
 fn union(alloc: Global, lent: &VersionSets) -> Result<bool, AllocError> {
     laws::version_clones_are_equal();
-    let set = lent.low.union(alloc, &lent.high)?;
-    Ok(is_set(&lent.points, &set, [true, true, true], 1))
+    let set = lent.sides.low.union(alloc, &lent.sides.high)?;
+    let is_so = is_set(&lent.points, &set, [true, true, true], 1);
+    drop(set);
+    Ok(is_so)
 }
 
 fn intersection(alloc: Global, lent: &VersionSets) -> Result<bool, AllocError> {
     laws::version_clones_are_equal();
-    let set = lent.low.intersection(alloc, &lent.high)?;
-    Ok(is_set(&lent.points, &set, [false, true, false], 1))
+    let set = lent.sides.low.intersection(alloc, &lent.sides.high)?;
+    let is_so = is_set(&lent.points, &set, [false, true, false], 1);
+    drop(set);
+    Ok(is_so)
 }
 
 fn complement(alloc: Global, lent: &VersionSets) -> Result<bool, AllocError> {
     laws::version_clones_are_equal();
-    let set = lent.high.complement(alloc)?;
-    Ok(is_set(&lent.points, &set, [true, false, false], 1))
+    let set = lent.sides.high.complement(alloc)?;
+    let is_so = is_set(&lent.points, &set, [true, false, false], 1);
+    drop(set);
+    Ok(is_so)
 }
 
 fn clone(lent: &VersionSets) -> Result<bool, AllocError> {
     laws::version_clones_are_equal();
-    let set = lent.high.clone()?;
-    Ok(is_set(&lent.points, &set, [false, true, true], 1))
+    let set = lent.sides.high.clone()?;
+    let is_so = is_set(&lent.points, &set, [false, true, true], 1);
+    drop(set);
+    Ok(is_so)
 }
 
-// 5 in the set, and 6 elsewhere.
-fn steps(alloc: Global, set: &Ranges<Version>) -> Result<Cuts<Version, u8>, AllocError> {
-    laws::version_clones_are_equal();
-    Cuts::from_ranges(alloc, set, 5u8, 6)
+fn from_ranges(lent: &VersionSets) -> Result<bool, AllocError> {
+    let function = steps(&lent.sides.high)?;
+    let is_so = is_function(&lent.points, &function, [6, 5, 5], 2);
+    drop(function);
+    Ok(is_so)
 }
 
-fn from_ranges(alloc: Global, lent: &VersionSets) -> Result<bool, AllocError> {
-    let function = steps(alloc, &lent.high)?;
-    Ok(is_function(&lent.points, &function, [6, 5, 5], 2))
+// Whether a function has each value of the lent one twice.
+fn is_twice(points: &Points, both: &Cuts<Version, (u8, u8)>) -> bool {
+    both.piece_count() == 2
+        && *both.at(&points.second) == (5, 5)
+        && *both.at(&points.third) == (6, 6)
+}
+
+// Whether the function with these values is 1 below 3.9.0.0.2, and 2 from there on.
+fn is_stepped(
+    points: &Points,
+    function: Cuts<Version, u8>,
+    values: Vec<u8>,
+) -> Result<bool, AllocError> {
+    if values.len() != function.piece_count() {
+        return Ok(false);
+    }
+    let stepped = function.with_values(values)?;
+    let is_so = is_function(points, &stepped, [1, 2, 2], 2);
+    drop(stepped);
+    Ok(is_so)
+}
+
+// Whether these are the values of the lent function, and their sets.
+fn are_gathered(points: &Points, gathered: &[(&u8, Ranges<Version>)]) -> bool {
+    match gathered {
+        [(first, low), (second, high)] => {
+            **first == 5
+                && **second == 6
+                && is_set(points, low, [true, true, false], 1)
+                && is_set(points, high, [false, false, true], 1)
+        }
+        _ => false,
+    }
 }
 
 fn overlay(alloc: Global, lent: &VersionSets) -> Result<bool, AllocError> {
     laws::version_clones_are_equal();
-    let (both, _) = lent.steps.overlay(alloc, &lent.steps)?;
-    Ok(
-        both.piece_count() == 2
-            && *both.at(&lent.points.second) == (5, 5)
-            && *both.at(&lent.points.third) == (6, 6),
-    )
+    let (both, _) = lent.sides.steps.overlay(alloc, &lent.sides.steps)?;
+    let is_so = is_twice(&lent.points, &both);
+    drop(both);
+    Ok(is_so)
 }
 
 // The function is taken, and not lent, so it is made first.
 fn with_values(alloc: Global, lent: &VersionSets) -> Result<bool, AllocError> {
-    let function = steps(alloc, &lent.high)?;
-    let mut values = Vec::new(alloc);
-    for value in [1u8, 2] {
-        values.push(value)?;
-    }
-    if values.len() != function.piece_count() {
-        return Ok(false);
-    }
-    Ok(is_function(&lent.points, &function.with_values(values)?, [1, 2, 2], 2))
+    let function = steps(&lent.sides.high)?;
+    let values = listed(alloc, &[1, 2])?;
+    is_stepped(&lent.points, function, values)
 }
 
 fn gather(alloc: Global, lent: &VersionSets) -> Result<bool, AllocError> {
     laws::version_clones_are_equal();
-    let gathered = lent.steps.gather(alloc)?;
-    let [(first, low), (second, high)] = gathered.as_slice() else {
-        return Ok(false);
-    };
-    Ok(
-        **first == 5
-            && **second == 6
-            && is_set(&lent.points, low, [true, true, false], 1)
-            && is_set(&lent.points, high, [false, false, true], 1),
-    )
+    let gathered = lent.sides.steps.gather(alloc)?;
+    let is_so = are_gathered(&lent.points, gathered.as_slice());
+    drop(gathered);
+    Ok(is_so)
 }
 
 fn clone_function(lent: &VersionSets) -> Result<bool, AllocError> {
     laws::version_clones_are_equal();
-    let function = lent.steps.clone()?;
-    Ok(is_function(&lent.points, &function, [5, 5, 6], 2))
+    let function = lent.sides.steps.clone()?;
+    let is_so = is_function(&lent.points, &function, [5, 5, 6], 2);
+    drop(function);
+    Ok(is_so)
 }

@@ -1,5 +1,6 @@
 //! Calls that answer versions, and their texts.
 
+use crate::printed::prints;
 use pep440_rs::{Version, VersionParseError, VersionPattern};
 use starved::{Call, fault_of, unless_memory};
 use std::alloc::{AllocError, Global};
@@ -42,14 +43,18 @@ pub struct Versions {
 // A version whose release and local part are kept in memory of their own.
 const LONG: &str = "1!2.3.4.5.6.0a1+ubuntu.7";
 
+const FAULT: &str = "Expected a release number, found 'x' at byte 0 of \"x\"";
+
 impl Call for VersionCall {
     type Lent = Versions;
 
     fn lend(alloc: Global) -> Option<Versions> {
-        Some(Versions {
-            version: Version::parse(alloc, LONG).ok()?,
-            fault: fault_of(Version::parse(alloc, "x")).ok()??,
-        })
+        let version = Version::parse(alloc, LONG).ok();
+        let fault = fault_of(Version::parse(alloc, "x")).ok().flatten();
+        match version.zip(fault) {
+            Some((version, fault)) => Some(Versions { version, fault }),
+            None => None,
+        }
     }
 
     fn is_kept(lent: &Versions) -> bool {
@@ -63,10 +68,10 @@ impl Call for VersionCall {
             VersionCall::Parse => parse(alloc),
             VersionCall::Refused => refused(alloc),
             VersionCall::New => new(alloc),
-            VersionCall::Clone => Ok(is_long(&lent.version.clone()?, &[2, 3, 4, 5, 6, 0])),
-            VersionCall::Trimmed => Ok(is_long(&lent.version.trimmed()?, &[2, 3, 4, 5, 6])),
-            VersionCall::Text => Ok(lent.version.to_string(alloc)?.as_str() == LONG),
-            VersionCall::FaultText => fault_text(alloc, &lent.fault),
+            VersionCall::Clone => clone(&lent.version),
+            VersionCall::Trimmed => trimmed(&lent.version),
+            VersionCall::Text => prints(alloc, &lent.version, LONG),
+            VersionCall::FaultText => prints(alloc, &lent.fault, FAULT),
             VersionCall::ParsePattern => parse_pattern(alloc),
             VersionCall::RefusedPattern => refused_pattern(alloc),
         }
@@ -82,41 +87,63 @@ fn is_long(version: &Version, release: &[u64]) -> bool {
 }
 
 fn parse(alloc: Global) -> Result<bool, AllocError> {
-    match unless_memory(Version::parse(alloc, LONG))? {
-        Some(version) => Ok(is_long(&version, &[2, 3, 4, 5, 6, 0])),
-        None => Ok(false),
-    }
+    let found = unless_memory(Version::parse(alloc, LONG))?;
+    let is_so = match &found {
+        Some(version) => is_long(version, &[2, 3, 4, 5, 6, 0]),
+        None => false,
+    };
+    drop(found);
+    Ok(is_so)
 }
 
 fn refused(alloc: Global) -> Result<bool, AllocError> {
-    match fault_of(Version::parse(alloc, "1.0+"))? {
-        Some(fault) => Ok(fault.offset() == 4 && fault.text() == "1.0+"),
-        None => Ok(false),
-    }
+    let found = fault_of(Version::parse(alloc, "1.0+"))?;
+    let is_so = match &found {
+        Some(fault) => fault.offset() == 4 && fault.text() == "1.0+",
+        None => false,
+    };
+    drop(found);
+    Ok(is_so)
 }
 
 fn new(alloc: Global) -> Result<bool, AllocError> {
     let version = Version::new(alloc, [3, 9, 1, 0, 5].as_slice())?;
-    Ok(version.release() == [3, 9, 1, 0, 5].as_slice())
+    let is_so = version.release() == [3, 9, 1, 0, 5].as_slice();
+    drop(version);
+    Ok(is_so)
 }
 
-fn fault_text(alloc: Global, fault: &VersionParseError) -> Result<bool, AllocError> {
-    let message = fault.to_string(alloc)?;
-    Ok(message.as_str() == "Expected a release number, found 'x' at byte 0 of \"x\"")
+fn clone(version: &Version) -> Result<bool, AllocError> {
+    let clone = version.clone()?;
+    let is_so = is_long(&clone, &[2, 3, 4, 5, 6, 0]);
+    drop(clone);
+    Ok(is_so)
+}
+
+fn trimmed(version: &Version) -> Result<bool, AllocError> {
+    let trimmed = version.trimmed()?;
+    let is_so = is_long(&trimmed, &[2, 3, 4, 5, 6]);
+    drop(trimmed);
+    Ok(is_so)
 }
 
 fn parse_pattern(alloc: Global) -> Result<bool, AllocError> {
-    match unless_memory(VersionPattern::parse(alloc, "1.2.3.4.5.*"))? {
-        Some(pattern) => Ok(
-            pattern.is_wildcard() && pattern.version().release() == [1, 2, 3, 4, 5].as_slice(),
-        ),
-        None => Ok(false),
-    }
+    let found = unless_memory(VersionPattern::parse(alloc, "1.2.3.4.5.*"))?;
+    let is_so = match &found {
+        Some(pattern) => pattern.is_wildcard()
+            && pattern.version().release() == [1, 2, 3, 4, 5].as_slice(),
+        None => false,
+    };
+    drop(found);
+    Ok(is_so)
 }
 
 fn refused_pattern(alloc: Global) -> Result<bool, AllocError> {
-    match fault_of(VersionPattern::parse(alloc, "3.9a1.*"))? {
-        Some(fault) => Ok(fault.offset() == 5 && fault.text() == "3.9a1.*"),
-        None => Ok(false),
-    }
+    let found = fault_of(VersionPattern::parse(alloc, "3.9a1.*"))?;
+    let is_so = match &found {
+        Some(fault) => fault.offset() == 5 && fault.text() == "3.9a1.*",
+        None => false,
+    };
+    drop(found);
+    Ok(is_so)
 }

@@ -52,9 +52,9 @@ pub const REPLIES: [&str; 23] = [
     "true",
 ];
 
-// The reply to a line where the command of one was refused for want of memory. Only what makes a cell of a text or of
-// others may be refused so; then there is no cell of it, the later cells have numbers less by one, and the earlier ones are evaluated as
-// before.
+// The reply to a line where the command of one was refused for want of memory. Only what makes a
+// cell of a text or of others may be refused so; then there is no cell of it, the later cells have
+// numbers less by one, and the earlier ones are evaluated as before.
 fn reply(index: usize, refused: Option<usize>) -> Option<&'static str> {
     match (refused, index) {
         (Some(1), 2) | (Some(1 | 4), 5) | (Some(1 | 4 | 11), 12) => Some("error cell"),
@@ -97,7 +97,7 @@ pub fn is_answer(written: &str, refused: Option<usize>) -> bool {
 }
 
 /// How many of the replies were written, and nothing else.
-pub fn begun(written: &str) -> Option<usize> {
+pub fn count_of_replies(written: &str) -> Option<usize> {
     let mut rest = written;
     for (index, reply) in REPLIES.iter().enumerate() {
         if rest.is_empty() {

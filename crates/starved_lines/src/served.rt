@@ -1,6 +1,6 @@
 //! Lines that are served, and what the refused growth met.
 
-use crate::given::{LINES, REPLIES, begun, is_answer};
+use crate::given::{LINES, REPLIES, count_of_replies, is_answer};
 use crate::pieces::Pieces;
 use line_server::{Output, ServeFault};
 use marker_lines::serve;
@@ -28,7 +28,7 @@ fn serve_all(alloc: Global, written: &mut Vec<u8>) -> Result<(), ServeFault> {
 
 // What was met where all lines were answered: the command of a line, which was answered by `error
 // memory`.
-fn answered(written: &str) -> Met {
+fn met_in(written: &str) -> Met {
     if is_answer(written, None) {
         return Met::Nothing;
     }
@@ -51,8 +51,8 @@ fn serve_once(alloc: Global) -> Met {
         return Met::WrongAnswer;
     };
     match served {
-        Ok(()) => answered(text),
-        Err(ServeFault::Memory) => match begun(text) {
+        Ok(()) => met_in(text),
+        Err(ServeFault::Memory) => match count_of_replies(text) {
             Some(count) => Met::Call("room behind replies", count),
             None => Met::WrongAnswer,
         },

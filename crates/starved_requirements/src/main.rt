@@ -1,10 +1,11 @@
-//! Reads words of requirements where one growth is refused, and says which call it met.
+//! Reads requirements and their words where one growth is refused, and says which call it met.
 //!
 //! A line of the input is a number and a family of calls. So many times memory is asked for before
 //! the calls of the family begin. Where the same growth of the whole run is refused each time,
 //! another growth of the calls is refused for each number.
 #![tactic(auto)]
 
+mod requirements;
 mod words;
 
 use starved::{Families, Met, make_each, run};
@@ -21,6 +22,7 @@ impl Families for Calls {
             "words of requirements" => {
                 Some(make_each(alloc, "words of requirements", &WordCall::ALL))
             }
+            "requirements" => Some(requirements::make_requirements(alloc)),
             _ => None,
         }
     }

@@ -2,7 +2,7 @@
 
 use crate::given::Given;
 use marker_parts::MarkerWarningKind;
-use marker_session::{Command, Reason, Reply, Session};
+use pep508_markers::{Command, Reason, Reply, Session};
 use std::alloc::AllocError;
 
 /// Of a cell, whether it is true in the environment with the extras that are given, and whether it
@@ -82,7 +82,8 @@ fn refuse(session: &mut Session, row: FaultRow) -> Result<bool, AllocError> {
     }
 }
 
-// Whether the first cell is true and the second is not. `Err` where there is no room for the replies.
+// Whether the first cell is true and the second is not. `Err` where there is no room for the
+// replies.
 fn run_both(
     session: &mut Session,
     given: &Given,

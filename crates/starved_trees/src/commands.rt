@@ -4,7 +4,7 @@ use crate::cells::{Answered, Asked, ask, has_cells};
 use crate::given::Given;
 use crate::texts::{COMPARISON, READ, READ_TRUTHS, REFUSED, joined};
 use marker_parts::MarkerExpression;
-use marker_session::{Command, Reply, Session};
+use pep508_markers::{Command, Reply, Session};
 use starved::Met;
 use std::alloc::Global;
 use url::Url;

@@ -3,7 +3,7 @@
 use crate::given::Given;
 use marker_graph::{Interner, MarkerTree};
 use marker_parts::{ExtraName, Refusal};
-use marker_session::MarkerText;
+use pep508_markers::MarkerText;
 use starved::Met;
 use std::alloc::{AllocError, Global};
 use url::Url;
@@ -54,9 +54,9 @@ impl Forest {
         })
     }
 
-    // Whether a tree is true in the environment with these extras. A tree that does not stand here
-    // is not.
-    fn is_true(&self, tree: MarkerTree, given: &Given, extras: &[ExtraName]) -> bool {
+    /// Whether a tree is true in the environment with these extras. A tree that does not stand here
+    /// is not.
+    pub fn is_true(&self, tree: MarkerTree, given: &Given, extras: &[ExtraName]) -> bool {
         if !self.interner.holds(&tree) {
             return false;
         }

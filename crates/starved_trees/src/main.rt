@@ -6,15 +6,19 @@
 #![tactic(auto)]
 
 mod cells;
+mod clauses;
 mod commands;
 mod forest;
 mod given;
+mod printed;
 mod reports;
 mod simplifications;
 mod simplified;
 mod texts;
 mod trees;
 
+use clauses::ClauseCall;
+use printed::PrintedCall;
 use reports::ReportCall;
 use starved::{Families, Met, make_each, run};
 use std::alloc::Global;
@@ -30,6 +34,8 @@ impl Families for Calls {
             "trees" => trees::make_trees(alloc),
             "simplifications" => simplifications::make_trees(alloc),
             "reports" => make_each(alloc, "reports", &ReportCall::ALL),
+            "clauses" => make_each(alloc, "clauses", &ClauseCall::ALL),
+            "printed" => make_each(alloc, "printed", &PrintedCall::ALL),
             "simplified" => simplified::run_commands(alloc),
             _ => return None,
         })

@@ -56,7 +56,8 @@ impl Forest {
         Ok(answer && are_first(&warnings) && warnings.len() == WARNINGS.len())
     }
 
-    // The same with a list that is told. Where it is refused, the list has the first of the warnings, or none.
+    // The same with a list that is told. Where it is refused, the list has the first of the
+    // warnings, or none.
     fn report(&self, alloc: Global, given: &Given) -> Result<bool, AllocError> {
         let tree = self.trees[2];
         if !self.interner.holds(&tree) {

@@ -2,7 +2,7 @@
 
 use crate::cells::{Answered, Asked, Truths, ask, has_cells};
 use crate::given::{Given, Range};
-use marker_session::{Command, Reason, Reply, Session};
+use pep508_markers::{Command, Reason, Reply, Session};
 use starved::Met;
 use std::alloc::Global;
 

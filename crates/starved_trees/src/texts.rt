@@ -2,7 +2,7 @@
 
 use crate::cells::{FaultRow, Truths};
 use marker_parts::{MarkerExpression, MarkerWarningKind};
-use marker_session::Command;
+use pep508_markers::Command;
 
 /// Texts that are read, and the kinds of their warnings.
 pub const READ: [(&str, &[MarkerWarningKind]); 4] = [

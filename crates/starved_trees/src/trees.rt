@@ -2,10 +2,10 @@
 
 use crate::forest::{Forest, TreeCall, TreeRow, make_pairs, tree_of_text};
 use crate::given::Given;
+use marker_grammar::read;
 use marker_graph::{Interner, MarkerTree, TruthVariable};
 use marker_parts::{MarkerExpression, MarkerWarningKind, Refusal};
-use marker_session::{MarkerText, tree_of};
-use pep508_markers::{Cell, read};
+use pep508_markers::{MarkerText, tree_of};
 use pep508_names::ExtraName;
 use starved::{Met, unless_memory};
 use std::alloc::{AllocError, Global};
@@ -34,8 +34,8 @@ enum Made {
     AtEnd(&'static str),
     /// `TRUE`, where the text is refused for a parenthesis that stays open.
     Faulty(&'static str),
-    /// `TRUE`, where the text's formula is true without a tree.
-    Cell(&'static str),
+    /// `TRUE`, where the tree of the text's formula is true.
+    Holds(&'static str),
 }
 
 const TEXTS: [TreeRow; 4] = [
@@ -104,7 +104,7 @@ const CALLS: [(Made, Made); 14] = [
         Made::Text("'a' == 'b'"),
     ),
     (
-        Made::Cell("python_version >= '3.9' and os_name == 'posix'"),
+        Made::Holds("python_version >= '3.9' and os_name == 'posix'"),
         Made::Text("'a' == 'b'"),
     ),
 ];
@@ -136,7 +136,8 @@ fn formula(
     }
 }
 
-// The tree of a text that has two warnings of a kind. Where it is refused, no more than these were reported.
+// The tree of a text that has two warnings of a kind. Where it is refused, no more than these were
+// reported.
 fn reported(
     alloc: Global,
     interner: &mut Interner,
@@ -241,21 +242,17 @@ impl Forest {
         Ok(Some(tree))
     }
 
-    // `TRUE`, where the text's formula is true in the environment.
-    fn evaluated(
-        &self,
+    // `TRUE`, where the tree of the text's formula is true in the environment.
+    fn truth(
+        &mut self,
         alloc: Global,
         text: &str,
         given: &Given,
     ) -> Result<Option<MarkerTree>, AllocError> {
-        let Ok(reading) = read(alloc, text) else {
-            return Err(AllocError);
-        };
-        let Some(cell) = unless_memory(Cell::new(alloc, reading.formula))? else {
+        let Some(tree) = formula(alloc, &mut self.interner, text)? else {
             return Ok(None);
         };
-        let mut truths = Vec::with_capacity(alloc, cell.len())?;
-        if cell.evaluate(&mut truths, &given.environment, &given.extras) {
+        if self.is_true(tree, given, &given.extras) {
             Ok(Some(MarkerTree::TRUE))
         } else {
             Ok(None)
@@ -281,7 +278,7 @@ impl TreeCall for Made {
             Made::Asks(name) => extra(alloc, &mut forest.interner, name),
             Made::AtEnd(text) => at_end(&mut forest.interner, text),
             Made::Faulty(text) => faulty(alloc, &mut forest.interner, text),
-            Made::Cell(text) => forest.evaluated(alloc, text, given),
+            Made::Holds(text) => forest.truth(alloc, text, given),
         }
     }
 }

@@ -1,8 +1,9 @@
-//! Comparisons that are dropped, and kept ones with warnings: the kinds and the texts of their warnings.
+//! Comparisons that are dropped, and kept ones with warnings: the kinds and the texts of their
+//! warnings.
 
+use crate::told::{Answer, parsed};
 use marker_parts::{MarkerExpression, MarkerWarningKind, Refusal, ReportTo};
 use std::alloc::{AllocError, Global};
-use std::test::Fail;
 use url::Url;
 
 const DEPRECATED: MarkerWarningKind = MarkerWarningKind::DeprecatedMarkerName;
@@ -78,30 +79,49 @@ fn has_kinds(warnings: &[(MarkerWarningKind, String)], kinds: &[MarkerWarningKin
     is_same
 }
 
+// Whether a comparison is kept. `None` where the text is none.
+fn is_some(answer: &Answer) -> Option<bool> {
+    match answer {
+        Ok(found) => Some(found.is_some()),
+        Err(_) => None,
+    }
+}
+
+// Whether it is, where a reporter is told of its warnings.
+fn is_some_with(
+    alloc: Global,
+    text: &str,
+    reporter: &mut Vec<(MarkerWarningKind, String)>,
+) -> Option<bool> {
+    let answer = MarkerExpression::parse_reporter::<Url, _>(alloc, text, reporter);
+    let found = is_some(&answer);
+    drop(answer);
+    found
+}
+
 /// Whether the comparison is kept or not, with these kinds of warnings.
 pub fn is_reported(alloc: Global, text: &str, is_kept: bool, kinds: &[MarkerWarningKind]) -> bool {
     let mut warnings: Vec<(MarkerWarningKind, String)> = Vec::new(alloc);
-    match MarkerExpression::parse_reporter::<Url, _>(alloc, text, &mut warnings) {
-        Ok(found) => found.is_some() == is_kept && has_kinds(warnings.as_slice(), kinds),
-        Err(_) => false,
-    }
+    let found = is_some_with(alloc, text, &mut warnings);
+    let is_so = found == Some(is_kept) && has_kinds(warnings.as_slice(), kinds);
+    drop(warnings);
+    is_so
 }
 
 /// Whether the comparison is kept or not where nobody is told of its warnings.
 pub fn is_read(alloc: Global, text: &str, is_kept: bool) -> bool {
-    match MarkerExpression::parse::<Url>(alloc, text) {
-        Ok(found) => found.is_some() == is_kept,
-        Err(_) => false,
-    }
+    let answer = parsed(alloc, text);
+    let found = is_some(&answer);
+    drop(answer);
+    found == Some(is_kept)
 }
 
 #[test]
-fn kinds_of_warnings(rt: HostRuntime) -> Result<(), Fail> {
-    for (text, is_kept, kinds) in ROWS {
-        assert!(rt; is_reported(rt.alloc(), text, is_kept, kinds), "{text}");
-        assert!(rt; is_read(rt.alloc(), text, is_kept), "{text}");
+fn kinds_of_warnings(rt: HostRuntime) {
+    for (text, is_kept, kinds) in ROWS.iter() {
+        assert!(rt; is_reported(rt.alloc(), text, *is_kept, kinds), "{text}");
+        assert!(rt; is_read(rt.alloc(), text, *is_kept), "{text}");
     }
-    Ok(())
 }
 
 // A text with one warning, and the warning.
@@ -126,36 +146,42 @@ const WARNINGS: [(&str, &str); 6] = [
     ("'é' == 'a'", "Expected a key beside a quoted text"),
 ];
 
-// Whether the one warning of the text is this.
-fn is_warned(alloc: Global, text: &str, expected: &str) -> bool {
-    let mut warnings: Vec<(MarkerWarningKind, String)> = Vec::new(alloc);
-    if MarkerExpression::parse_reporter::<Url, _>(alloc, text, &mut warnings).is_err() {
-        return false;
-    }
-    match warnings.as_slice() {
+// Whether the one warning is this.
+fn is_one(warnings: &[(MarkerWarningKind, String)], expected: &str) -> bool {
+    match warnings {
         [(_, warning)] => warning.as_str() == expected,
         _ => false,
     }
 }
 
+// Whether the text is a comparison, kept or dropped, and its one warning is this.
+fn is_warned(alloc: Global, text: &str, expected: &str) -> bool {
+    let mut warnings: Vec<(MarkerWarningKind, String)> = Vec::new(alloc);
+    let found = is_some_with(alloc, text, &mut warnings);
+    let is_so = found.is_some() && is_one(warnings.as_slice(), expected);
+    drop(warnings);
+    is_so
+}
+
 #[test]
-fn texts_of_warnings(rt: HostRuntime) -> Result<(), Fail> {
-    for (text, warning) in WARNINGS {
+fn texts_of_warnings(rt: HostRuntime) {
+    for (text, warning) in WARNINGS.iter() {
         assert!(rt; is_warned(rt.alloc(), text, warning), "{text}");
     }
-    Ok(())
 }
 
 // Whether the answer is out of memory where a function that is told of the warnings refuses them.
 fn is_out_of_memory(alloc: Global, text: &str) -> bool {
     let mut reporter = ReportTo(|_kind: MarkerWarningKind, _warning: String| Err(AllocError));
     let answer = MarkerExpression::parse_reporter::<Url, _>(alloc, text, &mut reporter);
-    matches!(&answer, Err(Refusal::OutOfMemory))
+    let is_so = matches!(&answer, Err(Refusal::OutOfMemory));
+    drop(answer);
+    is_so
 }
 
 #[test]
 fn a_reporter_that_refuses(rt: HostRuntime) {
-    for (text, _) in WARNINGS {
+    for (text, _) in WARNINGS.iter() {
         assert!(rt; is_out_of_memory(rt.alloc(), text), "{text}");
     }
     assert!(rt; !is_out_of_memory(rt.alloc(), "os_name == 'a'"));

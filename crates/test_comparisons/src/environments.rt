@@ -1,19 +1,38 @@
 //! Environments: what each getter gives, and what each setter leaves.
 
 use marker_parts::{
-    MarkerEnvironment, MarkerEnvironmentBuilder, MarkerValueString, MarkerValueVersion, Refusal,
+    MarkerEnvironment, MarkerEnvironmentBuilder, MarkerValueString, MarkerValueVersion,
     StringVersion, TextVariable,
 };
 use std::alloc::Global;
 use std::test::Fail;
-use test_samples::LINUX;
+use test_samples::{LINUX, fault_of, prints};
 
-/// Linux, with versions that are not written as they are printed.
-pub const GIVEN: MarkerEnvironmentBuilder<'static> = MarkerEnvironmentBuilder {
-    python_full_version: " 3.12.1 ",
-    python_version: "V3.12",
-    ..LINUX
-};
+/// The values of `os_name`, `implementation_version`, `python_full_version`, `python_version` and
+/// `sys_platform`.
+pub type Row = [&'static str; 5];
+
+// Those of Linux, with versions that are not written as they are printed.
+const GIVEN: Row = ["posix", "3.12.1", " 3.12.1 ", "V3.12", "linux"];
+
+/// The builder with these values, and those of Linux.
+pub fn builder_of(row: &Row) -> MarkerEnvironmentBuilder<'static> {
+    let [
+        os_name,
+        implementation_version,
+        python_full_version,
+        python_version,
+        sys_platform,
+    ] = *row;
+    MarkerEnvironmentBuilder {
+        os_name,
+        implementation_version,
+        python_full_version,
+        python_version,
+        sys_platform,
+        ..LINUX
+    }
+}
 
 // A key, its value before it is set, and the one that it is set to.
 const TEXTS: [(TextVariable, &str, &str); 8] = [
@@ -114,16 +133,38 @@ fn has_versions(environment: &MarkerEnvironment, set: usize) -> bool {
     is_same
 }
 
+/// The environment of the given values.
 pub fn given(alloc: Global) -> Result<MarkerEnvironment, Fail> {
-    Ok(MarkerEnvironment::try_from(alloc, GIVEN)?)
+    Ok(MarkerEnvironment::try_from(alloc, builder_of(&GIVEN))?)
+}
+
+// The environment with this value of a text key.
+fn with_text_of(
+    alloc: Global,
+    environment: MarkerEnvironment,
+    key: TextVariable,
+    text: &str,
+) -> Result<MarkerEnvironment, Fail> {
+    let value = String::from_str(alloc, text)?;
+    Ok(with_text(environment, key, value))
+}
+
+// The environment with this value of a version key.
+fn with_version_of(
+    alloc: Global,
+    environment: MarkerEnvironment,
+    key: MarkerValueVersion,
+    text: &str,
+) -> Result<MarkerEnvironment, Fail> {
+    let value = StringVersion::parse(alloc, text)?;
+    Ok(with_version(environment, key, value))
 }
 
 // The environment with the other value of each text key, set one after another.
 fn with_texts(alloc: Global, environment: MarkerEnvironment) -> Result<MarkerEnvironment, Fail> {
     let mut environment = environment;
-    for (key, _, other) in TEXTS {
-        let value = String::from_str(alloc, other)?;
-        environment = with_text(environment, key, value);
+    for (key, _, other) in TEXTS.iter() {
+        environment = with_text_of(alloc, environment, *key, other)?;
     }
     Ok(environment)
 }
@@ -133,11 +174,11 @@ fn setters_of_texts_one_after_another(rt: HostRuntime) -> Result<(), Fail> {
     let mut environment = given(rt.alloc())?;
     for (place, (key, _, other)) in TEXTS.iter().enumerate() {
         assert!(rt; has_texts(&environment, place), "{place}");
-        let value = String::from_str(rt.alloc(), other)?;
-        environment = with_text(environment, *key, value);
+        environment = with_text_of(rt.alloc(), environment, *key, other)?;
         assert!(rt; has_versions(&environment, 0), "{place}");
     }
     assert!(rt; has_texts(&environment, TEXTS.len()));
+    drop(environment);
     Ok(())
 }
 
@@ -147,11 +188,11 @@ fn setters_of_versions_behind_those_of_texts(rt: HostRuntime) -> Result<(), Fail
     let mut environment = with_texts(rt.alloc(), given(rt.alloc())?)?;
     for (place, (key, _, other)) in VERSIONS.iter().enumerate() {
         assert!(rt; has_versions(&environment, place), "{place}");
-        let value = StringVersion::parse(rt.alloc(), other)?;
-        environment = with_version(environment, *key, value);
+        environment = with_version_of(rt.alloc(), environment, *key, other)?;
         assert!(rt; has_texts(&environment, TEXTS.len()), "{place}");
     }
     assert!(rt; has_versions(&environment, VERSIONS.len()));
+    drop(environment);
     Ok(())
 }
 
@@ -176,12 +217,22 @@ const KEYS: [(MarkerValueString, &str); 14] = [
     (MarkerValueString::SysPlatformDeprecated, "linux"),
 ];
 
+// The text where the first key has another value than that, or `none`.
+fn first_other_text(environment: &MarkerEnvironment) -> &'static str {
+    for (key, expected) in KEYS.iter() {
+        if environment.get_string(key) != *expected {
+            return *expected;
+        }
+    }
+    "none"
+}
+
 #[test]
 fn deprecated_keys_have_the_values_of_the_modern_ones(rt: HostRuntime) -> Result<(), Fail> {
     let environment = given(rt.alloc())?;
-    for (key, expected) in KEYS {
-        assert_eq!(rt; environment.get_string(&key), expected, "{key:?}");
-    }
+    let missed = first_other_text(&environment);
+    drop(environment);
+    assert_eq!(rt; missed, "none");
     Ok(())
 }
 
@@ -192,52 +243,59 @@ const NUMBERS: [(MarkerValueVersion, &str); 3] = [
     (MarkerValueVersion::PythonVersion, "3.12"),
 ];
 
+// The text of the first version that a key has not, or `none`.
+fn first_other_number(
+    alloc: Global,
+    environment: &MarkerEnvironment,
+) -> Result<&'static str, Fail> {
+    for (key, expected) in NUMBERS.iter() {
+        if !prints(alloc, environment.get_version(key), expected)? {
+            return Ok(*expected);
+        }
+    }
+    Ok("none")
+}
+
 #[test]
 fn python_version_is_the_own_one(rt: HostRuntime) -> Result<(), Fail> {
     let environment = given(rt.alloc())?;
-    for (key, expected) in NUMBERS {
-        let number = environment.get_version(&key).to_string(rt.alloc())?;
-        assert_eq!(rt; number.as_str(), expected, "{key:?}");
-    }
+    let missed = first_other_number(rt.alloc(), &environment);
+    drop(environment);
+    assert_eq!(rt; missed?, "none");
     Ok(())
 }
 
-// Builders of which one version is none, and the byte of the fault.
-const REFUSED: [(MarkerEnvironmentBuilder<'static>, usize); 3] = [
+// Values of which one version is none, and the byte of the fault.
+const REFUSED: [(Row, usize); 3] = [
+    (["posix", "3.x", " 3.12.1 ", "V3.12", "linux"], 2),
+    (["posix", "3.12.1", "", "V3.12", "linux"], 0),
     (
-        MarkerEnvironmentBuilder {
-            implementation_version: "3.x",
-            ..GIVEN
-        },
-        2,
-    ),
-    (
-        MarkerEnvironmentBuilder {
-            python_full_version: "",
-            ..GIVEN
-        },
-        0,
-    ),
-    (
-        MarkerEnvironmentBuilder {
-            python_version: "18446744073709551616",
-            ..GIVEN
-        },
+        [
+            "posix",
+            "3.12.1",
+            " 3.12.1 ",
+            "18446744073709551616",
+            "linux",
+        ],
         0,
     ),
 ];
 
-fn is_refused(alloc: Global, builder: MarkerEnvironmentBuilder<'_>, offset: usize) -> bool {
-    match MarkerEnvironment::try_from(alloc, builder) {
-        Err(Refusal::Fault(fault)) => fault.offset() == offset,
-        _ => false,
-    }
+// Whether the values are refused, with a fault at this byte.
+fn is_refused(alloc: Global, row: &Row, offset: usize) -> bool {
+    let fault = fault_of(MarkerEnvironment::try_from(alloc, builder_of(row)));
+    let is_so = match &fault {
+        Some(fault) => fault.offset() == offset,
+        None => false,
+    };
+    drop(fault);
+    is_so
 }
 
 #[test]
 fn texts_that_are_no_versions_are_refused(rt: HostRuntime) {
-    for (builder, offset) in REFUSED {
-        assert!(rt; is_refused(rt.alloc(), builder, offset), "{builder:?}");
+    for (row, offset) in REFUSED.iter() {
+        assert!(rt; is_refused(rt.alloc(), row, *offset), "{row:?}");
     }
 }
 
@@ -257,23 +315,40 @@ fn has_text(
     text: &str,
     normal: &str,
 ) -> Result<bool, Fail> {
-    let printed = version.to_string(alloc)?;
-    let number = version.version.to_string(alloc)?;
-    Ok(version.string.as_str() == text && printed.as_str() == text && number.as_str() == normal)
+    let is_kept = version.string.as_str() == text;
+    Ok(is_kept && prints(alloc, version, text)? && prints(alloc, &version.version, normal)?)
 }
 
 // Whether a version has its normal text where it is given without one.
 fn is_normal(alloc: Global, version: &StringVersion, normal: &str) -> Result<bool, Fail> {
     let made = StringVersion::from_version(alloc, version.version.clone()?)?;
-    has_text(alloc, &made, normal, normal)
+    let is_so = has_text(alloc, &made, normal, normal);
+    drop(made);
+    is_so
+}
+
+// Whether the version of the text has both texts, and only the normal one without its own.
+fn has_both(
+    alloc: Global,
+    version: &StringVersion,
+    text: &str,
+    normal: &str,
+) -> Result<bool, Fail> {
+    Ok(has_text(alloc, version, text, normal)? && is_normal(alloc, version, normal)?)
+}
+
+// Whether the text is kept, and so is the normal text.
+fn keeps_text(alloc: Global, text: &str, normal: &str) -> Result<bool, Fail> {
+    let version = StringVersion::parse(alloc, text)?;
+    let is_so = has_both(alloc, &version, text, normal);
+    drop(version);
+    is_so
 }
 
 #[test]
 fn versions_keep_their_texts(rt: HostRuntime) -> Result<(), Fail> {
-    for (text, normal) in TEXTS_OF_VERSIONS {
-        let version = StringVersion::parse(rt.alloc(), text)?;
-        assert!(rt; has_text(rt.alloc(), &version, text, normal)?, "{text:?}");
-        assert!(rt; is_normal(rt.alloc(), &version, normal)?, "{text:?}");
+    for (text, normal) in TEXTS_OF_VERSIONS.iter() {
+        assert!(rt; keeps_text(rt.alloc(), text, normal)?, "{text:?}");
     }
     Ok(())
 }

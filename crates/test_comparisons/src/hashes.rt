@@ -2,8 +2,11 @@
 
 use crate::environments::given;
 use crate::orders::{KINDS, OPERATORS, TEXT_KEYS, VERSION_KEYS};
-use crate::told::parsed;
-use marker_parts::{ExtraName, ExtraOperator, MarkerValue, MarkerValueExtra, StringVersion};
+use crate::told::kept;
+use marker_parts::{
+    ExtraName, ExtraOperator, MarkerEnvironment, MarkerExpression, MarkerValue, MarkerValueExtra,
+    StringVersion,
+};
 use std::alloc::Global;
 use std::hash::Hash;
 use std::test::Fail;
@@ -33,17 +36,38 @@ fn variants_are_hashed_alike(rt: HostRuntime) {
     assert!(rt; each_is_alike(&KINDS));
 }
 
+// Whether the environment is like the given one.
+fn is_given_alike(alloc: Global, environment: &MarkerEnvironment) -> Result<bool, Fail> {
+    let again = given(alloc)?;
+    let is_so = are_alike(environment, &again);
+    drop(again);
+    Ok(is_so)
+}
+
 #[test]
 fn environments_are_hashed_alike(rt: HostRuntime) -> Result<(), Fail> {
     let environment = given(rt.alloc())?;
-    assert!(rt; are_alike(&environment, &given(rt.alloc())?));
+    let is_so = is_given_alike(rt.alloc(), &environment);
+    drop(environment);
+    assert!(rt; is_so?);
     Ok(())
+}
+
+// Whether the version is like the one that the text is.
+fn is_read_alike(alloc: Global, version: &StringVersion, text: &str) -> Result<bool, Fail> {
+    let again = StringVersion::parse(alloc, text)?;
+    let is_so = are_alike(version, &again);
+    drop(again);
+    Ok(is_so)
 }
 
 #[test]
 fn versions_with_texts_are_hashed_alike(rt: HostRuntime) -> Result<(), Fail> {
-    let version = StringVersion::parse(rt.alloc(), " V1.0-ALPHA ")?;
-    assert!(rt; are_alike(&version, &StringVersion::parse(rt.alloc(), " V1.0-ALPHA ")?));
+    let text = " V1.0-ALPHA ";
+    let version = StringVersion::parse(rt.alloc(), text)?;
+    let is_so = is_read_alike(rt.alloc(), &version, text);
+    drop(version);
+    assert!(rt; is_so?);
     Ok(())
 }
 
@@ -59,12 +83,59 @@ fn extra(alloc: Global, name: &str) -> Result<MarkerValueExtra, Fail> {
     Ok(MarkerValueExtra::Extra(ExtraName::parse(alloc, name)?))
 }
 
+// Whether the value is like the quoted text.
+fn is_quoted_alike(alloc: Global, value: &MarkerValue, text: &str) -> Result<bool, Fail> {
+    let again = quoted(alloc, text)?;
+    let is_so = are_alike(value, &again);
+    drop(again);
+    Ok(is_so)
+}
+
+// Whether the value is like the text that is no name.
+fn is_arbitrary_alike(alloc: Global, value: &MarkerValueExtra, text: &str) -> Result<bool, Fail> {
+    let again = arbitrary(alloc, text)?;
+    let is_so = are_alike(value, &again);
+    drop(again);
+    Ok(is_so)
+}
+
+// Whether the value is like the name.
+fn is_extra_alike(alloc: Global, value: &MarkerValueExtra, name: &str) -> Result<bool, Fail> {
+    let again = extra(alloc, name)?;
+    let is_so = are_alike(value, &again);
+    drop(again);
+    Ok(is_so)
+}
+
+// Whether two values of the quoted text are alike.
+fn are_quoted_alike(alloc: Global, text: &str) -> Result<bool, Fail> {
+    let value = quoted(alloc, text)?;
+    let is_so = is_quoted_alike(alloc, &value, text);
+    drop(value);
+    is_so
+}
+
+// Whether two values of the text that is no name are alike.
+fn are_arbitrary_alike(alloc: Global, text: &str) -> Result<bool, Fail> {
+    let value = arbitrary(alloc, text)?;
+    let is_so = is_arbitrary_alike(alloc, &value, text);
+    drop(value);
+    is_so
+}
+
+// Whether the values of the names are alike.
+fn are_extras_alike(alloc: Global, name: &str, other: &str) -> Result<bool, Fail> {
+    let value = extra(alloc, name)?;
+    let is_so = is_extra_alike(alloc, &value, other);
+    drop(value);
+    is_so
+}
+
 #[test]
 fn values_are_hashed_alike(rt: HostRuntime) -> Result<(), Fail> {
-    let alloc = rt.alloc();
-    assert!(rt; are_alike(&quoted(alloc, "é")?, &quoted(alloc, "é")?));
-    assert!(rt; are_alike(&arbitrary(alloc, "é")?, &arbitrary(alloc, "é")?));
-    assert!(rt; are_alike(&extra(alloc, "Dev_Tools")?, &extra(alloc, "dev-tools")?));
+    assert!(rt; are_quoted_alike(rt.alloc(), "é")?);
+    assert!(rt; are_arbitrary_alike(rt.alloc(), "é")?);
+    assert!(rt; are_extras_alike(rt.alloc(), "Dev_Tools", "dev-tools")?);
     Ok(())
 }
 
@@ -79,16 +150,27 @@ const COMPARISONS: [(&str, &str); 4] = [
     ("extra != 'Dev_Tools'", "'dev-tools' != extra"),
 ];
 
-fn are_read_alike(alloc: Global, text: &str, other: &str) -> bool {
-    match (&parsed(alloc, text), &parsed(alloc, other)) {
-        (Ok(Some(expression)), Ok(Some(again))) => are_alike(expression, again),
+// Whether both are comparisons, and alike.
+fn are_kept_alike(left: &Option<MarkerExpression>, right: &Option<MarkerExpression>) -> bool {
+    match (left, right) {
+        (Some(expression), Some(again)) => are_alike(expression, again),
         _ => false,
     }
 }
 
+// Whether the texts are comparisons that are alike.
+fn are_read_alike(alloc: Global, text: &str, other: &str) -> bool {
+    let first = kept(alloc, text);
+    let second = kept(alloc, other);
+    let is_so = are_kept_alike(&first, &second);
+    drop(first);
+    drop(second);
+    is_so
+}
+
 #[test]
 fn comparisons_are_hashed_alike(rt: HostRuntime) {
-    for (text, other) in COMPARISONS {
+    for (text, other) in COMPARISONS.iter() {
         assert!(rt; are_read_alike(rt.alloc(), text, other), "{text}");
     }
 }

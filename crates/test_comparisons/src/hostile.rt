@@ -1,7 +1,8 @@
-//! Comparisons at the edges: the largest numbers, white space of all kinds, quotes in quotes, and long texts.
+//! Comparisons at the edges: the largest numbers, white space of all kinds, quotes in quotes, and
+//! long texts.
 
-use crate::told::parsed;
-use std::alloc::Global;
+use crate::told::{Answer, parsed};
+use std::alloc::{AllocError, Global};
 use std::test::Fail;
 use test_samples::prints;
 
@@ -113,38 +114,55 @@ pub const LONG: [&str; 2] = [
     "os_name == 'éééééééééééééééééééééééééééééééééééééééééééééééé\"\"\"\"\"\"\"\"\"\"\"\"\"\"\"\"好好好好好好好好好好好好好好好好好好好好好'",
 ];
 
-// Whether the text is read, and prints so. A dropped comparison prints nothing.
+// Whether the answer is a comparison, and prints so. A dropped one prints nothing.
+fn answer_prints(alloc: Global, answer: &Answer, expected: &str) -> Result<bool, Fail> {
+    match answer {
+        Ok(Some(expression)) => prints(alloc, expression, expected),
+        Ok(None) => Ok(expected.is_empty()),
+        Err(_) => Ok(false),
+    }
+}
+
+// Whether the text is read, and prints so.
 fn is_printed(alloc: Global, text: &str, expected: &str) -> Result<bool, Fail> {
-    let Ok(found) = parsed(alloc, text) else {
-        return Ok(false);
-    };
-    let Some(expression) = found else {
-        return Ok(expected.is_empty());
-    };
-    prints(alloc, &expression, expected)
+    let answer = parsed(alloc, text);
+    let is_so = answer_prints(alloc, &answer, expected);
+    drop(answer);
+    is_so
 }
 
 #[test]
 fn comparisons_at_the_edges(rt: HostRuntime) -> Result<(), Fail> {
-    for (text, expected) in KEPT {
+    for (text, expected) in KEPT.iter() {
         assert!(rt; is_printed(rt.alloc(), text, expected)?, "{text}");
     }
-    for text in LONG {
+    for text in LONG.iter() {
         assert!(rt; is_printed(rt.alloc(), text, text)?, "{text}");
     }
     Ok(())
 }
 
-// A comparison of `os_name` with so many letters prints as it was written.
-fn prints_letters(alloc: Global, letter: &str, count: usize) -> Result<bool, Fail> {
+const LETTERS: [&str; 5] = ["a", "é", "\"", " ", "\u{10ffff}"];
+
+// A comparison of `os_name` with so many letters.
+fn comparison_of(alloc: Global, letter: &str, count: usize) -> Result<String, AllocError> {
     let letters = letter.repeat(alloc, count)?;
-    let text = format!(in alloc; "os_name == '{letters}'")?;
-    is_printed(alloc, text.as_str(), text.as_str())
+    let text = format!(in alloc; "os_name == '{letters}'");
+    drop(letters);
+    text
+}
+
+// Whether it prints as it was written.
+fn prints_letters(alloc: Global, letter: &str, count: usize) -> Result<bool, Fail> {
+    let text = comparison_of(alloc, letter, count)?;
+    let is_so = is_printed(alloc, text.as_str(), text.as_str());
+    drop(text);
+    is_so
 }
 
 #[test]
 fn long_comparisons(rt: HostRuntime) -> Result<(), Fail> {
-    for letter in ["a", "é", "\"", " ", "\u{10ffff}"] {
+    for letter in LETTERS.iter() {
         assert!(rt; prints_letters(rt.alloc(), letter, 100_000)?, "{letter:?}");
     }
     Ok(())

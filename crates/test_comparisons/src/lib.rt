@@ -1,4 +1,5 @@
-//! Tests of single comparisons, environments and names, over texts and answers that were worked out by hand.
+//! Tests of single comparisons, environments and names, over texts and answers that were worked out
+//! by hand.
 #![tactic(auto)]
 
 #[cfg(test)]

@@ -1,9 +1,9 @@
 //! The orders of operators, keys, kinds and comparisons.
 
-use crate::told::parsed;
+use crate::told::kept;
 use marker_parts::{
-    ExtraOperator, MarkerOperator, MarkerValue, MarkerValueString, MarkerValueVersion,
-    MarkerWarningKind,
+    ExtraOperator, MarkerExpression, MarkerOperator, MarkerValue, MarkerValueString,
+    MarkerValueVersion, MarkerWarningKind,
 };
 use std::alloc::Global;
 use std::test::Fail;
@@ -73,19 +73,48 @@ fn variants_stand_in_order(rt: HostRuntime) {
     assert!(rt; is_ascending(&KINDS));
 }
 
+// Whether the first value stands before the second one.
+fn is_lower(low: MarkerValue, high: MarkerValue) -> bool {
+    let is_so = low < high;
+    drop(low);
+    drop(high);
+    is_so
+}
+
+// Whether the values of keys stand in order: by their variant, then by the key.
+fn keys_stand_in_order() -> bool {
+    is_lower(
+        MarkerValue::MarkerEnvVersion(MarkerValueVersion::ImplementationVersion),
+        MarkerValue::MarkerEnvVersion(MarkerValueVersion::PythonVersion),
+    ) && is_lower(
+        MarkerValue::MarkerEnvVersion(MarkerValueVersion::PythonVersion),
+        MarkerValue::MarkerEnvString(MarkerValueString::ImplementationName),
+    ) && is_lower(
+        MarkerValue::MarkerEnvString(MarkerValueString::ImplementationName),
+        MarkerValue::MarkerEnvString(MarkerValueString::SysPlatformDeprecated),
+    ) && is_lower(
+        MarkerValue::MarkerEnvString(MarkerValueString::SysPlatformDeprecated),
+        MarkerValue::Extra,
+    )
+}
+
+// Whether the value stands before that of the quoted text.
+fn is_before_quoted(alloc: Global, value: &MarkerValue, text: &str) -> Result<bool, Fail> {
+    let quoted = MarkerValue::QuotedString(String::from_str(alloc, text)?);
+    let is_so = *value < quoted;
+    drop(quoted);
+    Ok(is_so)
+}
+
 // By their variant, then by the key or the text.
 #[test]
 fn values_stand_in_order(rt: HostRuntime) -> Result<(), Fail> {
-    let values = [
-        MarkerValue::MarkerEnvVersion(MarkerValueVersion::ImplementationVersion),
-        MarkerValue::MarkerEnvVersion(MarkerValueVersion::PythonVersion),
-        MarkerValue::MarkerEnvString(MarkerValueString::ImplementationName),
-        MarkerValue::MarkerEnvString(MarkerValueString::SysPlatformDeprecated),
-        MarkerValue::Extra,
-        MarkerValue::QuotedString(String::from_str(rt.alloc(), "")?),
-        MarkerValue::QuotedString(String::from_str(rt.alloc(), "é")?),
-    ];
-    assert!(rt; is_ascending(&values));
+    assert!(rt; keys_stand_in_order());
+    assert!(rt; is_before_quoted(rt.alloc(), &MarkerValue::Extra, "")?);
+    let empty = MarkerValue::QuotedString(String::new(rt.alloc()));
+    let is_so = is_before_quoted(rt.alloc(), &empty, "é");
+    drop(empty);
+    assert!(rt; is_so?);
     Ok(())
 }
 
@@ -107,17 +136,27 @@ const COMPARISONS: [&str; 14] = [
     "extra != 'a'",
 ];
 
-fn are_ordered(alloc: Global, first: &str, second: &str) -> bool {
-    match (&parsed(alloc, first), &parsed(alloc, second)) {
-        (Ok(Some(expression)), Ok(Some(other))) => is_before(expression, other),
+// Whether both are comparisons, and the first stands before the second.
+fn are_kept_ordered(left: &Option<MarkerExpression>, right: &Option<MarkerExpression>) -> bool {
+    match (left, right) {
+        (Some(expression), Some(other)) => is_before(expression, other),
         _ => false,
     }
 }
 
+// The same of two texts.
+fn are_ordered(alloc: Global, first: &str, second: &str) -> bool {
+    let left = kept(alloc, first);
+    let right = kept(alloc, second);
+    let is_so = are_kept_ordered(&left, &right);
+    drop(left);
+    drop(right);
+    is_so
+}
+
 #[test]
-fn comparisons_stand_in_order(rt: HostRuntime) -> Result<(), Fail> {
+fn comparisons_stand_in_order(rt: HostRuntime) {
     for (first, second) in COMPARISONS.iter().zip(COMPARISONS.iter().skip(1)) {
         assert!(rt; are_ordered(rt.alloc(), first, second), "{first}");
     }
-    Ok(())
 }

@@ -2,6 +2,7 @@
 
 use crate::environments::given;
 use marker_parts::{ExtraName, MarkerEnvironment, PackageName, StringVersion, Version};
+use serde::{Deserialize, Serialize};
 use std::alloc::Global;
 use std::test::Fail;
 
@@ -25,40 +26,48 @@ const NO_NAMES: [&str; 9] = [
     "\"a",
 ];
 
-fn package_is_written(alloc: Global, given: &str, written: &str) -> Result<bool, Fail> {
-    let name = serde_json::from_str::<PackageName>(alloc, given)?;
-    let text = serde_json::to_string(alloc, &name)?;
-    Ok(text.as_str() == written)
+// Whether the value is written so.
+fn is_written<T: Serialize>(alloc: Global, value: &T, written: &str) -> Result<bool, Fail> {
+    let text = serde_json::to_string(alloc, value)?;
+    let is_so = text.as_str() == written;
+    drop(text);
+    Ok(is_so)
 }
 
-fn extra_is_written(alloc: Global, given: &str, written: &str) -> Result<bool, Fail> {
-    let name = serde_json::from_str::<ExtraName>(alloc, given)?;
-    let text = serde_json::to_string(alloc, &name)?;
-    Ok(text.as_str() == written)
+// Whether a value is read of the text, and written so.
+fn is_rewritten<'de, T: Deserialize<'de> + Serialize>(
+    alloc: Global,
+    given: &'de str,
+    written: &str,
+) -> Result<bool, Fail> {
+    is_written(alloc, &serde_json::from_str::<T>(alloc, given)?, written)
+}
+
+// Whether no value is read of the text.
+fn is_refused<'de, T: Deserialize<'de>>(alloc: Global, given: &'de str) -> bool {
+    serde_json::from_str::<T>(alloc, given).is_err()
 }
 
 #[test]
 fn names_are_read_and_written(rt: HostRuntime) -> Result<(), Fail> {
-    for (given, written) in NAMES {
-        assert!(rt; package_is_written(rt.alloc(), given, written)?, "{given}");
-        assert!(rt; extra_is_written(rt.alloc(), given, written)?, "{given}");
+    for (given, written) in NAMES.iter() {
+        assert!(rt;
+            is_rewritten::<PackageName>(rt.alloc(), given, written)?,
+            "{given}"
+        );
+        assert!(rt;
+            is_rewritten::<ExtraName>(rt.alloc(), given, written)?,
+            "{given}"
+        );
     }
     Ok(())
 }
 
-fn is_no_package(alloc: Global, given: &str) -> bool {
-    serde_json::from_str::<PackageName>(alloc, given).is_err()
-}
-
-fn is_no_extra(alloc: Global, given: &str) -> bool {
-    serde_json::from_str::<ExtraName>(alloc, given).is_err()
-}
-
 #[test]
 fn texts_that_are_no_names(rt: HostRuntime) {
-    for given in NO_NAMES {
-        assert!(rt; is_no_package(rt.alloc(), given), "{given}");
-        assert!(rt; is_no_extra(rt.alloc(), given), "{given}");
+    for given in NO_NAMES.iter() {
+        assert!(rt; is_refused::<PackageName>(rt.alloc(), given), "{given}");
+        assert!(rt; is_refused::<ExtraName>(rt.alloc(), given), "{given}");
     }
 }
 
@@ -84,17 +93,20 @@ const NO_VERSIONS: [&str; 7] = [
     "\"1.0",
 ];
 
-fn version_is_written(alloc: Global, given: &str, kept: &str, written: &str) -> Result<bool, Fail> {
+// Whether a version is read of the text that keeps this text.
+fn is_text_kept(alloc: Global, given: &str, kept: &str) -> Result<bool, Fail> {
     let version = serde_json::from_str::<StringVersion>(alloc, given)?;
-    let text = serde_json::to_string(alloc, &version)?;
-    Ok(version.string.as_str() == kept && text.as_str() == written)
+    let is_so = version.string.as_str() == kept;
+    drop(version);
+    Ok(is_so)
 }
 
 #[test]
 fn versions_are_read_and_written(rt: HostRuntime) -> Result<(), Fail> {
-    for (given, kept, written) in VERSIONS {
+    for (given, kept, written) in VERSIONS.iter() {
+        assert!(rt; is_text_kept(rt.alloc(), given, kept)?, "{given}");
         assert!(rt;
-            version_is_written(rt.alloc(), given, kept, written)?,
+            is_rewritten::<StringVersion>(rt.alloc(), given, written)?,
             "{given}"
         );
     }
@@ -108,36 +120,22 @@ const NORMALIZED: [(&str, &str); 3] = [
     ("\"1!2.0.post1+Ubuntu_7\"", "\"1!2.0.post1+ubuntu.7\""),
 ];
 
-fn normal_version_is_written(alloc: Global, given: &str, written: &str) -> Result<bool, Fail> {
-    let version = serde_json::from_str::<Version>(alloc, given)?;
-    let text = serde_json::to_string(alloc, &version)?;
-    Ok(text.as_str() == written)
-}
-
 #[test]
 fn normal_versions_are_read_and_written(rt: HostRuntime) -> Result<(), Fail> {
-    for (given, written) in NORMALIZED {
+    for (given, written) in NORMALIZED.iter() {
         assert!(rt;
-            normal_version_is_written(rt.alloc(), given, written)?,
+            is_rewritten::<Version>(rt.alloc(), given, written)?,
             "{given}"
         );
     }
     Ok(())
 }
 
-fn is_no_version(alloc: Global, given: &str) -> bool {
-    serde_json::from_str::<StringVersion>(alloc, given).is_err()
-}
-
-fn is_no_normal_version(alloc: Global, given: &str) -> bool {
-    serde_json::from_str::<Version>(alloc, given).is_err()
-}
-
 #[test]
 fn texts_that_are_no_versions(rt: HostRuntime) {
-    for given in NO_VERSIONS {
-        assert!(rt; is_no_version(rt.alloc(), given), "{given}");
-        assert!(rt; is_no_normal_version(rt.alloc(), given), "{given}");
+    for given in NO_VERSIONS.iter() {
+        assert!(rt; is_refused::<StringVersion>(rt.alloc(), given), "{given}");
+        assert!(rt; is_refused::<Version>(rt.alloc(), given), "{given}");
     }
 }
 
@@ -172,27 +170,38 @@ fn is_environment(
     environment: &MarkerEnvironment,
 ) -> Result<bool, Fail> {
     let read = serde_json::from_str::<MarkerEnvironment>(alloc, text)?;
-    Ok(read == *environment)
+    let is_so = read == *environment;
+    drop(read);
+    Ok(is_so)
+}
+
+// Whether the given environment is written.
+fn is_given_written(alloc: Global) -> Result<bool, Fail> {
+    let environment = given(alloc)?;
+    let is_so = is_written(alloc, &environment, ENVIRONMENT);
+    drop(environment);
+    is_so
+}
+
+// Whether the given environment is read of the text.
+fn is_given(alloc: Global, text: &str) -> Result<bool, Fail> {
+    let environment = given(alloc)?;
+    let is_so = is_environment(alloc, text, &environment);
+    drop(environment);
+    is_so
 }
 
 #[test]
 fn environments_are_read_and_written(rt: HostRuntime) -> Result<(), Fail> {
-    let environment = given(rt.alloc())?;
-    let written = serde_json::to_string(rt.alloc(), &environment)?;
-    assert_eq!(rt; written.as_str(), ENVIRONMENT);
-    for text in [ENVIRONMENT, MIXED] {
-        assert!(rt; is_environment(rt.alloc(), text, &environment)?, "{text}");
-    }
+    assert!(rt; is_given_written(rt.alloc())?);
+    assert!(rt; is_given(rt.alloc(), ENVIRONMENT)?, "{ENVIRONMENT}");
+    assert!(rt; is_given(rt.alloc(), MIXED)?, "{MIXED}");
     Ok(())
-}
-
-fn is_no_environment(alloc: Global, text: &str) -> bool {
-    serde_json::from_str::<MarkerEnvironment>(alloc, text).is_err()
 }
 
 #[test]
 fn texts_that_are_no_environments(rt: HostRuntime) {
-    for text in NO_ENVIRONMENTS {
-        assert!(rt; is_no_environment(rt.alloc(), text), "{text}");
+    for text in NO_ENVIRONMENTS.iter() {
+        assert!(rt; is_refused::<MarkerEnvironment>(rt.alloc(), text), "{text}");
     }
 }

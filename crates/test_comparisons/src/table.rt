@@ -1,214 +1,223 @@
-//! Each kind of two values with each operator: whether the comparison is kept, and the kinds of its warnings.
+//! Each kind of two values with each operator: whether the comparison is kept, and the kinds of its
+//! warnings.
 
+use self::Outcome::{
+    DeprecatedExtra, DeprecatedLexicographic, DeprecatedNoVersion, DeprecatedTwoKeys, Extra,
+    ExtraTwice, Kept, KeptDeprecated, KeptExtra, Lexicographic, NoVersion, NoVersions,
+    TwoDeprecatedKeys, TwoKeys, TwoTexts,
+};
 use crate::dropped::{is_read, is_reported};
 use marker_parts::MarkerWarningKind;
 use std::alloc::Global;
 use std::test::Fail;
 
-// Whether a comparison is kept, and the kinds of its warnings.
-type Outcome = (bool, &'static [MarkerWarningKind]);
+// What becomes of a comparison.
+#[derive(Clone, Copy)]
+enum Outcome {
+    Kept,
+    KeptDeprecated,
+    KeptExtra,
+    NoVersion,
+    NoVersions,
+    DeprecatedNoVersion,
+    Lexicographic,
+    DeprecatedLexicographic,
+    TwoKeys,
+    DeprecatedTwoKeys,
+    TwoDeprecatedKeys,
+    Extra,
+    ExtraTwice,
+    DeprecatedExtra,
+    TwoTexts,
+}
+
+impl Outcome {
+    // Whether the comparison is kept.
+    fn is_kept(self) -> bool {
+        matches!(
+            self,
+            Outcome::Kept | Outcome::KeptDeprecated | Outcome::KeptExtra
+        )
+    }
+
+    // The kinds of its warnings.
+    fn kinds(self) -> &'static [MarkerWarningKind] {
+        match self {
+            Outcome::Kept => &[],
+            Outcome::KeptDeprecated => &[MarkerWarningKind::DeprecatedMarkerName],
+            Outcome::KeptExtra | Outcome::Extra => &[MarkerWarningKind::ExtraInvalidComparison],
+            Outcome::NoVersion => &[MarkerWarningKind::Pep440Error],
+            Outcome::NoVersions => &[
+                MarkerWarningKind::Pep440Error,
+                MarkerWarningKind::Pep440Error,
+            ],
+            Outcome::DeprecatedNoVersion => &[
+                MarkerWarningKind::DeprecatedMarkerName,
+                MarkerWarningKind::Pep440Error,
+            ],
+            Outcome::Lexicographic => &[MarkerWarningKind::LexicographicComparison],
+            Outcome::DeprecatedLexicographic => &[
+                MarkerWarningKind::DeprecatedMarkerName,
+                MarkerWarningKind::LexicographicComparison,
+            ],
+            Outcome::TwoKeys => &[MarkerWarningKind::MarkerMarkerComparison],
+            Outcome::DeprecatedTwoKeys => &[
+                MarkerWarningKind::DeprecatedMarkerName,
+                MarkerWarningKind::MarkerMarkerComparison,
+            ],
+            Outcome::TwoDeprecatedKeys => &[
+                MarkerWarningKind::DeprecatedMarkerName,
+                MarkerWarningKind::DeprecatedMarkerName,
+                MarkerWarningKind::MarkerMarkerComparison,
+            ],
+            Outcome::ExtraTwice => &[
+                MarkerWarningKind::ExtraInvalidComparison,
+                MarkerWarningKind::ExtraInvalidComparison,
+            ],
+            Outcome::DeprecatedExtra => &[
+                MarkerWarningKind::DeprecatedMarkerName,
+                MarkerWarningKind::ExtraInvalidComparison,
+            ],
+            Outcome::TwoTexts => &[MarkerWarningKind::StringStringComparison],
+        }
+    }
+}
 
 // Two values, and the outcomes with an operator of each group.
 type Row = (&'static str, &'static str, [Outcome; 4]);
 
-const EQUALITIES: [&str; 2] = ["==", "!="];
-
-const ORDERS: [&str; 4] = ["<", "<=", ">", ">="];
-
-const COMPATIBLE: [&str; 1] = ["~="];
-
-const INSIDE: [&str; 2] = ["in", "not in"];
-
-const KEPT: Outcome = (true, &[]);
-
-const KEPT_DEPRECATED: Outcome = (true, &[MarkerWarningKind::DeprecatedMarkerName]);
-
-const KEPT_EXTRA: Outcome = (true, &[MarkerWarningKind::ExtraInvalidComparison]);
-
-const NO_VERSION: Outcome = (false, &[MarkerWarningKind::Pep440Error]);
-
-const NO_VERSIONS: Outcome = (
-    false,
-    &[
-        MarkerWarningKind::Pep440Error,
-        MarkerWarningKind::Pep440Error,
-    ],
-);
-
-const DEPRECATED_NO_VERSION: Outcome = (
-    false,
-    &[
-        MarkerWarningKind::DeprecatedMarkerName,
-        MarkerWarningKind::Pep440Error,
-    ],
-);
-
-const LEXICOGRAPHIC: Outcome = (false, &[MarkerWarningKind::LexicographicComparison]);
-
-const DEPRECATED_LEXICOGRAPHIC: Outcome = (
-    false,
-    &[
-        MarkerWarningKind::DeprecatedMarkerName,
-        MarkerWarningKind::LexicographicComparison,
-    ],
-);
-
-const TWO_KEYS: Outcome = (false, &[MarkerWarningKind::MarkerMarkerComparison]);
-
-const DEPRECATED_TWO_KEYS: Outcome = (
-    false,
-    &[
-        MarkerWarningKind::DeprecatedMarkerName,
-        MarkerWarningKind::MarkerMarkerComparison,
-    ],
-);
-
-const TWO_DEPRECATED_KEYS: Outcome = (
-    false,
-    &[
-        MarkerWarningKind::DeprecatedMarkerName,
-        MarkerWarningKind::DeprecatedMarkerName,
-        MarkerWarningKind::MarkerMarkerComparison,
-    ],
-);
-
-const EXTRA: Outcome = (false, &[MarkerWarningKind::ExtraInvalidComparison]);
-
-const EXTRA_TWICE: Outcome = (
-    false,
-    &[
-        MarkerWarningKind::ExtraInvalidComparison,
-        MarkerWarningKind::ExtraInvalidComparison,
-    ],
-);
-
-const DEPRECATED_EXTRA: Outcome = (
-    false,
-    &[
-        MarkerWarningKind::DeprecatedMarkerName,
-        MarkerWarningKind::ExtraInvalidComparison,
-    ],
-);
-
-const TWO_TEXTS: Outcome = (false, &[MarkerWarningKind::StringStringComparison]);
+// The operators of each group.
+const GROUPS: [&[&str]; 4] = [
+    &["==", "!="],
+    &["<", "<=", ">", ">="],
+    &["~="],
+    &["in", "not in"],
+];
 
 const VERSION_KEYS: [Row; 20] = [
-    ("python_version", "'3.8'", [KEPT; 4]),
-    ("python_full_version", "'3'", [KEPT, KEPT, NO_VERSION, KEPT]),
+    ("python_version", "'3.8'", [Kept; 4]),
+    ("python_full_version", "'3'", [Kept, Kept, NoVersion, Kept]),
     (
         "implementation_version",
         "'3.*'",
-        [KEPT, NO_VERSION, NO_VERSION, NO_VERSIONS],
+        [Kept, NoVersion, NoVersion, NoVersions],
     ),
     (
         "python_version",
         "\"3.8+a\"",
-        [KEPT, NO_VERSION, NO_VERSION, KEPT],
+        [Kept, NoVersion, NoVersion, Kept],
     ),
     (
         "python_full_version",
         "'3.8 3.9'",
-        [NO_VERSION, NO_VERSION, NO_VERSION, KEPT],
+        [NoVersion, NoVersion, NoVersion, Kept],
     ),
     (
         "implementation_version",
         "''",
-        [NO_VERSION, NO_VERSION, NO_VERSION, KEPT],
+        [NoVersion, NoVersion, NoVersion, Kept],
     ),
     (
         "python_version",
         "'3.8 é'",
-        [NO_VERSION, NO_VERSION, NO_VERSION, NO_VERSIONS],
+        [NoVersion, NoVersion, NoVersion, NoVersions],
     ),
     (
         "python_full_version",
         "'3.18446744073709551616'",
-        [NO_VERSION, NO_VERSION, NO_VERSION, NO_VERSIONS],
+        [NoVersion, NoVersion, NoVersion, NoVersions],
     ),
-    ("python_version", "python_version", [NO_VERSION; 4]),
-    ("python_version", "os_name", [NO_VERSION; 4]),
-    ("python_full_version", "os.name", [DEPRECATED_NO_VERSION; 4]),
-    ("implementation_version", "extra", [NO_VERSION; 4]),
-    ("'3.8'", "python_version", [KEPT, KEPT, KEPT, NO_VERSION]),
+    ("python_version", "python_version", [NoVersion; 4]),
+    ("python_version", "os_name", [NoVersion; 4]),
+    ("python_full_version", "os.name", [DeprecatedNoVersion; 4]),
+    ("implementation_version", "extra", [NoVersion; 4]),
+    ("'3.8'", "python_version", [Kept, Kept, Kept, NoVersion]),
     (
         "'3'",
         "python_full_version",
-        [KEPT, KEPT, NO_VERSION, NO_VERSION],
+        [Kept, Kept, NoVersion, NoVersion],
     ),
-    ("'3.*'", "implementation_version", [NO_VERSION; 4]),
+    ("'3.*'", "implementation_version", [NoVersion; 4]),
     (
         "\"3.8+a\"",
         "python_version",
-        [KEPT, NO_VERSION, NO_VERSION, NO_VERSION],
+        [Kept, NoVersion, NoVersion, NoVersion],
     ),
-    ("'3.8 3.9'", "python_full_version", [NO_VERSION; 4]),
-    ("''", "implementation_version", [NO_VERSION; 4]),
-    ("'é'", "python_version", [NO_VERSION; 4]),
+    ("'3.8 3.9'", "python_full_version", [NoVersion; 4]),
+    ("''", "implementation_version", [NoVersion; 4]),
+    ("'é'", "python_version", [NoVersion; 4]),
     (
         "'3.18446744073709551616'",
         "python_full_version",
-        [NO_VERSION; 4],
+        [NoVersion; 4],
     ),
 ];
 
 const TEXT_KEYS: [Row; 12] = [
-    ("os_name", "'é'", [KEPT, KEPT, LEXICOGRAPHIC, KEPT]),
-    ("'é'", "os_name", [KEPT, KEPT, LEXICOGRAPHIC, KEPT]),
+    ("os_name", "'é'", [Kept, Kept, Lexicographic, Kept]),
+    ("'é'", "os_name", [Kept, Kept, Lexicographic, Kept]),
     (
         "sys.platform",
         "''",
         [
-            KEPT_DEPRECATED,
-            KEPT_DEPRECATED,
-            DEPRECATED_LEXICOGRAPHIC,
-            KEPT_DEPRECATED,
+            KeptDeprecated,
+            KeptDeprecated,
+            DeprecatedLexicographic,
+            KeptDeprecated,
         ],
     ),
     (
         "''",
         "sys.platform",
         [
-            KEPT_DEPRECATED,
-            KEPT_DEPRECATED,
-            DEPRECATED_LEXICOGRAPHIC,
-            KEPT_DEPRECATED,
+            KeptDeprecated,
+            KeptDeprecated,
+            DeprecatedLexicographic,
+            KeptDeprecated,
         ],
     ),
-    ("os_name", "sys_platform", [TWO_KEYS; 4]),
-    ("os_name", "python_version", [TWO_KEYS; 4]),
-    ("os_name", "extra", [TWO_KEYS; 4]),
-    ("os.name", "sys_platform", [DEPRECATED_TWO_KEYS; 4]),
-    ("os_name", "sys.platform", [DEPRECATED_TWO_KEYS; 4]),
-    ("os.name", "sys.platform", [TWO_DEPRECATED_KEYS; 4]),
-    ("os.name", "python_version", [DEPRECATED_TWO_KEYS; 4]),
-    ("os.name", "extra", [DEPRECATED_TWO_KEYS; 4]),
+    ("os_name", "sys_platform", [TwoKeys; 4]),
+    ("os_name", "python_version", [TwoKeys; 4]),
+    ("os_name", "extra", [TwoKeys; 4]),
+    ("os.name", "sys_platform", [DeprecatedTwoKeys; 4]),
+    ("os_name", "sys.platform", [DeprecatedTwoKeys; 4]),
+    ("os.name", "sys.platform", [TwoDeprecatedKeys; 4]),
+    ("os.name", "python_version", [DeprecatedTwoKeys; 4]),
+    ("os.name", "extra", [DeprecatedTwoKeys; 4]),
 ];
 
 const EXTRAS: [Row; 10] = [
-    ("extra", "'Dev'", [KEPT, EXTRA, EXTRA, EXTRA]),
-    ("\"Dev\"", "extra", [KEPT, EXTRA, EXTRA, EXTRA]),
+    ("extra", "'Dev'", [Kept, Extra, Extra, Extra]),
+    ("\"Dev\"", "extra", [Kept, Extra, Extra, Extra]),
     (
         "extra",
         "'é'",
-        [KEPT_EXTRA, EXTRA_TWICE, EXTRA_TWICE, EXTRA_TWICE],
+        [KeptExtra, ExtraTwice, ExtraTwice, ExtraTwice],
     ),
     (
         "'a b'",
         "extra",
-        [KEPT_EXTRA, EXTRA_TWICE, EXTRA_TWICE, EXTRA_TWICE],
+        [KeptExtra, ExtraTwice, ExtraTwice, ExtraTwice],
     ),
     (
         "extra",
         "''",
-        [KEPT_EXTRA, EXTRA_TWICE, EXTRA_TWICE, EXTRA_TWICE],
+        [KeptExtra, ExtraTwice, ExtraTwice, ExtraTwice],
     ),
-    ("extra", "extra", [EXTRA; 4]),
-    ("extra", "os_name", [EXTRA; 4]),
-    ("extra", "os.name", [DEPRECATED_EXTRA; 4]),
-    ("extra", "python_version", [EXTRA; 4]),
-    ("'é'", "\"é\"", [TWO_TEXTS; 4]),
+    ("extra", "extra", [Extra; 4]),
+    ("extra", "os_name", [Extra; 4]),
+    ("extra", "os.name", [DeprecatedExtra; 4]),
+    ("extra", "python_version", [Extra; 4]),
+    ("'é'", "\"é\"", [TwoTexts; 4]),
 ];
 
+// Whether the comparison has this outcome, with a reporter and without.
+fn is_outcome(alloc: Global, text: &str, outcome: Outcome) -> bool {
+    is_reported(alloc, text, outcome.is_kept(), outcome.kinds())
+        && is_read(alloc, text, outcome.is_kept())
+}
+
+// Whether the comparison of the values by this operator has it.
 fn is_so(
     alloc: Global,
     left: &str,
@@ -217,8 +226,9 @@ fn is_so(
     outcome: Outcome,
 ) -> Result<bool, Fail> {
     let text = format!(in alloc; " {left} {operator} {right} ")?;
-    let (is_kept, kinds) = outcome;
-    Ok(is_reported(alloc, text.as_str(), is_kept, kinds) && is_read(alloc, text.as_str(), is_kept))
+    let is_so = is_outcome(alloc, text.as_str(), outcome);
+    drop(text);
+    Ok(is_so)
 }
 
 // Whether the outcome is this one with each of the operators.
@@ -237,45 +247,35 @@ fn are_so(
 }
 
 // Whether the outcomes of the values are these, with an operator of each group.
-fn are_told(alloc: Global, left: &str, right: &str, outcomes: [Outcome; 4]) -> Result<bool, Fail> {
-    let [equality, order, compatible, inside] = outcomes;
-    Ok(
-        are_so(alloc, left, &EQUALITIES, right, equality)?
-            && are_so(alloc, left, &ORDERS, right, order)?
-            && are_so(alloc, left, &COMPATIBLE, right, compatible)?
-            && are_so(alloc, left, &INSIDE, right, inside)?,
-    )
+fn are_told(alloc: Global, row: &Row) -> Result<bool, Fail> {
+    let (left, right, outcomes) = row;
+    let mut is_same = true;
+    for (operators, outcome) in GROUPS.iter().zip(outcomes.iter()) {
+        is_same = is_same && are_so(alloc, left, operators, right, *outcome)?;
+    }
+    Ok(is_same)
 }
 
 #[test]
 fn version_keys_with_each_operator(rt: HostRuntime) -> Result<(), Fail> {
-    for (left, right, outcomes) in VERSION_KEYS {
-        assert!(rt;
-            are_told(rt.alloc(), left, right, outcomes)?,
-            "{left} {right}"
-        );
+    for row in VERSION_KEYS.iter() {
+        assert!(rt; are_told(rt.alloc(), row)?, "{} {}", row.0, row.1);
     }
     Ok(())
 }
 
 #[test]
 fn text_keys_with_each_operator(rt: HostRuntime) -> Result<(), Fail> {
-    for (left, right, outcomes) in TEXT_KEYS {
-        assert!(rt;
-            are_told(rt.alloc(), left, right, outcomes)?,
-            "{left} {right}"
-        );
+    for row in TEXT_KEYS.iter() {
+        assert!(rt; are_told(rt.alloc(), row)?, "{} {}", row.0, row.1);
     }
     Ok(())
 }
 
 #[test]
 fn extras_and_texts_with_each_operator(rt: HostRuntime) -> Result<(), Fail> {
-    for (left, right, outcomes) in EXTRAS {
-        assert!(rt;
-            are_told(rt.alloc(), left, right, outcomes)?,
-            "{left} {right}"
-        );
+    for row in EXTRAS.iter() {
+        assert!(rt; are_told(rt.alloc(), row)?, "{} {}", row.0, row.1);
     }
     Ok(())
 }

@@ -13,6 +13,11 @@ pub fn parsed(alloc: Global, text: &str) -> Answer {
     MarkerExpression::parse::<Url>(alloc, text)
 }
 
+/// The comparison that the text is, where it is one that is kept.
+pub fn kept(alloc: Global, text: &str) -> Option<MarkerExpression> {
+    parsed(alloc, text).ok()?
+}
+
 /// Whether the answer is the fault of the row.
 pub fn is_refused(answer: &Answer, row: Row) -> bool {
     match answer {

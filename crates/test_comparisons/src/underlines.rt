@@ -1,10 +1,11 @@
 //! Whole faults as they are printed, with the underline below the columns that a terminal shows.
 
 use crate::told::parsed;
-use marker_parts::Refusal;
+use marker_parts::Pep508Error;
 use std::alloc::Global;
 use std::test::Fail;
-use test_samples::prints;
+use test_samples::{fault_of, prints};
+use url::Url;
 
 // A text, the message of its fault, and the underline.
 const ROWS: [(&str, &str, &str); 17] = [
@@ -100,18 +101,37 @@ const ROWS: [(&str, &str, &str); 17] = [
     ),
 ];
 
+// Whether this is a fault, and prints so.
+fn fault_prints(
+    alloc: Global,
+    fault: &Option<Pep508Error<Url>>,
+    expected: &str,
+) -> Result<bool, Fail> {
+    match fault {
+        Some(error) => prints(alloc, error, expected),
+        None => Ok(false),
+    }
+}
+
+// Whether the text is at fault, and the fault prints so.
+fn is_fault_printed(alloc: Global, text: &str, expected: &str) -> Result<bool, Fail> {
+    let fault = fault_of(parsed(alloc, text));
+    let is_so = fault_prints(alloc, &fault, expected);
+    drop(fault);
+    is_so
+}
+
 // Whether the fault of the text prints as this message, the text and the underline.
 fn is_underlined(alloc: Global, text: &str, message: &str, underline: &str) -> Result<bool, Fail> {
     let expected = format!(in alloc; "{message}\n{text}\n{underline}")?;
-    match &parsed(alloc, text) {
-        Err(Refusal::Fault(error)) => prints(alloc, error, expected.as_str()),
-        _ => Ok(false),
-    }
+    let is_so = is_fault_printed(alloc, text, expected.as_str());
+    drop(expected);
+    is_so
 }
 
 #[test]
 fn faults_over_their_texts(rt: HostRuntime) -> Result<(), Fail> {
-    for (text, message, underline) in ROWS {
+    for (text, message, underline) in ROWS.iter() {
         assert!(rt;
             is_underlined(rt.alloc(), text, message, underline)?,
             "{text}"

@@ -1,64 +1,45 @@
 //! What lines ask.
 
-use marker_lines::{LineCommand, LineFault};
-use marker_session::Command;
+use crate::served::replies;
 use std::test::*;
 
+// Makes two cells, `os_name == 'a  b '` and its negation.
+const CELLS: &str = "parse os_name == 'a  b '\nnot 0\n";
+
+// A line behind `CELLS`, and its reply.
+const COMMANDS: [(&str, &str); 15] = [
+    // A value and a text are the rest of the line as it is.
+    ("env os_name a  b \neval 0\neval 1", "ok\ntrue\nfalse"),
+    ("env os_name a b\neval 0", "ok\nfalse"),
+    ("parse os_name == 'a  b '\nequal 0 2", "cell 2\ntrue"),
+    // Leading zeros do not count.
+    ("not 01\nequal 0 2", "cell 2\ntrue"),
+    ("and 0 1\neval 2", "cell 2\nfalse"),
+    ("or 1 00\neval 2", "cell 2\ntrue"),
+    ("equal 0 1", "false"),
+    ("disjoint 1 0", "true"),
+    ("equal 99999999999999999999 1", "error cell"),
+    ("not 18446744073709551616", "error cell"),
+    ("eval 0099999999999999999999 dev", "error cell"),
+    ("eval 0 dev -", "error name"),
+    ("extras 1 dev Dev\nequal 1 2", "cell 2\ntrue"),
+    ("possible 1", "true"),
+    ("simplify 0 none excl:3.9\nequal 0 2", "cell 2\ntrue"),
+];
+
 #[test]
-fn reads_each_command(rt: HostRuntime) -> Result<(), Fail> {
-    let LineCommand::Set { key, value } = LineCommand::read(rt.alloc(), b"env os_name a  b ")?
-    else {
-        return Err("env".into());
-    };
-    assert_eq!(rt; (key, value), ("os_name", "a  b "));
-
-    let LineCommand::Run(Command::Parse(text)) = LineCommand::read(rt.alloc(), b"parse ")? else {
-        return Err("parse".into());
-    };
-    assert_eq!(rt; text, "");
-
-    let LineCommand::Evaluate { cell, names } = LineCommand::read(
-        rt.alloc(),
-        b"eval 0099999999999999999999 dev -",
-    )?
-    else {
-        return Err("eval".into());
-    };
-    assert_eq!(rt; cell, usize::MAX);
-    assert_eq!(rt; names.as_slice(), ["dev", "-"].as_slice());
+fn answers_each_command(rt: HostRuntime) -> Result<(), Fail> {
+    for (line, reply) in COMMANDS {
+        let input = format!(in rt.alloc(); "{CELLS}{line}")?;
+        let output = format!(in rt.alloc(); "cell 0\ncell 1\n{reply}\n")?;
+        let written = replies(rt.alloc(), input.as_bytes())?;
+        assert_eq!(rt; written.as_slice(), output.as_bytes(), "{line}");
+    }
     Ok(())
 }
 
-// Whether the line is read as a command on these cells.
-fn asks(rt: HostRuntime, line: &str, cells: (usize, usize)) -> bool {
-    let Ok(LineCommand::Run(command)) = LineCommand::read(rt.alloc(), line.as_bytes()) else {
-        return false;
-    };
-    match command {
-        Command::Not(cell) => line.starts_with("not ") && (cell, cell) == cells,
-        Command::And(left, right) => line.starts_with("and ") && (left, right) == cells,
-        Command::Or(left, right) => line.starts_with("or ") && (left, right) == cells,
-        Command::Equal(left, right) => line.starts_with("equal ") && (left, right) == cells,
-        Command::Disjoint(left, right) => line.starts_with("disjoint ") && (left, right) == cells,
-        _ => false,
-    }
-}
-
 #[test]
-fn reads_commands_on_cells(rt: HostRuntime) {
-    for (line, cells) in [
-        ("not 07", (7, 7)),
-        ("and 0 12", (0, 12)),
-        ("or 3 3", (3, 3)),
-        ("equal 99999999999999999999 1", (usize::MAX, 1)),
-        ("disjoint 2 0", (2, 0)),
-    ] {
-        assert!(rt; asks(rt, line, cells), "{line}");
-    }
-}
-
-#[test]
-fn refuses_other_lines(rt: HostRuntime) {
+fn refuses_other_lines(rt: HostRuntime) -> Result<(), Fail> {
     for line in [
         "",
         "parse",
@@ -73,7 +54,7 @@ fn refuses_other_lines(rt: HostRuntime) {
         "eval x",
         " parse x",
         "PARSE x",
-        "text 0",
+        "texts 0",
         "not",
         "not ",
         "not 0 1",
@@ -85,9 +66,11 @@ fn refuses_other_lines(rt: HostRuntime) {
         "equal 0 ",
         "disjoint -1 0",
     ] {
-        let read = LineCommand::read(rt.alloc(), line.as_bytes());
-        assert!(rt; matches!(&read, Err(LineFault::Malformed)), "{line}");
+        let input = format!(in rt.alloc(); "{line}\n")?;
+        let written = replies(rt.alloc(), input.as_bytes())?;
+        assert_eq!(rt; written.as_slice(), b"error command\n".as_slice(), "{line}");
     }
-    let read = LineCommand::read(rt.alloc(), b"parse \xff");
-    assert!(rt; matches!(&read, Err(LineFault::NotUtf8)));
+    let written = replies(rt.alloc(), b"parse \xff")?;
+    assert_eq!(rt; written.as_slice(), b"error utf8\n".as_slice());
+    Ok(())
 }

@@ -11,7 +11,7 @@ fn answers_the_lines(rt: HostRuntime) -> Result<(), Fail> {
 }
 
 // What is said to lines behind `LINES`.
-const REPLIES_TO_EACH: [(&str, &str); 29] = [
+const REPLIES_TO_EACH: [(&str, &str); 33] = [
     ("eval 0 dev", "true"),
     ("eval 0", "false"),
     ("eval 1", "error cell"),
@@ -19,6 +19,16 @@ const REPLIES_TO_EACH: [(&str, &str); 29] = [
     (
         "parse sys_platform == '' and python_full_version == '0'\neval 1",
         "cell 1\ntrue",
+    ),
+    ("text 0", "text os_name == 'posix' and extra == 'dev'"),
+    (
+        "not 0\ntext 1",
+        "cell 1\ntext os_name != 'posix' or extra != 'dev'",
+    ),
+    ("text 1", "error cell"),
+    (
+        "parse 'a' == 'b'\ntext 1",
+        "cell 1 StringStringComparison\ntext",
     ),
     ("eval 1 -", "error name"),
     ("eval 0 -", "error name"),

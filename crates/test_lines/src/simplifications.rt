@@ -4,8 +4,8 @@ use crate::served::replies;
 use std::alloc::{AllocError, Global};
 use std::test::*;
 
-// A marker, a line on cell 0, a text with a tree of its own in cell 1, and what the line replies. Where the reply is
-// `same`, the line made a cell that is equal to cell 1.
+// A marker, a line on cell 0, a text with a tree of its own in cell 1, and what the line replies.
+// Where the reply is `same`, the line made a cell that is equal to cell 1.
 const SIMPLIFICATIONS: [(&str, &str, &str, &str); 26] = [
     (
         "python_version >= '3.8'",

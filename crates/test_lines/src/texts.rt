@@ -1,8 +1,8 @@
 //! Markers at the edges: the largest number, parentheses to any depth, and texts that are cut.
 
 use crate::served::replies;
-use marker_session::{Command, Reason, Reply, Session};
 use marker_warnings::MarkerWarningKind;
+use pep508_markers::{Command, Reason, Reply, Session};
 use std::alloc::Global;
 use std::test::*;
 

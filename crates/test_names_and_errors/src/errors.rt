@@ -1,4 +1,5 @@
-//! What no contract says: the widths of characters, whole texts of faults, and URLs read through the bound.
+//! What no contract says: the widths of characters, whole texts of faults, and URLs read through
+//! the bound.
 
 use pep508_errors::{Pep508Error, Pep508ErrorSource, Pep508Url, Surroundings, columns_before};
 use refusal::Refusal;

@@ -35,7 +35,8 @@ impl Clone for Marked {
 impl PartialEq for Marked {
     ghost eq = { eq_by_cmp (on (λ m. m.number) nat_cmp) };
 
-    ghost laws = { partial_equiv_from_equiv (eq_by_cmp_equiv (on_total (λ m. m.number) nat_cmp_total)) };
+    ghost laws = { partial_equiv_from_equiv
+        (eq_by_cmp_equiv (on_total (λ m. m.number) nat_cmp_total)) };
 
     fn eq(&self, other: &Marked) -> bool {
         self.number.cmp(&other.number).is_eq()
@@ -101,8 +102,8 @@ fn points_are_sorted_and_joined(rt: HostRuntime) -> Result<(), Fail> {
 #[test]
 fn overlay_counts_comparisons(rt: HostRuntime) -> Result<(), Fail> {
     let alloc = rt.alloc();
-    let one = Cuts::from_ranges(alloc, &Ranges::singleton(alloc, 1u8)?, 7u8, 8)?;
-    let from_one = Cuts::from_ranges(alloc, &Ranges::higher_than(alloc, 1u8)?, 5u8, 6)?;
+    let one = Cuts::from_ranges(Ranges::singleton(alloc, 1u8)?, 7u8, 8)?;
+    let from_one = Cuts::from_ranges(Ranges::higher_than(alloc, 1u8)?, 5u8, 6)?;
     assert_eq!(rt; one.piece_count(), 3);
     assert_eq!(rt; from_one.piece_count(), 2);
     let (both, comparisons) = one.overlay(alloc, &from_one)?;
@@ -111,7 +112,7 @@ fn overlay_counts_comparisons(rt: HostRuntime) -> Result<(), Fail> {
     assert!(rt; *both.at(&0) == (8, 6) && *both.at(&1) == (7, 5) && *both.at(&2) == (8, 5));
     let joined = both.with_values(vec![in alloc; 1u8, 2, 2]?)?;
     assert_eq!(rt; joined.piece_count(), 2);
-    assert!(rt; joined == Cuts::from_ranges(alloc, &Ranges::strictly_lower_than(alloc, 1)?, 1, 2)?);
+    assert!(rt; joined == Cuts::from_ranges(Ranges::strictly_lower_than(alloc, 1)?, 1, 2)?);
     assert!(rt; joined.clone()? == joined);
     let mut pieces = joined.pieces();
     let Some(first) = pieces.next() else {
@@ -135,8 +136,8 @@ fn counts(
     left: &Ranges<u8>,
     right: &Ranges<u8>,
 ) -> Result<(usize, usize), AllocError> {
-    let left = Cuts::from_ranges(alloc, left, 1u8, 0)?;
-    let right = Cuts::from_ranges(alloc, right, 1u8, 0)?;
+    let left = Cuts::from_ranges(left.clone()?, 1u8, 0)?;
+    let right = Cuts::from_ranges(right.clone()?, 1u8, 0)?;
     let (both, comparisons) = left.overlay(alloc, &right)?;
     Ok((both.piece_count(), comparisons))
 }
@@ -170,8 +171,8 @@ fn each_comparison_is_counted(rt: HostRuntime) -> Result<(), Fail> {
 #[test]
 fn pairs_are_given_in_order(rt: HostRuntime) -> Result<(), Fail> {
     let alloc = rt.alloc();
-    let one = Cuts::from_ranges(alloc, &Ranges::singleton(alloc, 1u8)?, 7u8, 8)?;
-    let from_one = Cuts::from_ranges(alloc, &Ranges::higher_than(alloc, 1u8)?, 5u8, 6)?;
+    let one = Cuts::from_ranges(Ranges::singleton(alloc, 1u8)?, 7u8, 8)?;
+    let from_one = Cuts::from_ranges(Ranges::higher_than(alloc, 1u8)?, 5u8, 6)?;
     let mut pairs = one.pairs(&from_one);
     assert!(rt; pairs.next() == Some((&8, &6)));
     assert!(rt; pairs.next() == Some((&7, &5)));
@@ -200,9 +201,9 @@ fn equal_sets_and_functions_hash_alike(rt: HostRuntime) -> Result<(), Fail> {
     assert!(rt; points == singles && hash_of_set(&points) == hash_of_set(&singles));
     assert!(rt; hash_of_set(&points.clone()?) == hash_of_set(&points));
     assert!(rt; hash_of_set(&points.complement(alloc)?) != hash_of_set(&points));
-    let made = Cuts::from_ranges(alloc, &points, 7u8, 8)?;
     let outside = points.complement(alloc)?;
-    let turned = Cuts::from_ranges(alloc, &outside, 8u8, 7)?;
+    let made = Cuts::from_ranges(points, 7u8, 8)?;
+    let turned = Cuts::from_ranges(outside, 8u8, 7)?;
     assert!(rt; made == turned && hash_of_function(&made) == hash_of_function(&turned));
     assert_eq!(rt; made.piece_count(), 5);
     let named = made.with_values(vec![in alloc; 8u8, 7, 8, 7, 8]?)?;
@@ -252,11 +253,11 @@ fn texts_have_the_value_of_their_piece(rt: HostRuntime) -> Result<(), Fail> {
     let from_b = Ranges::higher_than(alloc, String::from_str(alloc, "b")?)?;
     let to_d = Ranges::lower_than(alloc, String::from_str(alloc, "d")?)?;
     let both = from_b.intersection(alloc, &to_d)?;
-    let inside = Cuts::from_ranges(alloc, &both, 1u8, 0)?;
-    let outside = Cuts::from_ranges(alloc, &both.complement(alloc)?, 1u8, 0)?;
+    let outside = Cuts::from_ranges(both.complement(alloc)?, 1u8, 0)?;
+    let inside = Cuts::from_ranges(both, 1u8, 0)?;
     let above_b = Ranges::strictly_higher_than(alloc, String::from_str(alloc, "b")?)?;
     let below_d = Ranges::strictly_lower_than(alloc, String::from_str(alloc, "d")?)?;
-    let between = Cuts::from_ranges(alloc, &above_b.intersection(alloc, &below_d)?, 1u8, 0)?;
+    let between = Cuts::from_ranges(above_b.intersection(alloc, &below_d)?, 1u8, 0)?;
     for (text, in_both, in_between) in [
         ("", 0, 0),
         ("a", 0, 0),
@@ -280,7 +281,7 @@ fn texts_have_the_value_of_their_piece(rt: HostRuntime) -> Result<(), Fail> {
 #[test]
 fn values_are_gathered_in_order(rt: HostRuntime) -> Result<(), Fail> {
     let alloc = rt.alloc();
-    let one = Cuts::from_ranges(alloc, &Ranges::singleton(alloc, 1u8)?, 7u8, 8)?;
+    let one = Cuts::from_ranges(Ranges::singleton(alloc, 1u8)?, 7u8, 8)?;
     let pairs = one.gather(alloc)?;
     assert_eq!(rt; pairs.len(), 2);
     assert!(rt; *pairs[0].0 == 8 && pairs[0].1 == Ranges::singleton(alloc, 1)?.complement(alloc)?);
@@ -340,8 +341,8 @@ fn values_that_tie_are_one_point(rt: HostRuntime) -> Result<(), Fail> {
     let from = Ranges::higher_than(alloc, with_mark(1, 8))?;
     assert!(rt; below.union(alloc, &from)? == Ranges::full(alloc));
     assert!(rt; below.complement(alloc)? == from);
-    let sevens = Cuts::from_ranges(alloc, &left, 7u8, 0)?;
-    let eights = Cuts::from_ranges(alloc, &right, 8u8, 0)?;
+    let sevens = Cuts::from_ranges(left, 7u8, 0)?;
+    let eights = Cuts::from_ranges(right, 8u8, 0)?;
     let (both, _) = sevens.overlay(alloc, &eights)?;
     assert_eq!(rt; both.piece_count(), 3);
     assert!(rt; *both.at(&with_mark(1, 9)) == (7, 8) && *both.at(&with_mark(2, 9)) == (0, 0));

@@ -1,6 +1,6 @@
 //! Texts that are cut after each character: each is read, or refused with a span of it.
 
-use crate::shown::{is_span, shown_fault, variables};
+use crate::shown::{is_span, show_fault, variables};
 use pep508_errors::Surroundings;
 use refusal::Refusal;
 use requirement_words::{Body, read_head, read_tail, read_unnamed_head};
@@ -39,7 +39,7 @@ fn is_answered(
         Err(Refusal::Fault(fault)) => {
             return Ok(
                 is_span(text, fault.start(text), fault.len())
-                    && !shown_fault(alloc, text, &fault)?.as_str().is_empty(),
+                    && !show_fault(alloc, text, &fault)?.as_str().is_empty(),
             );
         }
         Err(_) => return Err(AllocError),
@@ -70,7 +70,7 @@ fn is_answered_unnamed(alloc: Global, text: &str) -> Result<bool, AllocError> {
 }
 
 // The first front of a text that is not answered, if there is one.
-fn unanswered<'a>(
+fn first_unanswered<'a>(
     alloc: Global,
     text: &'a str,
     vars: &BTreeMap<String, String>,
@@ -95,7 +95,7 @@ fn each_front_is_answered(rt: HostRuntime) -> Result<(), Fail> {
     let alloc = rt.alloc();
     let vars = variables(alloc, &[("HOME", "/home/ferris")])?;
     for text in TEXTS {
-        let found = unanswered(alloc, text, &vars)?;
+        let found = first_unanswered(alloc, text, &vars)?;
         assert_eq!(rt; found, None, "{text}");
     }
     Ok(())

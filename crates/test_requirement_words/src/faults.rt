@@ -1,6 +1,6 @@
 //! What is wrong with a text, where, and in which words.
 
-use crate::shown::{shown, variables};
+use crate::shown::{show, variables};
 use pep440_specifier::{Refusal, VersionSpecifier};
 use std::alloc::{AllocError, Global};
 use std::test::Fail;
@@ -20,7 +20,7 @@ const INVALID_EXTRA: &str =
 const TRAILING: &str = "Expected end of input or `;`, found ";
 
 // A place, and a message with what was found there.
-fn told(alloc: Global, span: &str, message: &str, found: &str) -> Result<String, AllocError> {
+fn fault_text(alloc: Global, span: &str, message: &str, found: &str) -> Result<String, AllocError> {
     format!(in alloc; "{span} {message}`{found}`")
 }
 
@@ -73,88 +73,94 @@ fn found_characters(rt: HostRuntime) -> Result<(), Fail> {
         ("foo(>=1)(", "8 1", TRAILING, "("),
     ];
     for (text, span, message, found) in rows {
-        let expected = told(alloc, span, message, found)?;
-        let shown = shown(alloc, text, &vars)?;
+        let expected = fault_text(alloc, span, message, found)?;
+        let shown = show(alloc, text, &vars)?;
         assert_eq!(rt; shown.as_str(), expected.as_str(), "{text}");
     }
     Ok(())
 }
 
+const EMPTY: &str = "Empty field is not allowed for PEP508";
+
+const BRACKET: &str =
+    "Missing closing bracket (expected ']', found end of dependency specification)";
+
+const PARENTHESIS: &str =
+    "Missing closing parenthesis (expected ')', found end of dependency specification)";
+
+// Texts, where the fault stands, and what is said of it.
+const OTHERS: [(&str, &str, &str); 24] = [
+    ("", "0 1", EMPTY),
+    ("  ", "0 1", EMPTY),
+    ("\u{2003} ", "0 3", EMPTY),
+    (
+        "foo- >1",
+        "3 1",
+        "Package name must end with an alphanumeric character, not '-'",
+    ),
+    (
+        "foo_",
+        "3 1",
+        "Package name must end with an alphanumeric character, not '_'",
+    ),
+    (
+        " a.é",
+        "2 1",
+        "Package name must end with an alphanumeric character, not '.'",
+    ),
+    (
+        "foo[a-]",
+        "5 1",
+        "Extra name must end with an alphanumeric character, not '-'",
+    ),
+    (
+        "foo[a-",
+        "5 1",
+        "Extra name must end with an alphanumeric character, not '-'",
+    ),
+    (
+        "foo[b,a_. ]",
+        "8 1",
+        "Extra name must end with an alphanumeric character, not '.'",
+    ),
+    ("foo[", "3 1", BRACKET),
+    ("foo[a", "3 1", BRACKET),
+    ("foo [a ", "4 1", BRACKET),
+    ("foo[a,", "3 1", BRACKET),
+    ("foo[a, b ,  ", "3 1", BRACKET),
+    ("foo (", "4 1", PARENTHESIS),
+    ("foo (>=1", "4 1", PARENTHESIS),
+    ("foo (>=1,", "4 1", PARENTHESIS),
+    ("foo (>=1,é", "4 1", PARENTHESIS),
+    ("foo( >=1 ;m", "3 1", PARENTHESIS),
+    ("foo @", "5 1", "Expected URL"),
+    ("foo @ \u{2003}", "9 1", "Expected URL"),
+    (
+        "foo @ https://x.org/a; os_name == 'a'",
+        "21 1",
+        "Missing space before ';', the end of the URL is ambiguous",
+    ),
+    (
+        "foo @ é# m",
+        "8 1",
+        "Missing space before '#', the end of the URL is ambiguous",
+    ),
+    (
+        "foo @ a; b;",
+        "7 1",
+        "Missing space before ';', the end of the URL is ambiguous",
+    ),
+];
+
 #[test]
 fn other_messages(rt: HostRuntime) -> Result<(), Fail> {
     let alloc = rt.alloc();
     let vars = variables(alloc, &[])?;
-    let empty = "Empty field is not allowed for PEP508";
-    let bracket = "Missing closing bracket (expected ']', found end of dependency specification)";
-    let parenthesis =
-        "Missing closing parenthesis (expected ')', found end of dependency specification)";
-    let rows = [
-        ("", "0 1", empty),
-        ("  ", "0 1", empty),
-        ("\u{2003} ", "0 3", empty),
-        (
-            "foo- >1",
-            "3 1",
-            "Package name must end with an alphanumeric character, not '-'",
-        ),
-        (
-            "foo_",
-            "3 1",
-            "Package name must end with an alphanumeric character, not '_'",
-        ),
-        (
-            " a.é",
-            "2 1",
-            "Package name must end with an alphanumeric character, not '.'",
-        ),
-        (
-            "foo[a-]",
-            "5 1",
-            "Extra name must end with an alphanumeric character, not '-'",
-        ),
-        (
-            "foo[a-",
-            "5 1",
-            "Extra name must end with an alphanumeric character, not '-'",
-        ),
-        (
-            "foo[b,a_. ]",
-            "8 1",
-            "Extra name must end with an alphanumeric character, not '.'",
-        ),
-        ("foo[", "3 1", bracket),
-        ("foo[a", "3 1", bracket),
-        ("foo [a ", "4 1", bracket),
-        ("foo[a,", "3 1", bracket),
-        ("foo[a, b ,  ", "3 1", bracket),
-        ("foo (", "4 1", parenthesis),
-        ("foo (>=1", "4 1", parenthesis),
-        ("foo (>=1,", "4 1", parenthesis),
-        ("foo (>=1,é", "4 1", parenthesis),
-        ("foo( >=1 ;m", "3 1", parenthesis),
-        ("foo @", "5 1", "Expected URL"),
-        ("foo @ \u{2003}", "9 1", "Expected URL"),
-        (
-            "foo @ https://x.org/a; os_name == 'a'",
-            "21 1",
-            "Missing space before ';', the end of the URL is ambiguous",
-        ),
-        (
-            "foo @ é# m",
-            "8 1",
-            "Missing space before '#', the end of the URL is ambiguous",
-        ),
-        (
-            "foo @ a; b;",
-            "7 1",
-            "Missing space before ';', the end of the URL is ambiguous",
-        ),
-    ];
-    for (text, span, message) in rows {
+    for (text, span, message) in OTHERS {
         let mut expected = String::from_str(alloc, span)?;
         expected.push(' ')?;
         expected.push_str(message)?;
-        let shown = shown(alloc, text, &vars)?;
+        let shown = show(alloc, text, &vars)?;
         assert_eq!(rt; shown.as_str(), expected.as_str(), "{text}");
     }
     Ok(())
@@ -191,7 +197,7 @@ fn pieces_that_are_no_specifiers(rt: HostRuntime) -> Result<(), Fail> {
         let mut expected = String::from_str(alloc, span)?;
         expected.push(' ')?;
         expected.push_str(said_of(alloc, piece)?.as_str())?;
-        let shown = shown(alloc, text, &vars)?;
+        let shown = show(alloc, text, &vars)?;
         assert_eq!(rt; shown.as_str(), expected.as_str(), "{text}");
     }
     Ok(())
@@ -227,7 +233,7 @@ fn what_stands_without_a_name(rt: HostRuntime) -> Result<(), Fail> {
         )?;
         expected.push_str(example)?;
         expected.push_str("`).")?;
-        let shown = shown(alloc, text, &vars)?;
+        let shown = show(alloc, text, &vars)?;
         assert_eq!(rt; shown.as_str(), expected.as_str(), "{text}");
     }
     let named = [
@@ -240,7 +246,7 @@ fn what_stands_without_a_name(rt: HostRuntime) -> Result<(), Fail> {
         ("foo.gz", "foo-gz"),
     ];
     for (text, expected) in named {
-        let shown = shown(alloc, text, &vars)?;
+        let shown = show(alloc, text, &vars)?;
         assert_eq!(rt; shown.as_str(), expected, "{text}");
     }
     Ok(())

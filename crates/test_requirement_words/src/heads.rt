@@ -1,6 +1,7 @@
-//! Requirements that are read: their names, extras, specifiers and URLs, and where their markers begin.
+//! Requirements that are read: their names, extras, specifiers and URLs, and where their markers
+//! begin.
 
-use crate::shown::{shown, variables};
+use crate::shown::{show, variables};
 use std::test::Fail;
 
 const ROWS: [(&str, &str); 40] = [
@@ -59,7 +60,7 @@ const ROWS: [(&str, &str); 40] = [
 fn requirements_are_read(rt: HostRuntime) -> Result<(), Fail> {
     let vars = variables(rt.alloc(), &[])?;
     for (text, expected) in ROWS {
-        let found = shown(rt.alloc(), text, &vars)?;
+        let found = show(rt.alloc(), text, &vars)?;
         assert_eq!(rt; found.as_str(), expected, "{text}");
     }
     Ok(())
@@ -77,14 +78,14 @@ fn split_marker(shown: &str) -> (&str, &str) {
 fn printed_texts_read_back(rt: HostRuntime) -> Result<(), Fail> {
     let vars = variables(rt.alloc(), &[])?;
     for (text, _) in ROWS {
-        let once = shown(rt.alloc(), text, &vars)?;
+        let once = show(rt.alloc(), text, &vars)?;
         let (printed, marker) = split_marker(once.as_str());
         let mut again = String::from_str(rt.alloc(), printed)?;
         if !marker.is_empty() {
             again.push_str(" ;")?;
             again.push_str(marker)?;
         }
-        let twice = shown(rt.alloc(), again.as_str(), &vars)?;
+        let twice = show(rt.alloc(), again.as_str(), &vars)?;
         let (printed_again, _) = split_marker(twice.as_str());
         assert_eq!(rt; printed_again, printed, "{text}");
     }

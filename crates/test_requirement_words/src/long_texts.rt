@@ -1,4 +1,5 @@
-//! Long texts: many extras, many specifiers, a long name, many brackets, and long runs of white space.
+//! Long texts: many extras, many specifiers, a long name, many brackets, and long runs of white
+//! space.
 
 use crate::shown::variables;
 use pep508_errors::Surroundings;
@@ -10,7 +11,7 @@ const MANY: usize = 100_000;
 
 const MILLION: usize = 1_000_000;
 
-fn repeated(alloc: Global, text: &str, count: usize) -> Result<String, AllocError> {
+fn repeat(alloc: Global, text: &str, count: usize) -> Result<String, AllocError> {
     let mut whole = String::new(alloc);
     for _i in 0..count {
         whole.push_str(text)?;
@@ -42,7 +43,7 @@ fn sizes_of(alloc: Global, text: &str) -> Result<(usize, usize, usize), AllocErr
 fn many_extras(rt: HostRuntime) -> Result<(), Fail> {
     let alloc = rt.alloc();
     let mut text = String::from_str(alloc, "foo[")?;
-    text.push_str(repeated(alloc, "a-B, ", MANY - 1)?.as_str())?;
+    text.push_str(repeat(alloc, "a-B, ", MANY - 1)?.as_str())?;
     text.push_str("c]")?;
     let sizes = sizes_of(alloc, text.as_str())?;
     assert_eq!(rt; sizes, (3, MANY, 0));
@@ -53,7 +54,7 @@ fn many_extras(rt: HostRuntime) -> Result<(), Fail> {
 fn many_specifiers(rt: HostRuntime) -> Result<(), Fail> {
     let alloc = rt.alloc();
     let mut text = String::from_str(alloc, "foo ")?;
-    text.push_str(repeated(alloc, ">=1,", MANY - 1)?.as_str())?;
+    text.push_str(repeat(alloc, ">=1,", MANY - 1)?.as_str())?;
     text.push_str("<2 ;")?;
     let sizes = sizes_of(alloc, text.as_str())?;
     assert_eq!(rt; sizes, (3, 0, MANY));
@@ -62,7 +63,7 @@ fn many_specifiers(rt: HostRuntime) -> Result<(), Fail> {
 
 #[test]
 fn a_long_name(rt: HostRuntime) -> Result<(), Fail> {
-    let text = repeated(rt.alloc(), "0123456789", MILLION)?;
+    let text = repeat(rt.alloc(), "0123456789", MILLION)?;
     let sizes = sizes_of(rt.alloc(), text.as_str())?;
     assert_eq!(rt; sizes, (10 * MILLION, 0, 0));
     Ok(())
@@ -71,7 +72,7 @@ fn a_long_name(rt: HostRuntime) -> Result<(), Fail> {
 // Whether a URL of the first piece so many times, and its rest, are the text.
 fn is_split(alloc: Global, piece: &str, place: UrlPlace) -> Result<bool, AllocError> {
     let mut text = String::from_str(alloc, "a")?;
-    text.push_str(repeated(alloc, piece, MILLION)?.as_str())?;
+    text.push_str(repeat(alloc, piece, MILLION)?.as_str())?;
     text.push('b')?;
     let (url, rest) = split_url(text.as_str(), place);
     Ok(url.len() == text.as_str().len() && rest.is_empty())
@@ -107,7 +108,7 @@ fn brackets_and_white_space(rt: HostRuntime) -> Result<(), Fail> {
     let found = is_split(alloc, "[ ", UrlPlace::BehindName)?;
     assert!(rt; found);
     let mut text = String::from_str(alloc, "a")?;
-    text.push_str(repeated(alloc, "[ ", MILLION)?.as_str())?;
+    text.push_str(repeat(alloc, "[ ", MILLION)?.as_str())?;
     let sizes = unnamed_sizes_of(alloc, text.as_str());
     assert_eq!(rt; sizes, (2 * MILLION + 1, 0));
     Ok(())

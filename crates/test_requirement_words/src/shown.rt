@@ -26,7 +26,7 @@ pub fn variables(
 }
 
 /// The place of a fault in its text, its length and its message.
-pub fn shown_fault(alloc: Global, text: &str, fault: &Fault<'_>) -> Result<String, AllocError> {
+pub fn show_fault(alloc: Global, text: &str, fault: &Fault<'_>) -> Result<String, AllocError> {
     let (start, len) = (fault.start(text), fault.len());
     let message = fault.to_string(alloc)?;
     let kind = if fault.is_unsupported() {
@@ -64,7 +64,7 @@ impl Display for Parts<'_> {
 }
 
 /// A requirement's parts and the text of its marker behind `|`, or what is wrong with it.
-pub fn shown(
+pub fn show(
     alloc: Global,
     text: &str,
     vars: &BTreeMap<String, String>,
@@ -76,7 +76,7 @@ pub fn shown(
     };
     let (head, rest) = match read_head(alloc, text, &surroundings) {
         Ok(read) => read,
-        Err(Refusal::Fault(fault)) => return shown_fault(alloc, text, &fault),
+        Err(Refusal::Fault(fault)) => return show_fault(alloc, text, &fault),
         Err(_) => return Err(AllocError),
     };
     let url = match &head.body {
@@ -85,7 +85,7 @@ pub fn shown(
     };
     let marker = match read_tail(url, rest) {
         Ok(marker) => marker,
-        Err(fault) => return shown_fault(alloc, text, &fault),
+        Err(fault) => return show_fault(alloc, text, &fault),
     };
     let mut shown = Parts { head }.to_string(alloc)?;
     push_marker(&mut shown, marker)?;
@@ -112,16 +112,17 @@ impl Display for Names {
     }
 }
 
-/// A URL that stands without a name, its extras, and the text of its marker behind `|`, or what is wrong.
-pub fn shown_unnamed(alloc: Global, text: &str) -> Result<String, AllocError> {
+/// A URL that stands without a name, its extras, and the text of its marker behind `|`, or what is
+/// wrong.
+pub fn show_unnamed(alloc: Global, text: &str) -> Result<String, AllocError> {
     let (head, rest) = match read_unnamed_head(alloc, text) {
         Ok(read) => read,
-        Err(Refusal::Fault(fault)) => return shown_fault(alloc, text, &fault),
+        Err(Refusal::Fault(fault)) => return show_fault(alloc, text, &fault),
         Err(_) => return Err(AllocError),
     };
     let marker = match read_tail(head.given, rest) {
         Ok(marker) => marker,
-        Err(fault) => return shown_fault(alloc, text, &fault),
+        Err(fault) => return show_fault(alloc, text, &fault),
     };
     let mut shown = String::from_str(alloc, head.url)?;
     shown.push_str(Names { names: head.extras }.to_string(alloc)?.as_str())?;

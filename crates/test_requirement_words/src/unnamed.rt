@@ -1,6 +1,6 @@
 //! Requirements without a name.
 
-use crate::shown::shown_unnamed;
+use crate::shown::show_unnamed;
 use std::test::Fail;
 
 #[test]
@@ -42,7 +42,7 @@ fn urls_and_their_extras(rt: HostRuntime) -> Result<(), Fail> {
         ("a[b] #c", "5 1 Expected end of input or `;`, found `#`"),
     ];
     for (text, expected) in rows {
-        let shown = shown_unnamed(rt.alloc(), text)?;
+        let shown = show_unnamed(rt.alloc(), text)?;
         assert_eq!(rt; shown.as_str(), expected, "{text}");
     }
     Ok(())

@@ -1,5 +1,5 @@
-//! Tests of markers under a range of Python versions, of extras that are granted, and of evaluations without an
-//! environment.
+//! Tests of markers under a range of Python versions, of extras that are granted, and of
+//! evaluations without an environment.
 #![tactic(auto)]
 
 #[cfg(test)]

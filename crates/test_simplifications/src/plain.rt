@@ -7,7 +7,8 @@ use std::alloc::Global;
 use std::test::Fail;
 use test_samples::{bound_of, environment_of, extras_of, versions_of};
 
-// Markers on the Python version, the implementation's version, a text, a part of one, and two extras.
+// Markers on the Python version, the implementation's version, a text, a part of one, and two
+// extras.
 const MARKERS: [&str; 9] = [
     "python_version >= '3.8'",
     "python_full_version == '3.9.1' or os_name == 'a'",
@@ -20,8 +21,8 @@ const MARKERS: [&str; 9] = [
     "extra != 'x' and (extra == 'y' or python_version == '3.9') or os_name in 'ab'",
 ];
 
-// A range, a version below it and the one that stands for it, one inside, and one above it and the one that stands for it.
-// Where nothing lies below or above, it is a version inside.
+// A range, a version below it and the one that stands for it, one inside, and one above it and the
+// one that stands for it. Where nothing lies below or above, it is a version inside.
 const RANGES: [(&str, &str, [&str; 5]); 5] = [
     (">=3.8", "<3.11", ["2.7", "3.8", "3.9", "3.12", "3.10.99"]),
     (">=3.9", "", ["3.8.7", "3.9", "3.9.1", "3.9.1", "3.9.1"]),
@@ -57,7 +58,8 @@ fn truth(
     }
 }
 
-// Whether two markers are both true or both false, each at a Python version, whatever the system and the extras.
+// Whether two markers are both true or both false, each at a Python version, whatever the system
+// and the extras.
 fn agree(
     alloc: Global,
     interner: &Interner,

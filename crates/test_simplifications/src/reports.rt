@@ -7,7 +7,8 @@ use std::alloc::{AllocError, Global};
 use std::test::Fail;
 use test_samples::environment_of;
 
-// A marker, whether it is true on Linux with Python 3.7, and how often a text is compared by its order.
+// A marker, whether it is true on Linux with Python 3.7, and how often a text is compared by its
+// order.
 const ROWS: [(&str, bool, usize); 18] = [
     ("'a' == 'b'", true, 0),
     ("python_version > '3.6'", true, 0),

@@ -9,7 +9,8 @@ use std::alloc::Global;
 use std::test::Fail;
 use test_samples::extras_of;
 
-// The conjunction of many comparisons, each with its number in place of `#`, from the last one down to the first.
+// The conjunction of many comparisons, each with its number in place of `#`, from the last one down
+// to the first.
 fn all_of(
     alloc: Global,
     interner: &mut Interner,
@@ -30,12 +31,12 @@ fn all_of(
     held(interner, all)
 }
 
-// Each call is nested as deep as the tree.
+// Ids that wait for those below them stand in a list, so that depth takes no stack.
 #[test]
-fn two_thousand_extras_are_granted(rt: HostRuntime) -> Result<(), Fail> {
+fn twenty_thousand_extras_are_granted(rt: HostRuntime) -> Result<(), Fail> {
     let alloc = rt.alloc();
     let mut interner = Interner::new(alloc);
-    let all = all_of(alloc, &mut interner, "extra == 'x#'", 2_000)?;
+    let all = all_of(alloc, &mut interner, "extra == 'x#'", 20_000)?;
     let same = all.simplify_extras(&mut interner, &[])?;
     assert!(rt; same == all);
     let one = tree(alloc, &mut interner, "extra == 'x11000'")?;

@@ -3,21 +3,22 @@
 ghost use Rattle.std.specs.Prelude.{IfOk};
 ghost use Rattle.marker_graph.specs.Contents.{IsHeld};
 
-use marker_graph::{Interner, InvalidExpression, MarkerTree};
+use marker_grammar::read;
+use marker_graph::{Interner, MarkerTree};
 use marker_parts::Refusal;
-use marker_session::tree_of;
 use pep440_rs::Version;
-use pep508_markers::read;
+use pep508_markers::tree_of;
 use std::alloc::Global;
+use std::convert::Infallible;
 use std::ops::Bound;
 use std::test::Fail;
 
 // Why no tree was made of a text.
-fn failure(refusal: Refusal<InvalidExpression>) -> Fail {
+fn failure(refusal: Refusal<Infallible>) -> Fail {
     match refusal {
         Refusal::OutOfMemory => "out of memory".into(),
         Refusal::SegmentAtEnd => "segment at end".into(),
-        Refusal::Fault(_) => "invalid expression".into(),
+        Refusal::Fault(never) => match never {},
     }
 }
 

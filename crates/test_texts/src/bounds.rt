@@ -1,6 +1,7 @@
 //! The comparisons that ranges of texts are.
 
 use marker_words::MarkerOperator;
+use std::alloc::Global;
 use std::ops::Bound;
 use std::test::Fail;
 
@@ -105,19 +106,44 @@ fn bound(end: End, text: &String) -> Bound<&String> {
     }
 }
 
+// The operator of a comparison with this text. Nothing where there is no comparison, or it is with
+// another text.
+fn operator_of(pair: Option<(MarkerOperator, &String)>, text: &str) -> Option<MarkerOperator> {
+    match pair {
+        Some((operator, of)) if of.as_str() == text => Some(operator),
+        _ => None,
+    }
+}
+
+// Whether a range is the conjunction of these comparisons, and of no other.
+fn are_comparisons(
+    lower: Bound<&String>,
+    upper: Bound<&String>,
+    expected: &[(MarkerOperator, &str)],
+) -> bool {
+    let mut pairs = MarkerOperator::from_bounds((lower, upper));
+    for (operator, text) in expected {
+        if operator_of(pairs.next(), text) != Some(*operator) {
+            return false;
+        }
+    }
+    pairs.next().is_none() && pairs.next().is_none()
+}
+
+// Whether the range of the row is the conjunction of its comparisons.
+fn is_conjunction(alloc: Global, row: &Row) -> Result<bool, Fail> {
+    let (lower, upper, expected) = *row;
+    let below = String::from_str(alloc, text_of(lower))?;
+    let above = String::from_str(alloc, text_of(upper))?;
+    Ok(are_comparisons(bound(lower, &below), bound(upper, &above), expected))
+}
+
 #[test]
 fn ranges_are_conjunctions(rt: HostRuntime) -> Result<(), Fail> {
-    for (lower, upper, expected) in ROWS {
-        let below = String::from_str(rt.alloc(), text_of(lower))?;
-        let above = String::from_str(rt.alloc(), text_of(upper))?;
-        let mut pairs = MarkerOperator::from_bounds((bound(lower, &below), bound(upper, &above)));
-        for (operator, text) in expected {
-            let (found, of) = pairs.next().ok_or("a comparison is missing")?;
-            assert_eq!(rt; found, *operator, "{lower:?} {upper:?}");
-            assert_eq!(rt; of.as_str(), *text, "{lower:?} {upper:?}");
-        }
-        assert!(rt; pairs.next().is_none(), "{lower:?} {upper:?}");
-        assert!(rt; pairs.next().is_none(), "{lower:?} {upper:?}");
+    for row in ROWS.iter() {
+        let conjunction = is_conjunction(rt.alloc(), row)?;
+        let (lower, upper, _) = row;
+        assert!(rt; conjunction, "{lower:?} {upper:?}");
     }
     Ok(())
 }
@@ -137,24 +163,33 @@ const HALVES: [(End, Option<MarkerOperator>, Option<MarkerOperator>); 3] = [
     (End::Unbounded, None, None),
 ];
 
-// The operator of a comparison with this text. Nothing where there is no comparison, or it is with another text.
-fn operator_of(pair: Option<(MarkerOperator, &String)>, text: &str) -> Option<MarkerOperator> {
-    match pair {
-        Some((operator, of)) if of.as_str() == text => Some(operator),
-        _ => None,
-    }
+// Whether a bound is that comparison with this text, or none.
+fn is_comparison(
+    pair: Option<(MarkerOperator, &String)>,
+    text: &str,
+    expected: Option<MarkerOperator>,
+) -> bool {
+    pair.is_none() == expected.is_none() && operator_of(pair, text) == expected
+}
+
+// Whether an end is these comparisons, as a lower and as an upper bound.
+fn is_half(
+    alloc: Global,
+    end: End,
+    lower: Option<MarkerOperator>,
+    upper: Option<MarkerOperator>,
+) -> Result<bool, Fail> {
+    let text = String::from_str(alloc, text_of(end))?;
+    let below = MarkerOperator::from_lower_bound(bound(end, &text));
+    let above = MarkerOperator::from_upper_bound(bound(end, &text));
+    Ok(is_comparison(below, &text, lower) && is_comparison(above, &text, upper))
 }
 
 #[test]
 fn each_bound_is_a_comparison(rt: HostRuntime) -> Result<(), Fail> {
-    for (end, lower, upper) in HALVES {
-        let text = String::from_str(rt.alloc(), text_of(end))?;
-        let below = MarkerOperator::from_lower_bound(bound(end, &text));
-        let above = MarkerOperator::from_upper_bound(bound(end, &text));
-        assert_eq!(rt; below.is_none(), lower.is_none(), "{end:?}");
-        assert_eq!(rt; above.is_none(), upper.is_none(), "{end:?}");
-        assert_eq!(rt; operator_of(below, &text), lower, "{end:?}");
-        assert_eq!(rt; operator_of(above, &text), upper, "{end:?}");
+    for (end, lower, upper) in HALVES.iter() {
+        let half = is_half(rt.alloc(), *end, *lower, *upper)?;
+        assert!(rt; half, "{end:?}");
     }
     Ok(())
 }

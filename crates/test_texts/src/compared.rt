@@ -1,6 +1,8 @@
 //! Each comparison of small texts, compared with what a plain program makes of it.
 
 use crate::values::{linux, truth};
+use marker_parts::MarkerEnvironment;
+use std::alloc::Global;
 use std::test::Fail;
 
 const TEXTS: [&str; 4] = ["", "a", "ab", "b"];
@@ -21,27 +23,52 @@ fn stands(left: &str, operator: &str, right: &str) -> bool {
     }
 }
 
+// Whether a comparison is told to hold in an environment.
+fn holds(
+    alloc: Global,
+    environment: &MarkerEnvironment,
+    left: &str,
+    operator: &str,
+    right: &str,
+) -> Result<bool, Fail> {
+    let text = format!(in alloc; "{left} {operator} {right}")?;
+    truth(alloc, text.as_str(), environment, &[])
+}
+
+// Whether the comparison of `os_name`, which has this value, with a text is told as it is, where
+// the text stands behind the operator, and where it stands before.
+fn is_told(
+    alloc: Global,
+    environment: &MarkerEnvironment,
+    value: &str,
+    operator: &str,
+    text: &str,
+) -> Result<bool, Fail> {
+    let quoted = format!(in alloc; "'{text}'")?;
+    let behind = holds(alloc, environment, "os_name", operator, quoted.as_str())?;
+    let before = holds(alloc, environment, quoted.as_str(), operator, "os_name")?;
+    Ok(behind == stands(value, operator, text) && before == stands(text, operator, value))
+}
+
+// Linux with another `os_name`.
+fn linux_named(alloc: Global, os_name: &str) -> Result<MarkerEnvironment, Fail> {
+    let os_name = String::from_str(alloc, os_name)?;
+    Ok(linux(alloc)?.with_os_name(os_name))
+}
+
+// Whether they are so told on Linux with this `os_name`.
+fn is_compared(alloc: Global, value: &str, operator: &str, text: &str) -> Result<bool, Fail> {
+    let environment = linux_named(alloc, value)?;
+    is_told(alloc, &environment, value, operator, text)
+}
+
 #[test]
 fn small_texts_are_compared_as_a_plain_program_does(rt: HostRuntime) -> Result<(), Fail> {
-    for value in TEXTS {
-        let os_name = String::from_str(rt.alloc(), value)?;
-        let environment = linux(rt.alloc())?.with_os_name(os_name);
-        for operator in OPERATORS {
-            for text in TEXTS {
-                let behind = format!(in rt.alloc(); "os_name {operator} '{text}'")?;
-                let found = truth(rt.alloc(), &behind, &environment, &[])?;
-                assert_eq!(rt;
-                    found,
-                    stands(value, operator, text),
-                    "{behind} of {value:?}"
-                );
-                let before = format!(in rt.alloc(); "'{text}' {operator} os_name")?;
-                let found = truth(rt.alloc(), &before, &environment, &[])?;
-                assert_eq!(rt;
-                    found,
-                    stands(text, operator, value),
-                    "{before} of {value:?}"
-                );
+    for value in TEXTS.iter() {
+        for operator in OPERATORS.iter() {
+            for text in TEXTS.iter() {
+                let compared = is_compared(rt.alloc(), value, operator, text)?;
+                assert!(rt; compared, "{value:?} {operator} {text:?}");
             }
         }
     }

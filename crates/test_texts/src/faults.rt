@@ -1,6 +1,6 @@
 //! Texts cut after each character: what is refused of them has a span of the text.
 
-use marker_session::{Command, Reason, Reply, Session};
+use pep508_markers::{Command, Reason, Reply, Session};
 use std::alloc::Global;
 use std::test::Fail;
 use test_samples::{beginnings_of, is_span};
@@ -97,21 +97,27 @@ fn is_answered(session: &mut Session, text: &str) -> bool {
     }
 }
 
+// Whether each of the texts is so answered.
+fn are_answered(session: &mut Session, texts: &[String]) -> bool {
+    let mut are_sound = true;
+    for text in texts {
+        are_sound &= is_answered(session, text.as_str());
+    }
+    are_sound
+}
+
 // Whether each beginning of the text is read, or refused with a span of that beginning.
 fn has_sound_beginnings(alloc: Global, text: &str) -> Result<bool, Fail> {
-    let mut session = Session::new(alloc);
     let beginnings = beginnings_of(alloc, text)?;
-    let mut is_sound = true;
-    for beginning in &beginnings {
-        is_sound &= is_answered(&mut session, beginning);
-    }
-    Ok(is_sound)
+    let mut session = Session::new(alloc);
+    Ok(are_answered(&mut session, &beginnings))
 }
 
 #[test]
 fn texts_cut_after_each_character(rt: HostRuntime) -> Result<(), Fail> {
-    for text in TEXTS {
-        assert!(rt; has_sound_beginnings(rt.alloc(), text)?, "{text}");
+    for text in TEXTS.iter() {
+        let sound = has_sound_beginnings(rt.alloc(), text)?;
+        assert!(rt; sound, "{text}");
     }
     Ok(())
 }

@@ -1,8 +1,9 @@
-//! Each short list of tokens is read as a marker, or refused with a fault, as a plain program tells.
+//! Each short list of tokens is read as a marker, or refused with a fault, as a plain program
+//! tells.
 
-use marker_session::{Command, Reason, Reply, Session};
+use crate::values::{Answer, told};
+use pep508_markers::{Command, Session};
 use std::alloc::{AllocError, Global};
-use std::process::Abort;
 use std::test::Fail;
 
 #[derive(Clone, Copy, Debug)]
@@ -34,7 +35,8 @@ impl Token {
     }
 }
 
-// Whether the tokens are a marker. A part is a comparison or a marker in parentheses, and connectives stand between parts.
+// Whether the tokens are a marker. A part is a comparison or a marker in parentheses, and
+// connectives stand between parts.
 fn is_marker(tokens: &[Token]) -> bool {
     let mut open: usize = 0;
     let mut has_part = false;
@@ -77,33 +79,45 @@ fn text_of(alloc: Global, tokens: &[Token]) -> Result<String, AllocError> {
     Ok(text)
 }
 
-// Whether a session reads the text, and does not refuse it with a fault.
-fn is_read(alloc: Global, text: &str) -> Result<bool, Fail> {
+// Whether a new session reads the text where this is so, and refuses it with a fault elsewhere.
+fn is_told(alloc: Global, text: &str, marker: bool) -> bool {
     let mut session = Session::new(alloc);
-    match session.execute(Command::Parse(text)) {
-        Reply::Cell(_, _) => Ok(true),
-        Reply::Refused(Reason::Marker { .. }) => Ok(false),
-        _ => Err("another reply".into()),
+    match told(&mut session, Command::Parse(text)) {
+        Answer::Cell(_, _) => marker,
+        Answer::Fault => !marker,
+        _ => false,
     }
 }
 
-// Compares all texts of so many tokens.
-fn compare(rt: &impl Abort, alloc: Global, count: u32, codes: u32) -> Result<(), Fail> {
-    for code in 0..codes {
-        let tokens = tokens_of(alloc, count, code)?;
-        let text = text_of(alloc, &tokens)?;
-        assert_eq!(rt; is_read(alloc, &text)?, is_marker(&tokens), "{text}");
+// The text that a number names where it is told otherwise. `None` where it is told right.
+fn other(alloc: Global, count: u32, code: u32) -> Result<Option<String>, Fail> {
+    let tokens = tokens_of(alloc, count, code)?;
+    let text = text_of(alloc, &tokens)?;
+    if is_told(alloc, text.as_str(), is_marker(&tokens)) {
+        Ok(None)
+    } else {
+        Ok(Some(text))
     }
-    Ok(())
 }
+
+// The first of so many texts of so many tokens that is told otherwise, or `none`.
+fn first_other(alloc: Global, count: u32, codes: u32) -> Result<String, Fail> {
+    for code in 0..codes {
+        if let Some(text) = other(alloc, count, code)? {
+            return Ok(text);
+        }
+    }
+    Ok(String::from_str(alloc, "none")?)
+}
+
+// So many tokens, and how many texts of them there are.
+const COUNTS: [(u32, u32); 6] = [(0, 1), (1, 5), (2, 25), (3, 125), (4, 625), (5, 3125)];
 
 #[test]
 fn short_lists_of_tokens_are_read_where_they_are_markers(rt: HostRuntime) -> Result<(), Fail> {
-    compare(&rt, rt.alloc(), 0, 1)?;
-    compare(&rt, rt.alloc(), 1, 5)?;
-    compare(&rt, rt.alloc(), 2, 25)?;
-    compare(&rt, rt.alloc(), 3, 125)?;
-    compare(&rt, rt.alloc(), 4, 625)?;
-    compare(&rt, rt.alloc(), 5, 3125)?;
+    for (count, codes) in COUNTS.iter() {
+        let other = first_other(rt.alloc(), *count, *codes)?;
+        assert_eq!(rt; other.as_str(), "none");
+    }
     Ok(())
 }

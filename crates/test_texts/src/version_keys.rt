@@ -1,7 +1,9 @@
 //! Comparisons with version keys that are kept, how they print, and where the kinds of warnings go.
 
-use marker_parts::{MarkerWarningKind, read_comparison};
+use marker_parts::{MarkerExpression, MarkerWarningKind, read_comparison};
+use std::alloc::Global;
 use std::test::Fail;
+use test_samples::prints;
 
 const TWO_KEYS: MarkerWarningKind = MarkerWarningKind::MarkerMarkerComparison;
 
@@ -75,23 +77,40 @@ const KEPT: [(&str, &str); 32] = [
     ),
 ];
 
+// The comparison of a whole text. `None` where it is dropped, or the text is none.
+fn comparison(
+    alloc: Global,
+    text: &str,
+    kinds: &mut Vec<MarkerWarningKind>,
+) -> Option<MarkerExpression> {
+    match read_comparison(alloc, text, kinds) {
+        Ok((found, rest)) if rest.is_empty() => found,
+        _ => None,
+    }
+}
+
+// Whether a text is kept without warnings, as a comparison that prints so.
+fn is_kept(alloc: Global, text: &str, expected: &str) -> Result<bool, Fail> {
+    let mut kinds = Vec::new(alloc);
+    match comparison(alloc, text, &mut kinds) {
+        Some(comparison) => Ok(kinds.is_empty() && prints(alloc, &comparison, expected)?),
+        None => Ok(false),
+    }
+}
+
 #[test]
 fn comparisons_that_are_kept(rt: HostRuntime) -> Result<(), Fail> {
-    for (text, expected) in KEPT {
-        let mut kinds = Vec::new(rt.alloc());
-        let Ok(read) = read_comparison(rt.alloc(), text, &mut kinds) else {
-            return Err("a text that is no comparison".into());
-        };
-        let (found, rest) = read;
-        let Some(expression) = found else {
-            return Err("a comparison that is not kept".into());
-        };
-        let printed = expression.to_string(rt.alloc())?;
-        assert_eq!(rt; printed.as_str(), expected, "{text}");
-        assert_eq!(rt; rest, "", "{text}");
-        assert!(rt; kinds.is_empty(), "{text}");
+    for (text, expected) in KEPT.iter() {
+        let kept = is_kept(rt.alloc(), text, expected)?;
+        assert!(rt; kept, "{text}");
     }
     Ok(())
+}
+
+// Whether a text is read as a comparison that is dropped.
+fn is_dropped(alloc: Global, text: &str, kinds: &mut Vec<MarkerWarningKind>) -> bool {
+    let read = read_comparison(alloc, text, kinds);
+    matches!(&read, Ok((None, _)))
 }
 
 // Kinds that stand already are kept.
@@ -99,14 +118,7 @@ fn comparisons_that_are_kept(rt: HostRuntime) -> Result<(), Fail> {
 fn kinds_come_behind_the_old_ones(rt: HostRuntime) -> Result<(), Fail> {
     let mut kinds = Vec::new(rt.alloc());
     kinds.push(TWO_KEYS)?;
-    let text = "python_version in 'x'";
-    let Ok((found, _)) = read_comparison(rt.alloc(), text, &mut kinds) else {
-        return Err("a text that is no comparison".into());
-    };
-    assert!(rt; found.is_none());
-    assert_eq!(rt;
-        kinds.as_slice(),
-        [TWO_KEYS, NO_VERSION, NO_VERSION].as_slice()
-    );
+    assert!(rt; is_dropped(rt.alloc(), "python_version in 'x'", &mut kinds));
+    assert!(rt; kinds.as_slice() == [TWO_KEYS, NO_VERSION, NO_VERSION].as_slice());
     Ok(())
 }

@@ -3,7 +3,9 @@
 use marker_words::{
     ExtraOperator, MarkerOperator, MarkerValue, MarkerValueString, MarkerValueVersion, Quoted,
 };
+use std::alloc::Global;
 use std::test::Fail;
+use test_samples::prints;
 
 // PEP 508, "Environment Markers" and its grammar: the operators, and white space inside `not in`.
 const OPERATORS: [(&str, MarkerOperator); 13] = [
@@ -43,22 +45,20 @@ const NO_OPERATORS: [&str; 16] = [
 
 #[test]
 fn operators_are_read(rt: HostRuntime) {
-    for (text, operator) in OPERATORS {
-        assert_eq!(rt; MarkerOperator::parse(text), Some(operator), "{text:?}");
+    for (text, operator) in OPERATORS.iter() {
+        let found = MarkerOperator::parse(text);
+        assert!(rt; found == Some(*operator), "{text:?}");
     }
-    for text in NO_OPERATORS {
-        assert_eq!(rt; MarkerOperator::parse(text), None, "{text:?}");
+    for text in NO_OPERATORS.iter() {
+        let found = MarkerOperator::parse(text);
+        assert!(rt; found.is_none(), "{text:?}");
     }
 }
 
 #[test]
 fn operators_beside_extra_are_printed(rt: HostRuntime) -> Result<(), Fail> {
-    for (operator, text) in [
-        (ExtraOperator::Equal, "=="),
-        (ExtraOperator::NotEqual, "!="),
-    ] {
-        assert_eq!(rt; operator.to_string(rt.alloc())?.as_str(), text);
-    }
+    assert!(rt; prints(rt.alloc(), &ExtraOperator::Equal, "==")?);
+    assert!(rt; prints(rt.alloc(), &ExtraOperator::NotEqual, "!=")?);
     Ok(())
 }
 
@@ -148,24 +148,59 @@ const NO_VALUES: [&str; 8] = [
     "extras",
 ];
 
+// Whether a name is read as this key, which prints so.
+fn is_version_key(
+    alloc: Global,
+    name: &str,
+    key: MarkerValueVersion,
+    printed: &str,
+) -> Result<bool, Fail> {
+    match MarkerValue::parse(name) {
+        Some(value) => Ok(
+            value == MarkerValue::MarkerEnvVersion(key) && prints(alloc, &value, printed)?,
+        ),
+        None => Ok(false),
+    }
+}
+
+// The same of a key whose value is a text.
+fn is_text_key(
+    alloc: Global,
+    name: &str,
+    key: MarkerValueString,
+    printed: &str,
+) -> Result<bool, Fail> {
+    match MarkerValue::parse(name) {
+        Some(value) => Ok(
+            value == MarkerValue::MarkerEnvString(key) && prints(alloc, &value, printed)?,
+        ),
+        None => Ok(false),
+    }
+}
+
+// Whether `extra` is read as itself, and printed.
+fn is_extra(alloc: Global) -> Result<bool, Fail> {
+    match MarkerValue::parse("extra") {
+        Some(value) => Ok(value == MarkerValue::Extra && prints(alloc, &value, "extra")?),
+        None => Ok(false),
+    }
+}
+
 #[test]
 fn values_are_read_and_printed(rt: HostRuntime) -> Result<(), Fail> {
     let alloc = rt.alloc();
-    for (name, key) in VERSION_KEYS {
-        let value = MarkerValue::parse(name).ok_or(name)?;
-        assert_eq!(rt; value, MarkerValue::MarkerEnvVersion(key), "{name}");
-        assert_eq!(rt; value.to_string(alloc)?.as_str(), name);
+    for (name, key) in VERSION_KEYS.iter() {
+        let read = is_version_key(alloc, name, *key, name)?;
+        assert!(rt; read, "{name}");
     }
-    for (name, key, modern) in TEXT_KEYS {
-        let value = MarkerValue::parse(name).ok_or(name)?;
-        assert_eq!(rt; value, MarkerValue::MarkerEnvString(key), "{name}");
-        assert_eq!(rt; value.to_string(alloc)?.as_str(), modern);
+    for (name, key, modern) in TEXT_KEYS.iter() {
+        let read = is_text_key(alloc, name, *key, modern)?;
+        assert!(rt; read, "{name}");
     }
-    let extra = MarkerValue::parse("extra").ok_or("extra")?;
-    assert_eq!(rt; extra, MarkerValue::Extra);
-    assert_eq!(rt; extra.to_string(alloc)?.as_str(), "extra");
-    for text in NO_VALUES {
-        assert!(rt; MarkerValue::parse(text).is_none(), "{text:?}");
+    assert!(rt; is_extra(alloc)?);
+    for text in NO_VALUES.iter() {
+        let none = MarkerValue::parse(text).is_none();
+        assert!(rt; none, "{text:?}");
     }
     Ok(())
 }
@@ -178,16 +213,23 @@ const QUOTED: [(&str, &str); 5] = [
     ("é", "'é'"),
 ];
 
+// Whether a value and its clone print so, and are equal.
+fn is_printed(alloc: Global, value: &MarkerValue, printed: &str) -> Result<bool, Fail> {
+    let copy = value.clone()?;
+    Ok(copy == *value && prints(alloc, value, printed)? && prints(alloc, &copy, printed)?)
+}
+
+// Whether a text, as itself and as a value, is printed in these quotes.
+fn is_quoted(alloc: Global, text: &str, printed: &str) -> Result<bool, Fail> {
+    let value = MarkerValue::QuotedString(String::from_str(alloc, text)?);
+    Ok(prints(alloc, &Quoted(text), printed)? && is_printed(alloc, &value, printed)?)
+}
+
 #[test]
 fn texts_are_printed_in_quotes(rt: HostRuntime) -> Result<(), Fail> {
-    let alloc = rt.alloc();
-    for (text, printed) in QUOTED {
-        assert_eq!(rt; Quoted(text).to_string(alloc)?.as_str(), printed);
-        let value = MarkerValue::QuotedString(String::from_str(alloc, text)?);
-        assert_eq!(rt; value.to_string(alloc)?.as_str(), printed);
-        let copy = value.clone()?;
-        assert_eq!(rt; copy, value);
-        assert_eq!(rt; copy.to_string(alloc)?.as_str(), printed);
+    for (text, printed) in QUOTED.iter() {
+        let quoted = is_quoted(rt.alloc(), text, printed)?;
+        assert!(rt; quoted, "{printed}");
     }
     Ok(())
 }

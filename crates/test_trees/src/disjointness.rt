@@ -4,22 +4,41 @@ use crate::trees::{are_disjoint, tree};
 use marker_graph::{Interner, MarkerTree};
 use std::test::Fail;
 
-// Between a text and the one with a NUL behind it there is a place.
+// Whether something satisfies both of two trees, asked in either order.
+fn have_a_place(interner: &Interner, left: MarkerTree, right: MarkerTree) -> Result<bool, Fail> {
+    let disjoint = are_disjoint(interner, left, right)?;
+    let turned = are_disjoint(interner, right, left)?;
+    Ok(!disjoint && !turned)
+}
+
+// Whether there is a place between a text and the one with a NUL behind it.
+fn nul_leaves_a_place(interner: &mut Interner) -> Result<bool, Fail> {
+    let above = tree(interner, "os_name > 'a'")?;
+    let below = tree(interner, "os_name < 'a\u{0}'")?;
+    have_a_place(interner, above, below)
+}
+
 #[test]
 fn something_lies_between_two_texts(rt: HostRuntime) -> Result<(), Fail> {
     let mut interner = Interner::new(rt.alloc());
-    let above = tree(rt.alloc(), &mut interner, "os_name > 'a'")?;
-    let below = tree(rt.alloc(), &mut interner, "os_name < 'a\u{0}'")?;
-    assert!(rt; !are_disjoint(&interner, above, below)?);
-    assert!(rt; !are_disjoint(&interner, below, above)?);
+    let something = nul_leaves_a_place(&mut interner)?;
+    assert!(rt; something);
     Ok(())
 }
+
+// Two constants, their names, and whether they are disjoint.
+const CONSTANTS: [(&str, MarkerTree, MarkerTree, bool); 3] = [
+    ("FALSE, TRUE", MarkerTree::FALSE, MarkerTree::TRUE, true),
+    ("FALSE, FALSE", MarkerTree::FALSE, MarkerTree::FALSE, true),
+    ("TRUE, TRUE", MarkerTree::TRUE, MarkerTree::TRUE, false),
+];
 
 #[test]
 fn the_constants(rt: HostRuntime) -> Result<(), Fail> {
     let interner = Interner::new(rt.alloc());
-    assert!(rt; are_disjoint(&interner, MarkerTree::FALSE, MarkerTree::TRUE)?);
-    assert!(rt; are_disjoint(&interner, MarkerTree::FALSE, MarkerTree::FALSE)?);
-    assert!(rt; !are_disjoint(&interner, MarkerTree::TRUE, MarkerTree::TRUE)?);
+    for (names, left, right, expected) in CONSTANTS.iter() {
+        let disjoint = are_disjoint(&interner, *left, *right)?;
+        assert!(rt; disjoint == *expected, "{names}");
+    }
     Ok(())
 }

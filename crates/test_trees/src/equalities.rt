@@ -3,20 +3,36 @@
 use crate::trees::{are_equivalent, tree};
 use marker_graph::{Interner, MarkerTree, TruthVariable};
 use marker_parts::ExtraName;
+use std::alloc::Global;
 use std::test::Fail;
 
+// Whether a comparison with a text, and one with a NUL behind it, leave something between them.
+fn something_is_between(interner: &mut Interner) -> Result<bool, Fail> {
+    let text = "os_name > 'a' and os_name < 'a\u{0}'";
+    let between = tree(interner, text)?;
+    Ok(!between.is_true() && !between.is_false())
+}
+
+// Whether the places above a text are others than those from the text with a NUL on.
+fn nul_is_no_next(interner: &mut Interner) -> Result<bool, Fail> {
+    let above = tree(interner, "os_name > 'a'")?;
+    let from = tree(interner, "os_name >= 'a\u{0}'")?;
+    let same = are_equivalent(interner, above, from)?;
+    Ok(above != from && !same)
+}
+
 // Between a text and the one with a NUL behind it there is a place.
+fn nul_leaves_a_place(interner: &mut Interner) -> Result<bool, Fail> {
+    let between = something_is_between(interner)?;
+    let others = nul_is_no_next(interner)?;
+    Ok(between && others)
+}
+
 #[test]
 fn something_lies_between_two_texts(rt: HostRuntime) -> Result<(), Fail> {
     let mut interner = Interner::new(rt.alloc());
-    let text = "os_name > 'a' and os_name < 'a\u{0}'";
-    let between = tree(rt.alloc(), &mut interner, text)?;
-    assert!(rt; !between.is_true());
-    assert!(rt; !between.is_false());
-    let above = tree(rt.alloc(), &mut interner, "os_name > 'a'")?;
-    let from = tree(rt.alloc(), &mut interner, "os_name >= 'a\u{0}'")?;
-    assert!(rt; above != from);
-    assert!(rt; !are_equivalent(&interner, above, from)?);
+    let something = nul_leaves_a_place(&mut interner)?;
+    assert!(rt; something);
     Ok(())
 }
 
@@ -28,12 +44,23 @@ fn constants_are_held_everywhere(rt: HostRuntime) {
     assert!(rt; interner.holds(&MarkerTree::FALSE));
 }
 
+// The variable of an extra.
+fn variable(alloc: Global, name: &str) -> Result<TruthVariable, Fail> {
+    Ok(TruthVariable::Extra(ExtraName::parse(alloc, name)?))
+}
+
+// Whether the tree that asks for an extra is that of the text.
+fn is_that_of_the_text(interner: &mut Interner) -> Result<bool, Fail> {
+    let found = tree(interner, "extra == 'a'")?;
+    let variable = variable(interner.allocator(), "a")?;
+    let asked = MarkerTree::asks(interner, variable)?;
+    Ok(asked == found)
+}
+
 #[test]
 fn a_tree_that_asks_for_an_extra(rt: HostRuntime) -> Result<(), Fail> {
     let mut interner = Interner::new(rt.alloc());
-    let found = tree(rt.alloc(), &mut interner, "extra == 'a'")?;
-    let variable = TruthVariable::Extra(ExtraName::parse(rt.alloc(), "a")?);
-    let asked = MarkerTree::asks(&mut interner, variable)?;
-    assert!(rt; asked == found);
+    let same = is_that_of_the_text(&mut interner)?;
+    assert!(rt; same);
     Ok(())
 }

@@ -8,6 +8,8 @@ mod disjointness;
 #[cfg(test)]
 mod equalities;
 #[cfg(test)]
+mod formulas;
+#[cfg(test)]
 mod places;
 #[cfg(test)]
 mod plain;

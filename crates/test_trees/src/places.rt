@@ -1,9 +1,8 @@
-//! Trees over one key, compared with what a plain program tells of the places that two values leave: below both, at the
-//! first, between them, at the second, and above both.
+//! Trees over one key, compared with what a plain program tells of the places that two values
+//! leave: below both, at the first, between them, at the second, and above both.
 
 use crate::trees::{are_disjoint, are_equivalent, both, either, tree};
 use marker_graph::{Interner, MarkerTree};
-use std::alloc::Global;
 use std::test::Fail;
 
 // A key, and two of its values in order.
@@ -35,7 +34,8 @@ struct Placed {
     places: u8,
 }
 
-// The places at which a comparison holds with a value, of which the places below it and its own are given.
+// The places at which a comparison holds with a value, of which the places below it and its own are
+// given.
 fn places_of(holds: [bool; 3], below: u8, at: u8) -> u8 {
     let [is_below, is_at, is_above] = holds;
     let mut places = 0;
@@ -51,68 +51,103 @@ fn places_of(holds: [bool; 3], below: u8, at: u8) -> u8 {
     places
 }
 
-// The tree of each comparison of a key with one of two values.
-fn compared(
-    alloc: Global,
+// The tree of a text, which is true at these places.
+fn with_places(interner: &mut Interner, text: &str, places: u8) -> Result<Placed, Fail> {
+    let tree = tree(interner, text)?;
+    Ok(Placed { tree, places })
+}
+
+// The tree of a comparison of a key with one of its values.
+fn comparison(
     interner: &mut Interner,
     key: &str,
-    values: &[&str],
-) -> Result<Vec<Placed>, Fail> {
-    let mut compared = Vec::new(alloc);
-    for (operator, holds) in OPERATORS {
-        for (value, (below, at)) in values.iter().zip(PLACES) {
-            let text = format!(in alloc; "{key} {operator} '{value}'")?;
-            compared.push(Placed {
-                tree: tree(alloc, interner, &text)?,
-                places: places_of(holds, below, at),
-            })?;
+    (operator, holds): (&str, [bool; 3]),
+    (value, (below, at)): (&str, (u8, u8)),
+) -> Result<Placed, Fail> {
+    let text = format!(in interner.allocator(); "{key} {operator} '{value}'")?;
+    with_places(interner, text.as_str(), places_of(holds, below, at))
+}
+
+// The tree of each comparison of a key with one of two values.
+fn compared(interner: &mut Interner, key: &str, values: &[&str]) -> Result<Vec<Placed>, Fail> {
+    let mut compared = Vec::new(interner.allocator());
+    for operator in OPERATORS.iter() {
+        for (value, places) in values.iter().zip(PLACES.iter()) {
+            compared.push(comparison(interner, key, *operator, (*value, *places))?)?;
         }
     }
     Ok(compared)
 }
 
+// The conjunction of two.
+fn met(interner: &mut Interner, left: &Placed, right: &Placed) -> Result<Placed, Fail> {
+    let tree = both(interner, left.tree, right.tree)?;
+    let places = left.places & right.places;
+    Ok(Placed { tree, places })
+}
+
+// The disjunction of two.
+fn united(interner: &mut Interner, left: &Placed, right: &Placed) -> Result<Placed, Fail> {
+    let tree = either(interner, left.tree, right.tree)?;
+    let places = left.places | right.places;
+    Ok(Placed { tree, places })
+}
+
 // The conjunction and the disjunction of each two.
-fn joined(alloc: Global, interner: &mut Interner, parts: &[Placed]) -> Result<Vec<Placed>, Fail> {
-    let mut joined = Vec::new(alloc);
+fn joined(interner: &mut Interner, parts: &[Placed]) -> Result<Vec<Placed>, Fail> {
+    let mut joined = Vec::new(interner.allocator());
     for left in parts {
         for right in parts {
-            joined.push(Placed {
-                tree: both(interner, left.tree, right.tree)?,
-                places: left.places & right.places,
-            })?;
-            joined.push(Placed {
-                tree: either(interner, left.tree, right.tree)?,
-                places: left.places | right.places,
-            })?;
+            joined.push(met(interner, left, right)?)?;
+            joined.push(united(interner, left, right)?)?;
         }
     }
     Ok(joined)
 }
 
+// Whether a tree is told to be a constant exactly where its places are all or none.
+fn is_told(one: &Placed) -> bool {
+    one.tree.is_true() == (one.places == ALL) && one.tree.is_false() == (one.places == 0)
+}
+
 // Whether two trees are told equal, and disjoint, exactly where their places are.
-fn are_told(interner: &Interner, left: Placed, right: Placed) -> Result<bool, Fail> {
+fn are_told(interner: &Interner, left: &Placed, right: &Placed) -> Result<bool, Fail> {
+    let same = left.tree == right.tree;
+    let equivalent = are_equivalent(interner, left.tree, right.tree)?;
+    let disjoint = are_disjoint(interner, left.tree, right.tree)?;
     let equal = left.places == right.places;
-    let disjoint = left.places & right.places == 0;
-    Ok(
-        (left.tree == right.tree) == equal
-            && are_equivalent(interner, left.tree, right.tree)? == equal
-            && are_disjoint(interner, left.tree, right.tree)? == disjoint,
-    )
+    let apart = left.places & right.places == 0;
+    Ok(same == equal && equivalent == equal && disjoint == apart)
+}
+
+// Whether each tree is so told, and each two are.
+fn are_all_told(interner: &Interner, all: &[Placed]) -> Result<bool, Fail> {
+    for left in all {
+        if !is_told(left) {
+            return Ok(false);
+        }
+        for right in all {
+            if !are_told(interner, left, right)? {
+                return Ok(false);
+            }
+        }
+    }
+    Ok(true)
+}
+
+// Whether the trees over a key and two of its values are told apart.
+fn key_is_told(interner: &mut Interner, key: &str, values: &[&str]) -> Result<bool, Fail> {
+    let compared = compared(interner, key, values)?;
+    let joined = joined(interner, &compared)?;
+    are_all_told(interner, &joined)
 }
 
 #[test]
 fn trees_are_told_apart_by_the_places_of_two_values(rt: HostRuntime) -> Result<(), Fail> {
-    for (key, values) in KEYS {
+    for (key, values) in KEYS.iter() {
         let mut interner = Interner::new(rt.alloc());
-        let compared = compared(rt.alloc(), &mut interner, key, &values)?;
-        let joined = joined(rt.alloc(), &mut interner, &compared)?;
-        for left in &joined {
-            assert!(rt; left.tree.is_true() == (left.places == ALL), "{key}");
-            assert!(rt; left.tree.is_false() == (left.places == 0), "{key}");
-            for right in &joined {
-                assert!(rt; are_told(&interner, *left, *right)?, "{key}");
-            }
-        }
+        let told = key_is_told(&mut interner, key, values)?;
+        assert!(rt; told, "{key}");
     }
     Ok(())
 }

@@ -1,14 +1,13 @@
 //! Marker texts as trees: what is read and reported of a text, and how one is refused.
 
-use crate::trees::tree;
+use crate::trees::{in_parentheses, tree};
+use marker_grammar::{Reading, read};
 use marker_graph::{Interner, MarkerTree};
-use marker_parts::{
-    ComparisonError, MarkerWarningKind, Pep508Error, Pep508ErrorSource, Refusal, ReportTo,
-};
-use marker_session::{MarkerText, tree_of};
-use pep508_markers::read;
-use std::alloc::{AllocError, Global};
+use marker_parts::{ComparisonError, Fault, MarkerWarningKind, Pep508Error, Refusal, ReportTo};
+use pep508_markers::{MarkerText, tree_of};
+use std::alloc::AllocError;
 use std::test::Fail;
+use test_samples::{beginnings_of, fault_of, is_fault};
 use url::Url;
 
 // What a reader of trees answers.
@@ -324,79 +323,85 @@ const TABLES: [(&[Row], &str, &str); 5] = [
     ),
 ];
 
-fn has_tree(answer: &Answer, expected: MarkerTree) -> bool {
-    match answer {
-        Ok(found) => *found == expected,
-        Err(_) => false,
+// How a text is answered that is read, or not.
+#[derive(Clone, Copy)]
+enum Expected<'a> {
+    // A tree, with warnings of these kinds.
+    Tree(MarkerTree, &'a [MarkerWarningKind]),
+    // A refusal for the largest number.
+    AtEnd,
+    // A fault: where it starts, how long it is, and its message.
+    Fault(usize, usize, &'a str),
+}
+
+impl Expected<'_> {
+    // Whether the answer to a text is so.
+    fn is_answer(&self, answer: &Answer, text: &str) -> bool {
+        match (answer, self) {
+            (Ok(found), Expected::Tree(tree, _)) => found == tree,
+            (Err(Refusal::SegmentAtEnd), Expected::AtEnd) => true,
+            (Err(Refusal::Fault(error)), Expected::Fault(start, len, message)) => {
+                is_fault(error, (text, *start, *len, *message))
+            }
+            _ => false,
+        }
+    }
+
+    // Whether the warnings are so.
+    fn are_warnings(&self, warnings: &[(MarkerWarningKind, String)]) -> bool {
+        match self {
+            Expected::Tree(_, kinds) => are_kinds(warnings, kinds),
+            _ => warnings.is_empty(),
+        }
     }
 }
 
-fn is_at_end(answer: &Answer) -> bool {
-    matches!(answer, Err(Refusal::SegmentAtEnd))
+// Whether the warnings are of these kinds.
+fn are_kinds(warnings: &[(MarkerWarningKind, String)], kinds: &[MarkerWarningKind]) -> bool {
+    warnings.len() == kinds.len()
+        && warnings
+            .iter()
+            .zip(kinds)
+            .all(|(warning, kind)| warning.0 == *kind)
 }
 
-// Whether the answer is the fault of a text with this start, this length and this message.
-fn is_fault(answer: &Answer, text: &str, start: usize, len: usize, message: &str) -> bool {
-    let Err(Refusal::Fault(error)) = answer else {
-        return false;
-    };
-    let Pep508ErrorSource::String(told) = &error.message else {
-        return false;
-    };
-    error.start == start
-        && error.len == len
-        && error.input.as_str() == text
-        && told.as_str() == message
+// Whether a text is so answered without a reporter.
+fn is_parsed(interner: &mut Interner, text: &str, expected: &Expected<'_>) -> bool {
+    let answer = MarkerTree::parse_str::<Url>(text, interner);
+    expected.is_answer(&answer, text)
 }
 
-// What is read of a text as a tree, with a reporter and without one, and the kinds that were reported.
-#[derive(Drop)]
-struct Answers {
-    parsed: Answer,
-    reported: Answer,
-    kinds: Vec<MarkerWarningKind>,
+// Whether a text is so answered with a reporter, which is told the warnings.
+fn is_reported(interner: &mut Interner, text: &str, expected: &Expected<'_>) -> bool {
+    let mut warnings: Vec<(MarkerWarningKind, String)> = Vec::new(interner.allocator());
+    let answer = MarkerTree::parse_reporter::<Url, _>(text, &mut warnings, interner);
+    expected.is_answer(&answer, text) && expected.are_warnings(&warnings)
 }
 
-fn read_twice(alloc: Global, interner: &mut Interner, text: &str) -> Result<Answers, Fail> {
-    let mut warnings: Vec<(MarkerWarningKind, String)> = Vec::new(alloc);
-    let parsed = MarkerTree::parse_str::<Url>(text, interner);
-    let reported = MarkerTree::parse_reporter::<Url, _>(text, &mut warnings, interner);
-    let mut kinds = Vec::new(alloc);
-    for (kind, _) in &warnings {
-        kinds.push(*kind)?;
-    }
-    Ok(Answers {
-        parsed,
-        reported,
-        kinds,
-    })
+// Whether a text is so answered, with a reporter and without one.
+fn is_answered(interner: &mut Interner, text: &str, expected: &Expected<'_>) -> bool {
+    let parsed = is_parsed(interner, text, expected);
+    let reported = is_reported(interner, text, expected);
+    parsed && reported
 }
 
-impl Answers {
-    fn are_tree(&self, expected: MarkerTree, kinds: &[MarkerWarningKind]) -> bool {
-        has_tree(&self.parsed, expected)
-            && has_tree(&self.reported, expected)
-            && self.kinds.as_slice() == kinds
-    }
-
-    fn are_at_end(&self) -> bool {
-        is_at_end(&self.parsed) && is_at_end(&self.reported) && self.kinds.is_empty()
-    }
-
-    fn are_fault(&self, text: &str, start: usize, len: usize, message: &str) -> bool {
-        is_fault(&self.parsed, text, start, len, message)
-            && is_fault(&self.reported, text, start, len, message)
-            && self.kinds.is_empty()
-    }
+// Whether a text is read as the tree of another one, with warnings of these kinds.
+fn is_read_as(
+    interner: &mut Interner,
+    text: &str,
+    same: &str,
+    kinds: &[MarkerWarningKind],
+) -> Result<bool, Fail> {
+    let expected = tree(interner, same)?;
+    Ok(is_answered(interner, text, &Expected::Tree(expected, kinds)))
 }
 
 #[test]
 fn texts_that_are_read(rt: HostRuntime) -> Result<(), Fail> {
     let mut interner = Interner::new(rt.alloc());
-    for (text, same, kinds) in READ {
-        let expected = tree(rt.alloc(), &mut interner, same)?;
-        let found = read_twice(rt.alloc(), &mut interner, text)?;
-        assert!(rt; found.are_tree(expected, kinds), "{text}");
+    for (text, same, kinds) in READ.iter() {
+        let read = is_read_as(&mut interner, text, same, kinds)?;
+        assert!(rt; read, "{text}");
     }
     Ok(())
 }
@@ -408,139 +413,176 @@ const UNDERLINED: [(&str, &str); 2] = [
 ];
 
 // The lines of a text's fault.
-fn lines_of_fault(alloc: Global, interner: &mut Interner, text: &str) -> Result<String, Fail> {
-    match MarkerTree::parse_str::<Url>(text, interner) {
-        Err(Refusal::Fault(error)) => Ok(error.to_string(alloc)?),
-        _ => Err("no fault".into()),
+fn lines_of_fault(interner: &mut Interner, text: &str) -> Result<String, Fail> {
+    match fault_of(MarkerTree::parse_str::<Url>(text, interner)) {
+        Some(error) => Ok(error.to_string(interner.allocator())?),
+        None => Err("no fault".into()),
     }
+}
+
+// Whether these are the last lines of a text's fault.
+fn is_underlined(interner: &mut Interner, text: &str, underline: &str) -> Result<bool, Fail> {
+    let last = format!(in interner.allocator(); "end of input\n{text}\n{underline}")?;
+    let lines = lines_of_fault(interner, text)?;
+    Ok(lines.as_str().ends_with(last.as_str()))
 }
 
 #[test]
 fn faults_are_underlined(rt: HostRuntime) -> Result<(), Fail> {
     let mut interner = Interner::new(rt.alloc());
-    for (text, underline) in UNDERLINED {
-        let lines = lines_of_fault(rt.alloc(), &mut interner, text)?;
-        let last = format!(in rt.alloc(); "end of input\n{text}\n{underline}")?;
-        assert!(rt; lines.as_str().ends_with(last.as_str()), "{text}");
+    for (text, underline) in UNDERLINED.iter() {
+        let underlined = is_underlined(&mut interner, text, underline)?;
+        assert!(rt; underlined, "{text}");
     }
     Ok(())
 }
 
-// The kinds that a function takes, which refuses where it has so many, and whether the answer is out of memory.
-fn taken(
-    alloc: Global,
+// Whether a text is out of memory where a function takes its kinds that refuses where it has so
+// many.
+fn is_refused(
     interner: &mut Interner,
     text: &str,
     room: usize,
-) -> (Vec<MarkerWarningKind>, bool) {
-    let mut kinds = Vec::new(alloc);
-    let answer = {
-        let mut reporter = ReportTo(|kind: MarkerWarningKind, _warning: String| {
-            if kinds.len() == room {
-                return Err(AllocError);
-            }
-            kinds.push(kind)?;
-            Ok(())
-        });
-        MarkerTree::parse_reporter::<Url, _>(text, &mut reporter, interner)
-    };
-    (kinds, matches!(&answer, Err(Refusal::OutOfMemory)))
+    kinds: &mut Vec<MarkerWarningKind>,
+) -> bool {
+    let mut reporter = ReportTo(|kind: MarkerWarningKind, _warning: String| {
+        if kinds.len() == room {
+            return Err(AllocError);
+        }
+        kinds.push(kind)?;
+        Ok(())
+    });
+    let answer = MarkerTree::parse_reporter::<Url, _>(text, &mut reporter, interner);
+    matches!(&answer, Err(Refusal::OutOfMemory))
+}
+
+// Whether such a function is told the first of these kinds, as many as it takes, and the text is
+// out of memory where there are more.
+fn is_taken(interner: &mut Interner, text: &str, kinds: &[MarkerWarningKind], room: usize) -> bool {
+    let mut found = Vec::new(interner.allocator());
+    let refused = is_refused(interner, text, room, &mut found);
+    refused == (room < kinds.len()) && found.len() == room && kinds.starts_with(found.as_slice())
 }
 
 #[test]
 fn a_reporter_that_refuses(rt: HostRuntime) {
     let mut interner = Interner::new(rt.alloc());
-    for (text, _, kinds) in READ {
-        for room in 0..kinds.len() {
-            let (found, is_refused) = taken(rt.alloc(), &mut interner, text, room);
-            assert!(rt; is_refused, "{text}");
-            assert_eq!(rt; found.len(), room, "{text}");
-            assert!(rt; kinds.starts_with(found.as_slice()), "{text}");
+    for (text, _, kinds) in READ.iter() {
+        for room in 0..=kinds.len() {
+            let taken = is_taken(&mut interner, text, kinds, room);
+            assert!(rt; taken, "{room} of {text}");
         }
-        let (found, is_refused) = taken(rt.alloc(), &mut interner, text, kinds.len());
-        assert!(rt; !is_refused, "{text}");
-        assert_eq!(rt; found.as_slice(), kinds, "{text}");
     }
 }
 
 #[test]
-fn texts_with_the_largest_number(rt: HostRuntime) -> Result<(), Fail> {
+fn texts_with_the_largest_number(rt: HostRuntime) {
     let mut interner = Interner::new(rt.alloc());
-    for text in AT_END {
-        let found = read_twice(rt.alloc(), &mut interner, text)?;
-        assert!(rt; found.are_at_end(), "{text}");
+    for text in AT_END.iter() {
+        let answered = is_answered(&mut interner, text, &Expected::AtEnd);
+        assert!(rt; answered, "{text}");
     }
-    Ok(())
+}
+
+// Whether the message of the row's text is what the row names between these.
+fn is_named(interner: &mut Interner, row: &Row, before: &str, behind: &str) -> Result<bool, Fail> {
+    let (text, start, len, named) = *row;
+    let message = format!(in interner.allocator(); "{before}{named}{behind}")?;
+    let expected = Expected::Fault(start, len, message.as_str());
+    Ok(is_answered(interner, text, &expected))
 }
 
 #[test]
 fn every_message_and_its_span(rt: HostRuntime) -> Result<(), Fail> {
     let mut interner = Interner::new(rt.alloc());
-    for (rows, before, behind) in TABLES {
-        for (text, start, len, named) in rows {
-            let message = format!(in rt.alloc(); "{before}{named}{behind}")?;
-            let found = read_twice(rt.alloc(), &mut interner, text)?;
-            assert!(rt;
-                found.are_fault(text, *start, *len, message.as_str()),
-                "{text}"
-            );
+    for (rows, before, behind) in TABLES.iter() {
+        for row in rows.iter() {
+            let named = is_named(&mut interner, row, before, behind)?;
+            let text = row.0;
+            assert!(rt; named, "{text}");
         }
     }
     Ok(())
 }
 
-// Whether a text is answered as its reading and the tree of its formula are.
-fn is_answered(alloc: Global, interner: &mut Interner, text: &str) -> Result<bool, Fail> {
-    let found = read_twice(alloc, interner, text)?;
-    let reading = match read(alloc, text) {
-        Ok(reading) => reading,
-        Err(ComparisonError::OutOfMemory) => return Err("out of memory".into()),
-        Err(ComparisonError::Fault(fault)) => {
-            let message = fault.to_string(alloc)?;
-            return Ok(found.are_fault(text, fault.start(text), fault.len(), message.as_str()));
-        }
-    };
+// Whether a text is answered as the tree of its reading's formula is.
+fn is_answered_by(interner: &mut Interner, text: &str, reading: Reading) -> Result<bool, Fail> {
     let kinds = reading.kinds;
-    match tree_of(interner, reading.formula) {
-        Ok(expected) => Ok(found.are_tree(expected, kinds.as_slice())),
-        Err(Refusal::SegmentAtEnd) => Ok(found.are_at_end()),
-        Err(_) => Err("no tree".into()),
+    let expected = match tree_of(interner, reading.formula) {
+        Ok(tree) => Expected::Tree(tree, kinds.as_slice()),
+        Err(Refusal::SegmentAtEnd) => Expected::AtEnd,
+        Err(_) => return Err("no tree".into()),
+    };
+    Ok(is_answered(interner, text, &expected))
+}
+
+// Whether a text that is not read is answered so.
+fn is_answered_with(interner: &mut Interner, text: &str, fault: &Fault<'_>) -> Result<bool, Fail> {
+    let message = fault.to_string(interner.allocator())?;
+    let expected = Expected::Fault(fault.start(text), fault.len(), message.as_str());
+    Ok(is_answered(interner, text, &expected))
+}
+
+// Whether a text is answered as its reading and the tree of its formula are.
+fn is_sound(interner: &mut Interner, text: &str) -> Result<bool, Fail> {
+    match read(interner.allocator(), text) {
+        Ok(reading) => is_answered_by(interner, text, reading),
+        Err(ComparisonError::OutOfMemory) => Err("out of memory".into()),
+        Err(ComparisonError::Fault(fault)) => is_answered_with(interner, text, &fault),
     }
 }
 
-// Whether the text is so answered, and so is what stands before each of its characters.
-fn has_sound_beginnings(alloc: Global, interner: &mut Interner, text: &str) -> Result<bool, Fail> {
-    let mut beginning = String::new(alloc);
-    let mut is_sound = true;
-    for character in text.chars() {
-        is_sound = is_sound && is_answered(alloc, interner, beginning.as_str())?;
-        beginning.push(character)?;
+// Whether these texts are so answered.
+fn are_sound(interner: &mut Interner, texts: &[String]) -> Result<bool, Fail> {
+    for text in texts {
+        if !is_sound(interner, text.as_str())? {
+            return Ok(false);
+        }
     }
-    Ok(is_sound && is_answered(alloc, interner, text)?)
+    Ok(true)
+}
+
+// Whether the text is so answered, and so is what stands before each of its characters.
+fn has_sound_beginnings(interner: &mut Interner, text: &str) -> Result<bool, Fail> {
+    let beginnings = beginnings_of(interner.allocator(), text)?;
+    are_sound(interner, &beginnings)
+}
+
+// The first text of the tables with a beginning that is answered otherwise, or `none`.
+fn first_unsound(interner: &mut Interner) -> Result<&'static str, Fail> {
+    for (rows, _, _) in TABLES.iter() {
+        for (text, _, _, _) in rows.iter() {
+            if !has_sound_beginnings(interner, text)? {
+                return Ok(*text);
+            }
+        }
+    }
+    for (text, _, _) in READ.iter() {
+        if !has_sound_beginnings(interner, text)? {
+            return Ok(*text);
+        }
+    }
+    for text in AT_END.iter() {
+        if !has_sound_beginnings(interner, text)? {
+            return Ok(*text);
+        }
+    }
+    Ok("none")
 }
 
 #[test]
 fn texts_cut_after_each_character(rt: HostRuntime) -> Result<(), Fail> {
     let mut interner = Interner::new(rt.alloc());
-    for (rows, _, _) in TABLES {
-        for (text, _, _, _) in rows {
-            let sound = has_sound_beginnings(rt.alloc(), &mut interner, text)?;
-            assert!(rt; sound, "{text}");
-        }
-    }
-    for (text, _, _) in READ {
-        let sound = has_sound_beginnings(rt.alloc(), &mut interner, text)?;
-        assert!(rt; sound, "{text}");
-    }
-    for text in AT_END {
-        let sound = has_sound_beginnings(rt.alloc(), &mut interner, text)?;
-        assert!(rt; sound, "{text}");
-    }
+    let unsound = first_unsound(&mut interner)?;
+    assert_eq!(rt; unsound, "none");
     Ok(())
 }
 
-// So many opening parentheses, a comparison or nothing, and so many closing ones, and the fault if there is one.
-const DEEP: [(usize, &str, usize, Option<(usize, &str)>); 5] = [
+// So many opening parentheses, a comparison or nothing, and so many closing ones, and the fault if
+// there is one.
+type DeepRow = (usize, &'static str, usize, Option<(usize, &'static str)>);
+
+const DEEP: [DeepRow; 5] = [
     (201, "os_name == 'a'", 201, None),
     (100_000, "os_name == 'a'", 100_000, None),
     (
@@ -566,38 +608,38 @@ const DEEP: [(usize, &str, usize, Option<(usize, &str)>); 5] = [
     ),
 ];
 
-fn in_parentheses(
-    alloc: Global,
-    opening: usize,
-    comparison: &str,
-    closing: usize,
-) -> Result<String, Fail> {
-    let mut text = "(".repeat(alloc, opening)?;
-    text.push_str(comparison)?;
-    text.push_str(")".repeat(alloc, closing)?.as_str())?;
-    Ok(text)
+// Whether the row's text has this tree, or the row's fault.
+fn is_answered_in_parentheses(
+    interner: &mut Interner,
+    row: &DeepRow,
+    inside: MarkerTree,
+) -> Result<bool, Fail> {
+    let (opening, comparison, closing, fault) = *row;
+    let text = in_parentheses(interner.allocator(), opening, comparison, closing)?;
+    let expected = match fault {
+        None => Expected::Tree(inside, &[]),
+        Some((start, message)) => Expected::Fault(start, 1, message),
+    };
+    Ok(is_answered(interner, text.as_str(), &expected))
 }
 
 #[test]
 fn parentheses_in_parentheses(rt: HostRuntime) -> Result<(), Fail> {
     let mut interner = Interner::new(rt.alloc());
-    let inside = tree(rt.alloc(), &mut interner, "os_name == 'a'")?;
-    for (opening, comparison, closing, fault) in DEEP {
-        let text = in_parentheses(rt.alloc(), opening, comparison, closing)?;
-        let found = read_twice(rt.alloc(), &mut interner, &text)?;
-        let sound = match fault {
-            None => found.are_tree(inside, &[]),
-            Some((start, message)) => found.are_fault(&text, start, 1, message),
-        };
-        assert!(rt; sound, "{opening} and {closing}");
+    let inside = tree(&mut interner, "os_name == 'a'")?;
+    for row in DEEP.iter() {
+        let answered = is_answered_in_parentheses(&mut interner, row, inside)?;
+        let (opening, _, closing, _) = row;
+        assert!(rt; answered, "{opening} and {closing}");
     }
     Ok(())
 }
 
 #[test]
 fn parentheses_cut_after_each_character(rt: HostRuntime) -> Result<(), Fail> {
-    let mut interner = Interner::new(rt.alloc());
     let text = in_parentheses(rt.alloc(), 201, "os_name == 'a'", 201)?;
-    assert!(rt; has_sound_beginnings(rt.alloc(), &mut interner, &text)?);
+    let mut interner = Interner::new(rt.alloc());
+    let sound = has_sound_beginnings(&mut interner, text.as_str())?;
+    assert!(rt; sound);
     Ok(())
 }

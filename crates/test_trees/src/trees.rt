@@ -1,27 +1,26 @@
 //! The trees of texts.
 
-use marker_graph::{Interner, InvalidExpression, MarkerTree};
+use crate::formulas::formula;
+use marker_graph::{Interner, MarkerTree};
 use marker_parts::{ExtraName, MarkerEnvironment, Refusal};
-use marker_session::tree_of;
-use pep508_markers::read;
+use pep508_markers::tree_of;
 use std::alloc::Global;
+use std::convert::Infallible;
 use std::test::Fail;
 
 // Why no tree was made of a text.
-fn failure(refusal: Refusal<InvalidExpression>) -> Fail {
+fn failure(refusal: Refusal<Infallible>) -> Fail {
     match refusal {
         Refusal::OutOfMemory => "out of memory".into(),
         Refusal::SegmentAtEnd => "segment at end".into(),
-        Refusal::Fault(_) => "invalid expression".into(),
+        Refusal::Fault(never) => match never {},
     }
 }
 
 // The tree of a text.
-pub fn tree(alloc: Global, interner: &mut Interner, text: &str) -> Result<MarkerTree, Fail> {
-    let Ok(reading) = read(alloc, text) else {
-        return Err("not read".into());
-    };
-    tree_of(interner, reading.formula).map_err(failure)
+pub fn tree(interner: &mut Interner, text: &str) -> Result<MarkerTree, Fail> {
+    let formula = formula(interner.allocator(), text)?;
+    tree_of(interner, formula).map_err(failure)
 }
 
 // The conjunction.
@@ -99,4 +98,16 @@ pub fn is_true_in(
         return Err("the tree is not held".into());
     }
     Ok(tree.evaluate(interner, environment, extras))
+}
+
+// A comparison behind so many opening parentheses, and before so many closing ones.
+pub fn in_parentheses(
+    alloc: Global,
+    opening: usize,
+    comparison: &str,
+    closing: usize,
+) -> Result<String, Fail> {
+    let before = "(".repeat(alloc, opening)?;
+    let behind = ")".repeat(alloc, closing)?;
+    Ok(format!(in alloc; "{before}{comparison}{behind}")?)
 }

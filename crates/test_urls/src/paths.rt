@@ -127,7 +127,8 @@ fn absolute_paths_become_urls(rt: HostRuntime) -> Result<(), Fail> {
 const KEPT: &str =
     "!$&'()*+,-.0123456789:;=@ABCDEFGHIJKLMNOPQRSTUVWXYZ[]^_abcdefghijklmnopqrstuvwxyz~";
 
-// How a byte of a part is written. `^` is written by the file text as it is, and escaped by the URL Standard.
+// How a byte of a part is written. `^` is written by the file text as it is, and escaped by the URL
+// Standard.
 fn written(alloc: Global, byte: u8) -> Result<String, AllocError> {
     let mut text = String::new(alloc);
     if byte != b'^' && KEPT.as_bytes().contains(&byte) {

@@ -1,6 +1,6 @@
 //! The specifiers of a range of releases.
 
-use pep440_rs::{BoundSpecifiers, VersionSpecifier};
+use pep440_rs::VersionSpecifier;
 use std::alloc::Global;
 use std::test::Fail;
 use test_samples::bound_of;
@@ -34,31 +34,24 @@ const RANGES: [(&str, &str, &str); 21] = [
     ),
 ];
 
-// The texts of the specifiers, with a space between each two.
-fn text_of(alloc: Global, specifiers: BoundSpecifiers) -> Result<String, Fail> {
+// The specifiers of a range with these bounds, with a space between each two.
+fn range_text(alloc: Global, lower: &str, upper: &str) -> Result<String, Fail> {
+    let (from, to) = (bound_of(alloc, lower)?, bound_of(alloc, upper)?);
+    let bounds = (from.as_ref(), to.as_ref());
     let mut text = String::new(alloc);
-    for specifier in specifiers {
+    for specifier in VersionSpecifier::from_release_only_bounds(alloc, bounds)? {
         if !text.is_empty() {
-            text.push_str(" ")?;
+            text.push(' ')?;
         }
         text.push_str(specifier.to_string(alloc)?.as_str())?;
     }
     Ok(text)
 }
 
-// Whether a range with these bounds has these specifiers.
-fn is_range(alloc: Global, lower: &str, upper: &str, told: &str) -> Result<bool, Fail> {
-    let (from, to) = (bound_of(alloc, lower)?, bound_of(alloc, upper)?);
-    let bounds = (from.as_ref(), to.as_ref());
-    let specifiers = VersionSpecifier::from_release_only_bounds(alloc, bounds)?;
-    let text = text_of(alloc, specifiers)?;
-    Ok(text.as_str() == told)
-}
-
 #[test]
 fn ranges_are_told_by_specifiers(rt: HostRuntime) -> Result<(), Fail> {
-    for (lower, upper, told) in RANGES {
-        assert!(rt; is_range(rt.alloc(), lower, upper, told)?, "{told:?}");
+    for (lower, upper, told) in RANGES.iter() {
+        assert_eq!(rt; range_text(rt.alloc(), lower, upper)?.as_str(), *told);
     }
     Ok(())
 }

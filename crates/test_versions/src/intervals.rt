@@ -4,15 +4,22 @@ use pep440_rs::{
     Ranges, Refusal, Version, VersionSpecifier, laws, python_version_list_to_range,
     python_version_specifier_to_range, release_specifier_to_range, version_list_to_range,
 };
-use std::alloc::Global;
+use std::alloc::{AllocError, Global};
 use std::convert::Infallible;
 use std::ops::Bound;
 use std::test::Fail;
 use test_samples::versions_of;
 
-// A specifier, and the intervals of its set: `[` and `]` take their version in, `(` and `)` leave it out, and `-` and
-// `+` are open ends.
-const OF_WHOLE_VERSIONS: [(&str, &str); 60] = [
+// What a comparison or a list of versions is of.
+#[derive(Clone, Copy)]
+enum Subject {
+    Whole,
+    Python,
+}
+
+// A specifier, and the intervals of its set: `[` and `]` take their version in, `(` and `)` leave
+// it out, and `-` and `+` are open ends. Or `raised`, where the largest number would be raised.
+const OF_WHOLE_VERSIONS: [(&str, &str); 69] = [
     ("== 3", "[3 3]"),
     ("== 3.0", "[3 3]"),
     ("== 3.0.0", "[3 3]"),
@@ -73,9 +80,31 @@ const OF_WHOLE_VERSIONS: [(&str, &str); 60] = [
     ("!= 3.0.0.*", "- 3) [3.0.1 +"),
     ("!= 3.9.0.*", "- 3.9) [3.9.1 +"),
     ("!= 3.9.1.*", "- 3.9.1) [3.9.2 +"),
+    // The largest number
+    ("== 18446744073709551615.*", "raised"),
+    ("!= 3.18446744073709551615.*", "raised"),
+    (
+        "== 18446744073709551615.1.*",
+        "[18446744073709551615.1 18446744073709551615.2)",
+    ),
+    ("~= 3.18446744073709551615", "[3.18446744073709551615 4)"),
+    ("~= 18446744073709551615.1", "raised"),
+    (
+        "~= 18446744073709551615.1.1",
+        "[18446744073709551615.1.1 18446744073709551615.2)",
+    ),
+    (
+        "== 18446744073709551615",
+        "[18446744073709551615 18446744073709551615]",
+    ),
+    (
+        "!= 18446744073709551615",
+        "- 18446744073709551615) (18446744073709551615 +",
+    ),
+    ("> 3.18446744073709551615", "(3.18446744073709551615 +"),
 ];
 
-const OF_PYTHON_VERSION: [(&str, &str); 54] = [
+const OF_PYTHON_VERSION: [(&str, &str); 80] = [
     ("== 3", "[3 3.1)"),
     ("== 3.0", "[3 3.1)"),
     ("== 3.0.0", "[3 3.1)"),
@@ -130,48 +159,39 @@ const OF_PYTHON_VERSION: [(&str, &str); 54] = [
     ("~= 3.0.0", ""),
     ("~= 3.9.0", ""),
     ("~= 3.9.1", ""),
-];
-
-// Comparisons of a whole version with the largest number, and whether it would be raised.
-const WHOLE_AT_END: [(&str, bool); 9] = [
-    ("== 18446744073709551615.*", true),
-    ("!= 3.18446744073709551615.*", true),
-    ("== 18446744073709551615.1.*", false),
-    ("~= 3.18446744073709551615", false),
-    ("~= 18446744073709551615.1", true),
-    ("~= 18446744073709551615.1.1", false),
-    ("== 18446744073709551615", false),
-    ("!= 18446744073709551615", false),
-    ("> 3.18446744073709551615", false),
-];
-
-const PYTHON_AT_END: [(&str, bool); 26] = [
-    ("== 18446744073709551615.*", true),
-    ("== 18446744073709551615", false),
-    ("< 3.18446744073709551615", false),
-    ("< 3.18446744073709551615.1", true),
-    ("== 3.18446744073709551615.1", false),
-    ("!= 3.18446744073709551615.1", false),
-    ("== 3.18446744073709551615", true),
-    ("=== 3.18446744073709551615.0", true),
-    ("!= 3.18446744073709551615", true),
-    ("> 3.18446744073709551615", true),
-    ("> 3.18446744073709551615.1", true),
-    ("> 18446744073709551615", false),
-    (">= 3.18446744073709551615", false),
-    (">= 3.18446744073709551615.0", false),
-    (">= 3.18446744073709551615.1", true),
-    ("<= 3.18446744073709551615", true),
-    ("<= 3.18446744073709551615.1", true),
-    ("<= 18446744073709551615", false),
-    ("== 3.18446744073709551615.*", true),
-    ("!= 3.18446744073709551615.*", true),
-    ("!= 18446744073709551615.1.*", false),
-    ("== 3.18446744073709551615.1.*", false),
-    ("~= 3.18446744073709551615", false),
-    ("~= 18446744073709551615.1", true),
-    ("~= 18446744073709551615.1.1", false),
-    ("~= 3.18446744073709551615.1", false),
+    // The largest number
+    ("== 18446744073709551615.*", "raised"),
+    (
+        "== 18446744073709551615",
+        "[18446744073709551615 18446744073709551615.1)",
+    ),
+    ("< 3.18446744073709551615", "- 3.18446744073709551615)"),
+    ("< 3.18446744073709551615.1", "raised"),
+    ("== 3.18446744073709551615.1", ""),
+    ("!= 3.18446744073709551615.1", "- +"),
+    ("== 3.18446744073709551615", "raised"),
+    ("=== 3.18446744073709551615.0", "raised"),
+    ("!= 3.18446744073709551615", "raised"),
+    ("> 3.18446744073709551615", "raised"),
+    ("> 3.18446744073709551615.1", "raised"),
+    ("> 18446744073709551615", "[18446744073709551615.1 +"),
+    (">= 3.18446744073709551615", "[3.18446744073709551615 +"),
+    (">= 3.18446744073709551615.0", "[3.18446744073709551615 +"),
+    (">= 3.18446744073709551615.1", "raised"),
+    ("<= 3.18446744073709551615", "raised"),
+    ("<= 3.18446744073709551615.1", "raised"),
+    ("<= 18446744073709551615", "- 18446744073709551615.1)"),
+    ("== 3.18446744073709551615.*", "raised"),
+    ("!= 3.18446744073709551615.*", "raised"),
+    (
+        "!= 18446744073709551615.1.*",
+        "- 18446744073709551615.1) [18446744073709551615.2 +",
+    ),
+    ("== 3.18446744073709551615.1.*", ""),
+    ("~= 3.18446744073709551615", "[3.18446744073709551615 4)"),
+    ("~= 18446744073709551615.1", "raised"),
+    ("~= 18446744073709551615.1.1", ""),
+    ("~= 3.18446744073709551615.1", ""),
 ];
 
 // Lists of versions, and the intervals of the versions that are listed and that are not.
@@ -195,7 +215,7 @@ const LISTS: [(&str, &str, &str); 5] = [
     ),
 ];
 
-const PYTHON_LISTS: [(&str, &str, &str); 10] = [
+const PYTHON_LISTS: [(&str, &str, &str); 16] = [
     ("", "", "- +"),
     ("3.9", "[3.9 3.10)", "- 3.9) [3.10 +"),
     (
@@ -210,31 +230,26 @@ const PYTHON_LISTS: [(&str, &str, &str); 10] = [
     ("3.9.0", "", "- +"),
     ("3.9 3.9.1", "", "- +"),
     ("3.18446744073709551615 3.9.1", "", "- +"),
+    // The largest number
+    ("3.18446744073709551615", "raised", "raised"),
+    ("3.9 3.18446744073709551615 3.8", "raised", "raised"),
+    ("3.18446744073709551615a1", "raised", "raised"),
+    (
+        "18446744073709551615",
+        "[18446744073709551615 18446744073709551615.1)",
+        "- 18446744073709551615) [18446744073709551615.1 +",
+    ),
+    ("3.18446744073709551615.0", "", "- +"),
+    ("3.9.1 3.18446744073709551615", "", "- +"),
 ];
 
-// The version after a sign of one byte.
-fn version_after(alloc: Global, word: &str) -> Result<Version, Fail> {
-    Ok(Version::parse(alloc, word.trim_matches(['[', ']', '(', ')']))?)
-}
-
-fn lower_of(alloc: Global, word: &str) -> Result<Bound<Version>, Fail> {
-    if word == "-" {
+// The version of a word, and whether it is in.
+fn bound_of(alloc: Global, word: &str) -> Result<Bound<Version>, Fail> {
+    if word == "-" || word == "+" {
         return Ok(Bound::Unbounded);
     }
-    let version = version_after(alloc, word)?;
-    if word.starts_with('[') {
-        Ok(Bound::Included(version))
-    } else {
-        Ok(Bound::Excluded(version))
-    }
-}
-
-fn upper_of(alloc: Global, word: &str) -> Result<Bound<Version>, Fail> {
-    if word == "+" {
-        return Ok(Bound::Unbounded);
-    }
-    let version = version_after(alloc, word)?;
-    if word.ends_with(']') {
+    let version = Version::parse(alloc, word.trim_matches(['[', ']', '(', ')']))?;
+    if word.starts_with('[') || word.ends_with(']') {
         Ok(Bound::Included(version))
     } else {
         Ok(Bound::Excluded(version))
@@ -247,9 +262,9 @@ fn set_of(alloc: Global, text: &str) -> Result<Ranges<Version>, Fail> {
     let mut lower = None;
     for word in text.split_ascii_whitespace() {
         match lower.take() {
-            None => lower = Some(lower_of(alloc, word)?),
+            None => lower = Some(bound_of(alloc, word)?),
             Some(from) => {
-                let bounds = (from, upper_of(alloc, word)?);
+                let bounds = (from, bound_of(alloc, word)?);
                 laws::version_clones_are_equal();
                 set = set.union(alloc, &Ranges::from_range_bounds(alloc, bounds)?)?;
             }
@@ -258,173 +273,111 @@ fn set_of(alloc: Global, text: &str) -> Result<Ranges<Version>, Fail> {
     Ok(set)
 }
 
+// A lower bound, as the rows name it.
+fn lower_text(alloc: Global, bound: Bound<&Version>) -> Result<String, AllocError> {
+    match bound {
+        Bound::Unbounded => String::from_str(alloc, "-"),
+        Bound::Included(version) => format!(in alloc; "[{version}"),
+        Bound::Excluded(version) => format!(in alloc; "({version}"),
+    }
+}
+
+// An upper bound, as the rows name it.
+fn upper_text(alloc: Global, bound: Bound<&Version>) -> Result<String, AllocError> {
+    match bound {
+        Bound::Unbounded => String::from_str(alloc, "+"),
+        Bound::Included(version) => format!(in alloc; "{version}]"),
+        Bound::Excluded(version) => format!(in alloc; "{version})"),
+    }
+}
+
 // The intervals of a set, as the rows name them.
-fn text_of(alloc: Global, set: &Ranges<Version>) -> Result<String, Fail> {
+fn text_of(alloc: Global, set: &Ranges<Version>) -> Result<String, AllocError> {
     let mut text = String::new(alloc);
     for (lower, upper) in set.iter() {
         if !text.is_empty() {
             text.push(' ')?;
         }
-        let from = match lower {
-            Bound::Unbounded => format!(in alloc; "-")?,
-            Bound::Included(version) => format!(in alloc; "[{version}")?,
-            Bound::Excluded(version) => format!(in alloc; "({version}")?,
-        };
-        let to = match upper {
-            Bound::Unbounded => format!(in alloc; "+")?,
-            Bound::Included(version) => format!(in alloc; "{version}]")?,
-            Bound::Excluded(version) => format!(in alloc; "{version})")?,
-        };
-        text.push_str(from.as_str())?;
+        text.push_str(lower_text(alloc, lower)?.as_str())?;
         text.push(' ')?;
-        text.push_str(to.as_str())?;
+        text.push_str(upper_text(alloc, upper)?.as_str())?;
     }
     Ok(text)
 }
 
-// Whether a set has these intervals, whose bounds print as they stand there, and it is their union.
-fn is_set(alloc: Global, set: &Ranges<Version>, expected: &str) -> Result<bool, Fail> {
-    let text = text_of(alloc, set)?;
-    Ok(text.as_str() == expected && *set == set_of(alloc, expected)?)
-}
-
-// Whether the comparison of a whole version stands for these intervals.
-fn is_whole(alloc: Global, text: &str, expected: &str) -> Result<bool, Fail> {
-    let specifier = VersionSpecifier::parse(alloc, text)?;
-    let set = release_specifier_to_range(alloc, &specifier)?;
-    is_set(alloc, &set, expected)
-}
-
-#[test]
-fn comparisons_of_whole_versions(rt: HostRuntime) -> Result<(), Fail> {
-    for (text, expected) in OF_WHOLE_VERSIONS {
-        assert!(rt; is_whole(rt.alloc(), text, expected)?, "of {text:?}");
-    }
-    Ok(())
-}
-
-// Whether the comparison of `python_version` stands for these intervals.
-fn is_minor(alloc: Global, text: &str, expected: &str) -> Result<bool, Fail> {
-    let specifier = VersionSpecifier::parse(alloc, text)?;
-    let set = python_version_specifier_to_range(alloc, &specifier)?;
-    is_set(alloc, &set, expected)
-}
-
-#[test]
-fn comparisons_of_python_version(rt: HostRuntime) -> Result<(), Fail> {
-    for (text, expected) in OF_PYTHON_VERSION {
-        assert!(rt; is_minor(rt.alloc(), text, expected)?, "of {text:?}");
-    }
-    Ok(())
-}
-
-// Whether there is no set since the largest number would be raised. `None` where there is none for another cause.
-fn is_at_end(set: Result<Ranges<Version>, Refusal<Infallible>>) -> Option<bool> {
+// The intervals of a set, which is their union, or that the largest number would be raised.
+fn told(alloc: Global, set: Result<Ranges<Version>, Refusal<Infallible>>) -> Result<String, Fail> {
     match set {
-        Ok(_set) => Some(false),
-        Err(refusal) => match refusal {
-            Refusal::SegmentAtEnd => Some(true),
-            Refusal::OutOfMemory => None,
+        Ok(set) => {
+            let text = text_of(alloc, &set)?;
+            if set != set_of(alloc, text.as_str())? {
+                return Err("the set is not the union of its intervals".into());
+            }
+            Ok(text)
+        }
+        Err(Refusal::SegmentAtEnd) => Ok(String::from_str(alloc, "raised")?),
+        Err(Refusal::OutOfMemory) => Err("out of memory".into()),
+    }
+}
+
+// What the comparison stands for.
+fn comparison_text(alloc: Global, subject: Subject, text: &str) -> Result<String, Fail> {
+    let specifier = VersionSpecifier::parse(alloc, text)?;
+    told(
+        alloc,
+        match subject {
+            Subject::Whole => release_specifier_to_range(alloc, &specifier),
+            Subject::Python => python_version_specifier_to_range(alloc, &specifier),
         },
-    }
-}
-
-fn whole_at_end(alloc: Global, text: &str) -> Result<Option<bool>, Fail> {
-    let specifier = VersionSpecifier::parse(alloc, text)?;
-    Ok(is_at_end(release_specifier_to_range(alloc, &specifier)))
-}
-
-fn python_at_end(alloc: Global, text: &str) -> Result<Option<bool>, Fail> {
-    let specifier = VersionSpecifier::parse(alloc, text)?;
-    Ok(is_at_end(python_version_specifier_to_range(alloc, &specifier)))
+    )
 }
 
 #[test]
-fn the_largest_number_is_not_raised(rt: HostRuntime) -> Result<(), Fail> {
-    for (text, at_end) in WHOLE_AT_END {
-        assert_eq!(rt;
-            whole_at_end(rt.alloc(), text)?,
-            Some(at_end),
-            "of {text:?}"
-        );
-    }
-    for (text, at_end) in PYTHON_AT_END {
-        assert_eq!(rt;
-            python_at_end(rt.alloc(), text)?,
-            Some(at_end),
-            "of {text:?}"
-        );
+fn comparisons_stand_for_sets(rt: HostRuntime) -> Result<(), Fail> {
+    for (subject, rows) in [
+        (Subject::Whole, OF_WHOLE_VERSIONS.as_slice()),
+        (Subject::Python, OF_PYTHON_VERSION.as_slice()),
+    ]
+    .iter()
+    {
+        for (text, expected) in *rows {
+            let found = comparison_text(rt.alloc(), *subject, text)?;
+            assert_eq!(rt; found.as_str(), *expected, "of {text}");
+        }
     }
     Ok(())
 }
 
-// Whether the list, or its complement, has these intervals.
-fn is_list(alloc: Global, text: &str, negated: bool, expected: &str) -> Result<bool, Fail> {
+// What the list, or its complement, stands for.
+fn list_text(alloc: Global, subject: Subject, text: &str, negated: bool) -> Result<String, Fail> {
     let versions = versions_of(alloc, text)?;
-    let set = version_list_to_range(alloc, &versions, negated)?;
-    is_set(alloc, &set, expected)
+    told(
+        alloc,
+        match subject {
+            Subject::Whole => Ok(version_list_to_range(alloc, &versions, negated)?),
+            Subject::Python => python_version_list_to_range(alloc, &versions, negated),
+        },
+    )
 }
 
 #[test]
-fn lists_of_versions(rt: HostRuntime) -> Result<(), Fail> {
-    for (text, listed, others) in LISTS {
-        assert!(rt; is_list(rt.alloc(), text, false, listed)?, "of {text:?}");
-        assert!(rt; is_list(rt.alloc(), text, true, others)?, "of {text:?}");
-    }
-    Ok(())
-}
-
-// Whether the list of `python_version`, or its complement, has these intervals.
-fn is_minor_list(alloc: Global, text: &str, negated: bool, expected: &str) -> Result<bool, Fail> {
-    let versions = versions_of(alloc, text)?;
-    let set = python_version_list_to_range(alloc, &versions, negated)?;
-    is_set(alloc, &set, expected)
-}
-
-#[test]
-fn lists_of_python_version(rt: HostRuntime) -> Result<(), Fail> {
-    for (text, listed, others) in PYTHON_LISTS {
-        assert!(rt;
-            is_minor_list(rt.alloc(), text, false, listed)?,
-            "of {text:?}"
-        );
-        assert!(rt;
-            is_minor_list(rt.alloc(), text, true, others)?,
-            "of {text:?}"
-        );
-    }
-    Ok(())
-}
-
-// Lists of `python_version` with the largest number, and whether it would be raised.
-const LISTS_AT_END: [(&str, bool); 7] = [
-    ("3.18446744073709551615", true),
-    ("3.9 3.18446744073709551615 3.8", true),
-    ("3.18446744073709551615a1", true),
-    ("18446744073709551615", false),
-    ("3.18446744073709551615.0", false),
-    ("3.18446744073709551615 3.9.1", false),
-    ("3.9.1 3.18446744073709551615", false),
-];
-
-fn list_at_end(alloc: Global, text: &str, negated: bool) -> Result<Option<bool>, Fail> {
-    let versions = versions_of(alloc, text)?;
-    Ok(is_at_end(python_version_list_to_range(alloc, &versions, negated)))
-}
-
-#[test]
-fn lists_at_the_largest_number(rt: HostRuntime) -> Result<(), Fail> {
-    for (text, at_end) in LISTS_AT_END {
-        assert_eq!(rt;
-            list_at_end(rt.alloc(), text, false)?,
-            Some(at_end),
-            "of {text:?}"
-        );
-        assert_eq!(rt;
-            list_at_end(rt.alloc(), text, true)?,
-            Some(at_end),
-            "of {text:?}"
-        );
+fn lists_stand_for_sets(rt: HostRuntime) -> Result<(), Fail> {
+    for (subject, rows) in [
+        (Subject::Whole, LISTS.as_slice()),
+        (Subject::Python, PYTHON_LISTS.as_slice()),
+    ]
+    .iter()
+    {
+        for (text, listed, others) in *rows {
+            assert_eq!(rt;
+                list_text(rt.alloc(), *subject, text, false)?.as_str(),
+                *listed
+            );
+            assert_eq!(rt;
+                list_text(rt.alloc(), *subject, text, true)?.as_str(),
+                *others
+            );
+        }
     }
     Ok(())
 }
@@ -443,12 +396,14 @@ const FULL_VERSIONS: [(&str, bool); 10] = [
     ("1!3.9", false),
 ];
 
-// Whether the set has these full versions and no other.
-fn holds(alloc: Global, set: &Ranges<Version>, negated: bool) -> Result<bool, Fail> {
+// Whether the list of both, or its complement, has these full versions and no other.
+fn holds(alloc: Global, negated: bool) -> Result<bool, Fail> {
+    let versions = versions_of(alloc, "3.9 3.11")?;
+    let set = python_version_list_to_range(alloc, &versions, negated)?;
     let mut is_same = true;
-    for (text, held) in FULL_VERSIONS {
+    for (text, held) in FULL_VERSIONS.iter() {
         let version = Version::parse(alloc, text)?;
-        is_same = is_same && set.contains(&version) == (held != negated);
+        is_same = is_same && set.contains(&version) == (*held != negated);
     }
     Ok(is_same)
 }
@@ -456,10 +411,7 @@ fn holds(alloc: Global, set: &Ranges<Version>, negated: bool) -> Result<bool, Fa
 // Pre-releases stand before their release, and so does what a half line leaves out.
 #[test]
 fn sets_hold_full_versions(rt: HostRuntime) -> Result<(), Fail> {
-    let versions = versions_of(rt.alloc(), "3.9 3.11")?;
-    for negated in [false, true] {
-        let set = python_version_list_to_range(rt.alloc(), &versions, negated)?;
-        assert!(rt; holds(rt.alloc(), &set, negated)?, "negated: {negated}");
-    }
+    assert!(rt; holds(rt.alloc(), false)?);
+    assert!(rt; holds(rt.alloc(), true)?);
     Ok(())
 }

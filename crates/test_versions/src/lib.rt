@@ -1,5 +1,5 @@
-//! Tests of versions, version specifiers and the sets that they stand for, over texts and answers that were worked out
-//! by hand.
+//! Tests of versions, version specifiers and the sets that they stand for, over texts and answers
+//! that were worked out by hand.
 #![tactic(auto)]
 
 #[cfg(test)]

@@ -1,12 +1,12 @@
 //! Version specifiers: the texts that are read, near misses, and the texts of faults.
 
-use pep440_rs::{Operator, VersionSpecifier};
+use pep440_rs::{Operator, VersionSpecifier, VersionSpecifierError};
 use std::alloc::Global;
 use std::test::Fail;
 use test_samples::{fault_of, hash_of, prints};
 
 // A text, the operator that it has, and how it is printed.
-const READ: [(&str, Operator, &str); 24] = [
+const READ: [(&str, Operator, &str); 50] = [
     ("==3.9", Operator::Equal, "==3.9"),
     ("==3.9.*", Operator::EqualStar, "==3.9.*"),
     ("===3.9", Operator::ExactEqual, "===3.9"),
@@ -35,6 +35,33 @@ const READ: [(&str, Operator, &str); 24] = [
         Operator::LessThanEqual,
         "<=18446744073709551615",
     ),
+    // The examples of PEP 440, "Version specifiers", and further ones of each operator
+    ("~=0.9", Operator::TildeEqual, "~=0.9"),
+    (">=1.0", Operator::GreaterThanEqual, ">=1.0"),
+    ("!=1.3.4.*", Operator::NotEqualStar, "!=1.3.4.*"),
+    ("<2.0", Operator::LessThan, "<2.0"),
+    ("~=2.2", Operator::TildeEqual, "~=2.2"),
+    ("~=1.4.5", Operator::TildeEqual, "~=1.4.5"),
+    ("~=2.2.post3", Operator::TildeEqual, "~=2.2.post3"),
+    ("~=1.4.5a4", Operator::TildeEqual, "~=1.4.5a4"),
+    ("~=2.2.0", Operator::TildeEqual, "~=2.2.0"),
+    ("~=1.4.5.0", Operator::TildeEqual, "~=1.4.5.0"),
+    ("==1.1", Operator::Equal, "==1.1"),
+    ("==1.1.post1", Operator::Equal, "==1.1.post1"),
+    ("==1.1.*", Operator::EqualStar, "==1.1.*"),
+    ("!=1.1.post1", Operator::NotEqual, "!=1.1.post1"),
+    (">1.7", Operator::GreaterThan, ">1.7"),
+    (">1.7.post2", Operator::GreaterThan, ">1.7.post2"),
+    ("~=3.1a1", Operator::TildeEqual, "~=3.1a1"),
+    ("~=3.1.0", Operator::TildeEqual, "~=3.1.0"),
+    ("!=3.1.3", Operator::NotEqual, "!=3.1.3"),
+    ("==2.1.0.3", Operator::Equal, "==2.1.0.3"),
+    ("!=2.2.*", Operator::NotEqualStar, "!=2.2.*"),
+    ("!=2.2.0.5", Operator::NotEqual, "!=2.2.0.5"),
+    ("<=5", Operator::LessThanEqual, "<=5"),
+    (">=7.9a1", Operator::GreaterThanEqual, ">=7.9a1"),
+    ("<1.0.dev1", Operator::LessThan, "<1.0.dev1"),
+    (">2.0.post1", Operator::GreaterThan, ">2.0.post1"),
 ];
 
 // A text that is no specifier, the byte of its fault, and what is told.
@@ -156,38 +183,8 @@ const FAULTS: [(&str, usize, &str); 23] = [
     ),
 ];
 
-// The examples of PEP 440, "Version specifiers", and further ones of each operator, as they are printed.
-const EXAMPLES: [&str; 26] = [
-    "~=0.9",
-    ">=1.0",
-    "!=1.3.4.*",
-    "<2.0",
-    "~=2.2",
-    "~=1.4.5",
-    "~=2.2.post3",
-    "~=1.4.5a4",
-    "~=2.2.0",
-    "~=1.4.5.0",
-    "==1.1",
-    "==1.1.post1",
-    "==1.1.*",
-    "!=1.1.post1",
-    ">1.7",
-    ">1.7.post2",
-    "~=3.1a1",
-    "~=3.1.0",
-    "!=3.1.3",
-    "==2.1.0.3",
-    "!=2.2.*",
-    "!=2.2.0.5",
-    "<=5",
-    ">=7.9a1",
-    "<1.0.dev1",
-    ">2.0.post1",
-];
-
-// What PEP 440 does not allow: no operator, one that it has not, no version, a local part or a star where none may stand,
-// a star not at the end, and one number behind `~=`.
+// What PEP 440 does not allow: no operator, one that it has not, no version, a local part or a star
+// where none may stand, a star not at the end, and one number behind `~=`.
 const NOT_ALLOWED: [&str; 31] = [
     "2.0",
     "=>2.0",
@@ -222,77 +219,70 @@ const NOT_ALLOWED: [&str; 31] = [
     "!=1.0.dev1.*",
 ];
 
-// Whether the text is a specifier with this operator, and prints so.
-fn is_read(alloc: Global, text: &str, operator: Operator, printed: &str) -> Result<bool, Fail> {
-    let specifier = VersionSpecifier::parse(alloc, text)?;
-    Ok(specifier.operator() == operator && prints(alloc, &specifier, printed)?)
+// Whether the specifier has this operator, and prints so.
+fn has_text(
+    alloc: Global,
+    specifier: &VersionSpecifier,
+    operator: Operator,
+    printed: &str,
+) -> Result<bool, Fail> {
+    Ok(specifier.operator() == operator && prints(alloc, specifier, printed)?)
 }
 
-// Whether both texts are the same specifier.
-fn is_same(alloc: Global, text: &str, printed: &str) -> Result<bool, Fail> {
-    let specifier = VersionSpecifier::parse(alloc, text)?;
+// Whether the text is this specifier too.
+fn is_same(alloc: Global, specifier: &VersionSpecifier, printed: &str) -> Result<bool, Fail> {
     let again = VersionSpecifier::parse(alloc, printed)?;
     Ok(
-        again == specifier
+        again == *specifier
             && again.version().release() == specifier.version().release()
-            && hash_of(&again) == hash_of(&specifier),
+            && hash_of(&again) == hash_of(specifier),
     )
 }
 
-// Whether a clone of the text's specifier is equal to it, and comes apart into its operator and version.
-fn is_cloned(alloc: Global, text: &str) -> Result<bool, Fail> {
-    let specifier = VersionSpecifier::parse(alloc, text)?;
+// Whether a clone is equal to it, and comes apart into its operator and version.
+fn is_cloned(specifier: &VersionSpecifier) -> Result<bool, Fail> {
     let copy = specifier.clone()?;
-    let is_equal = copy == specifier;
+    let is_equal = copy == *specifier;
     let (operator, version) = copy.into_parts();
     Ok(is_equal && operator == specifier.operator() && version == *specifier.version())
 }
 
 #[test]
 fn each_operator_is_read_and_printed(rt: HostRuntime) -> Result<(), Fail> {
-    for (text, operator, printed) in READ {
-        assert!(rt; is_read(rt.alloc(), text, operator, printed)?, "{text:?}");
-        assert!(rt; is_same(rt.alloc(), text, printed)?, "{text:?}");
-        assert!(rt; is_cloned(rt.alloc(), text)?, "{text:?}");
+    for (text, operator, printed) in READ.iter() {
+        let specifier = VersionSpecifier::parse(rt.alloc(), text)?;
+        let is_read = has_text(rt.alloc(), &specifier, *operator, printed)?
+            && is_same(rt.alloc(), &specifier, printed)?
+            && is_cloned(&specifier)?;
+        assert!(rt; is_read, "{text:?}");
     }
     Ok(())
 }
 
+// The fault of a text that is no specifier. A failure names a text that is one.
+fn fault(alloc: Global, text: &str) -> Result<VersionSpecifierError, Fail> {
+    Ok(fault_of(VersionSpecifier::parse(alloc, text)).ok_or(text)?)
+}
+
 // Whether the text is no specifier, with this fault.
 fn is_told(alloc: Global, text: &str, offset: usize, message: &str) -> Result<bool, Fail> {
-    let Some(fault) = fault_of(VersionSpecifier::parse(alloc, text)) else {
-        return Ok(false);
-    };
+    let fault = fault(alloc, text)?;
     let is_placed = fault.offset() == Some(offset) && fault.text() == Some(text);
     Ok(is_placed && prints(alloc, &fault, message)?)
 }
 
 #[test]
 fn faults_of_specifiers_name_the_place_and_the_cause(rt: HostRuntime) -> Result<(), Fail> {
-    for (text, offset, message) in FAULTS {
-        assert!(rt; is_told(rt.alloc(), text, offset, message)?, "{text:?}");
-    }
-    Ok(())
-}
-
-// Whether the text is a specifier that is printed as it was written.
-fn is_kept(alloc: Global, text: &str) -> Result<bool, Fail> {
-    let specifier = VersionSpecifier::parse(alloc, text)?;
-    prints(alloc, &specifier, text)
-}
-
-#[test]
-fn examples_of_specifiers_are_read(rt: HostRuntime) -> Result<(), Fail> {
-    for text in EXAMPLES {
-        assert!(rt; is_kept(rt.alloc(), text)?, "{text:?}");
+    for (text, offset, message) in FAULTS.iter() {
+        assert!(rt; is_told(rt.alloc(), text, *offset, message)?, "{text:?}");
     }
     Ok(())
 }
 
 #[test]
-fn what_is_not_allowed_is_refused(rt: HostRuntime) {
-    for text in NOT_ALLOWED {
-        let fault = fault_of(VersionSpecifier::parse(rt.alloc(), text));
-        assert!(rt; fault.is_some(), "{text:?}");
+fn what_is_not_allowed_is_refused(rt: HostRuntime) -> Result<(), Fail> {
+    for text in NOT_ALLOWED.iter() {
+        let _fault = fault(rt.alloc(), text)?;
     }
+    Ok(())
 }

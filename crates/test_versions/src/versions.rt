@@ -1,12 +1,14 @@
 //! Examples of PEP 440, each spelling of each word, and the texts of faults.
 
-use pep440_rs::{Expected, LocalSegment, Prerelease, PrereleaseKind, Version, VersionPattern};
-use std::alloc::Global;
+use pep440_rs::{LocalSegment, Prerelease, PrereleaseKind, Refusal, Version, VersionPattern};
+use std::alloc::{AllocError, Global};
 use std::cmp::Ordering;
 use std::test::Fail;
 use test_samples::{fault_of, hash_of, is_before, prints};
 
-const NORMALIZED: [(&str, &str); 48] = [
+// Texts of versions with their normal texts, and texts that are none with nothing.
+const NORMALIZED: [(&str, &str); 78] = [
+    // PEP 440, "Normalization", and the examples of its grammar
     ("1.1RC1", "1.1rc1"),
     ("00", "0"),
     ("09000", "9000"),
@@ -58,58 +60,78 @@ const NORMALIZED: [(&str, &str); 48] = [
         "18446744073709551615!18446744073709551615",
         "18446744073709551615!18446744073709551615",
     ),
+    // Texts that are near a version: a mark, an epoch, separators, and suffixes twice or not in
+    // their order
+    ("v", ""),
+    ("w1", ""),
+    ("v 1", ""),
+    ("1v", ""),
+    ("-1", ""),
+    (".1", ""),
+    ("+a", ""),
+    ("!1", ""),
+    ("1!!1", ""),
+    ("1!2!3", ""),
+    ("v!1", ""),
+    ("1!v1", ""),
+    ("1!a1", ""),
+    ("a1", ""),
+    ("dev", ""),
+    ("1,0", ""),
+    ("1.0 a1", ""),
+    ("1.0a 1", ""),
+    ("1.0--a1", ""),
+    ("1.0a--1", ""),
+    ("1.0.-dev1", ""),
+    ("1.0--1", ""),
+    ("1.0_1", ""),
+    ("1.0-1-1", ""),
+    ("1.0a1b1", ""),
+    ("1.0.post1a1", ""),
+    ("1.0.post1.post2", ""),
+    ("1.0.dev1.post1", ""),
+    ("1.0.dev1.dev2", ""),
+    ("1.0-+a", ""),
 ];
 
-const WORDS: [(&str, &str); 14] = [
-    ("alpha", "a"),
-    ("a", "a"),
-    ("Alpha", "a"),
-    ("beta", "b"),
-    ("B", "b"),
-    ("rc", "rc"),
-    ("c", "rc"),
-    ("pre", "rc"),
-    ("PreView", "rc"),
-    ("post", ".post"),
-    ("rev", ".post"),
-    ("R", ".post"),
-    ("dev", ".dev"),
-    ("DEV", ".dev"),
+// Words of a version with their normal text, and near misses of them with nothing: cut, lengthened,
+// or with other letters.
+const WORDS: [(&str, &str); 12] = [
+    ("alpha a Alpha", "a"),
+    ("beta B", "b"),
+    ("rc c pre PreView", "rc"),
+    ("post rev R", ".post"),
+    ("dev DEV", ".dev"),
+    ("al alph alpah alphaa aa A\u{301}", ""),
+    ("be bet betaa bb", ""),
+    ("cc rcc rrc", ""),
+    ("pr pree prev previe preveiw previews", ""),
+    ("po pos postt posts p\u{F6}st", ""),
+    ("re revv revs rr", ""),
+    ("d de deb devv devel dev.dev", ""),
 ];
 
-const ORDERED: [&str; 27] = [
-    "1.dev0",
-    "1.0.dev456",
-    "1.0a1.dev1",
-    "1.0a1",
-    "1.0a2.dev456",
-    "1.0a12.dev456",
-    "1.0a12",
-    "1.0b1.dev456",
-    "1.0b2",
-    "1.0b2.post345.dev456",
-    "1.0b2.post345",
-    "1.0rc1.dev456",
-    "1.0rc1",
-    "1.0",
-    "1.0+abc",
-    "1.0+abc.5",
-    "1.0+abc.7",
-    "1.0+5",
-    "1.0.post456.dev34",
-    "1.0.post456",
-    "1.0.15",
-    "1.1.dev1",
-    "2013.10",
-    "2014.04",
-    "1!1.0",
-    "1!1.1",
-    "1!2.0",
+// What may stand before a word, or nothing.
+const SEPARATORS: [&str; 4] = ["", "-", "_", "."];
+
+// What may stand behind a word, and the number that it means. Nothing where there is no version.
+const NUMBERS: [(&str, &str); 9] = [
+    ("", "0"),
+    ("1", "1"),
+    ("07", "7"),
+    ("-07", "7"),
+    ("_07", "7"),
+    (".07", "7"),
+    ("-", ""),
+    ("_", ""),
+    (".", ""),
 ];
 
-// PEP 440, "Final releases", "Examples of compliant version schemes" and "Version epochs": the versions of a scheme, in
-// ascending order. The last two lines have post releases written in two ways, and local parts.
-const SCHEMES: [&str; 11] = [
+// The versions of a scheme, in ascending order: PEP 440, "Summary of permitted suffixes and
+// relative ordering", "Final releases", "Examples of compliant version schemes" and "Version
+// epochs". The last two lines have post releases written in two ways, and local parts.
+const SCHEMES: [&str; 12] = [
+    "1.dev0 1.0.dev456 1.0a1.dev1 1.0a1 1.0a2.dev456 1.0a12.dev456 1.0a12 1.0b1.dev456 1.0b2 1.0b2.post345.dev456 1.0b2.post345 1.0rc1.dev456 1.0rc1 1.0 1.0+abc 1.0+abc.5 1.0+abc.7 1.0+5 1.0.post456.dev34 1.0.post456 1.0.15 1.1.dev1 2013.10 2014.04 1!1.0 1!1.1 1!2.0",
     "0.9 0.9.1 0.9.2 0.9.10 0.9.11 1.0 1.0.1 1.1 2.0 2.0.1",
     "0.1 0.2 0.3 1.0 1.1",
     "1.0.dev1 1.0a1 1.0 1.0.post1",
@@ -123,206 +145,114 @@ const SCHEMES: [&str; 11] = [
     "1.2 1.2+123abc 1.2+123abc456 1.2+abc 1.2+abc123 1.2+abc123def 1.2+1234.abc 1.2+123456 1.2.r32+123456 1.2.rev33+123456",
 ];
 
-// A word of a version, and near misses of it: cut, lengthened, or with other letters.
-const NEAR_MISSES: [(&str, &str); 7] = [
-    ("alpha", "al alph alpah alphaa aa A\u{301}"),
-    ("beta", "be bet betaa bb"),
-    ("rc", "cc rcc rrc"),
-    ("preview", "pr pree prev previe preveiw previews"),
-    ("post", "po pos postt posts p\u{F6}st"),
-    ("rev", "re revv revs rr"),
-    ("dev", "d de deb devv devel dev.dev"),
-];
-
-// Texts that are near a version: a mark, an epoch, separators, and suffixes twice or not in their order.
-const NO_VERSIONS: [&str; 30] = [
-    "v",
-    "w1",
-    "v 1",
-    "1v",
-    "-1",
-    ".1",
-    "+a",
-    "!1",
-    "1!!1",
-    "1!2!3",
-    "v!1",
-    "1!v1",
-    "1!a1",
-    "a1",
-    "dev",
-    "1,0",
-    "1.0 a1",
-    "1.0a 1",
-    "1.0--a1",
-    "1.0a--1",
-    "1.0.-dev1",
-    "1.0--1",
-    "1.0_1",
-    "1.0-1-1",
-    "1.0a1b1",
-    "1.0.post1a1",
-    "1.0.post1.post2",
-    "1.0.dev1.post1",
-    "1.0.dev1.dev2",
-    "1.0-+a",
-];
-
-const FAULTS: [(&str, usize, &str); 28] = [
-    ("", 0, "Expected a release number, found the end of \"\""),
+// A text that is no version, the byte of its fault, and what is told.
+const FAULTS: [(&str, &str); 28] = [
+    ("", "0 Expected a release number, found the end of \"\""),
     (
         "   ",
-        0,
-        "Expected a release number, found the end of \"   \"",
+        "0 Expected a release number, found the end of \"   \"",
     ),
     (
         "french toast",
-        0,
-        "Expected a release number, found 'f' at byte 0 of \"french toast\"",
+        "0 Expected a release number, found 'f' at byte 0 of \"french toast\"",
     ),
     (
         "3.x",
-        2,
-        "Expected a release number, found 'x' at byte 2 of \"3.x\"",
+        "2 Expected a release number, found 'x' at byte 2 of \"3.x\"",
     ),
     (
         " 3. ",
-        3,
-        "Expected a release number, found the end of \" 3. \"",
+        "3 Expected a release number, found the end of \" 3. \"",
     ),
     (
         "1..0",
-        2,
-        "Expected a release number, found '.' at byte 2 of \"1..0\"",
+        "2 Expected a release number, found '.' at byte 2 of \"1..0\"",
     ),
-    (
-        "1!",
-        2,
-        "Expected a release number, found the end of \"1!\"",
-    ),
+    ("1!", "2 Expected a release number, found the end of \"1!\""),
     (
         "vv1",
-        1,
-        "Expected a release number, found 'v' at byte 1 of \"vv1\"",
+        "1 Expected a release number, found 'v' at byte 1 of \"vv1\"",
     ),
     (
         "1.0.*",
-        4,
-        "Expected a release number, found '*' at byte 4 of \"1.0.*\"",
+        "4 Expected a release number, found '*' at byte 4 of \"1.0.*\"",
     ),
     (
         "1.0-",
-        4,
-        "Expected a pre-release, a post release or a development release, found the end of \"1.0-\"",
+        "4 Expected a pre-release, a post release or a development release, found the end of \"1.0-\"",
     ),
     (
         "1_0",
-        2,
-        "Expected a pre-release, a post release or a development release, found '0' at byte 2 of \"1_0\"",
+        "2 Expected a pre-release, a post release or a development release, found '0' at byte 2 of \"1_0\"",
     ),
     (
         "1.0a-",
-        4,
-        "Expected the end of the version, found '-' at byte 4 of \"1.0a-\"",
+        "4 Expected the end of the version, found '-' at byte 4 of \"1.0a-\"",
     ),
     (
         "1.0 .dev1",
-        3,
-        "Expected the end of the version, found ' ' at byte 3 of \"1.0 .dev1\"",
+        "3 Expected the end of the version, found ' ' at byte 3 of \"1.0 .dev1\"",
     ),
     (
         "1.0po\u{17F}t1",
-        3,
-        "Expected the end of the version, found 'p' at byte 3 of \"1.0po\u{17F}t1\"",
+        "3 Expected the end of the version, found 'p' at byte 3 of \"1.0po\u{17F}t1\"",
     ),
     (
         "1.0post1-2",
-        8,
-        "Expected the end of the version, found '-' at byte 8 of \"1.0post1-2\"",
+        "8 Expected the end of the version, found '-' at byte 8 of \"1.0post1-2\"",
     ),
     (
         "1.0+",
-        4,
-        "Expected letters or digits of the local version, found the end of \"1.0+\"",
+        "4 Expected letters or digits of the local version, found the end of \"1.0+\"",
     ),
     (
         "1.0+a..b",
-        6,
-        "Expected letters or digits of the local version, found '.' at byte 6 of \"1.0+a..b\"",
+        "6 Expected letters or digits of the local version, found '.' at byte 6 of \"1.0+a..b\"",
     ),
     (
         "1.0+_a",
-        4,
-        "Expected letters or digits of the local version, found '_' at byte 4 of \"1.0+_a\"",
+        "4 Expected letters or digits of the local version, found '_' at byte 4 of \"1.0+_a\"",
     ),
     (
         "1.0+a+",
-        5,
-        "Expected the end of the version, found '+' at byte 5 of \"1.0+a+\"",
+        "5 Expected the end of the version, found '+' at byte 5 of \"1.0+a+\"",
     ),
     (
         "1.0++",
-        4,
-        "Expected letters or digits of the local version, found '+' at byte 4 of \"1.0++\"",
+        "4 Expected letters or digits of the local version, found '+' at byte 4 of \"1.0++\"",
     ),
     (
         "1.0+_foobar",
-        4,
-        "Expected letters or digits of the local version, found '_' at byte 4 of \"1.0+_foobar\"",
+        "4 Expected letters or digits of the local version, found '_' at byte 4 of \"1.0+_foobar\"",
     ),
     (
         "1.0+foo&asd",
-        7,
-        "Expected the end of the version, found '&' at byte 7 of \"1.0+foo&asd\"",
+        "7 Expected the end of the version, found '&' at byte 7 of \"1.0+foo&asd\"",
     ),
     (
         "1.0+1+1",
-        5,
-        "Expected the end of the version, found '+' at byte 5 of \"1.0+1+1\"",
+        "5 Expected the end of the version, found '+' at byte 5 of \"1.0+1+1\"",
     ),
     (
         "1.0+\u{E9}",
-        4,
-        "Expected letters or digits of the local version, found '\u{E9}' at byte 4 of \"1.0+\u{E9}\"",
+        "4 Expected letters or digits of the local version, found '\u{E9}' at byte 4 of \"1.0+\u{E9}\"",
     ),
     (
         "18446744073709551616",
-        0,
-        "Expected a number of at most 18446744073709551615, found '1' at byte 0 of \"18446744073709551616\"",
+        "0 Expected a number of at most 18446744073709551615, found '1' at byte 0 of \"18446744073709551616\"",
     ),
     (
         "1a18446744073709551616",
-        2,
-        "Expected a number of at most 18446744073709551615, found '1' at byte 2 of \"1a18446744073709551616\"",
+        "2 Expected a number of at most 18446744073709551615, found '1' at byte 2 of \"1a18446744073709551616\"",
     ),
     (
         "1+a.18446744073709551616",
-        4,
-        "Expected a number of at most 18446744073709551615, found '1' at byte 4 of \"1+a.18446744073709551616\"",
+        "4 Expected a number of at most 18446744073709551615, found '1' at byte 4 of \"1+a.18446744073709551616\"",
     ),
     (
         "\u{200B}1",
-        0,
-        "Expected a release number, found '\\u{200b}' at byte 0 of \"\\u{200b}1\"",
+        "0 Expected a release number, found '\\u{200b}' at byte 0 of \"\\u{200b}1\"",
     ),
-];
-
-const PATTERNS: [(&str, &str, bool); 4] = [
-    ("3.9", "3.9", false),
-    ("1.0a1+x", "1.0a1+x", false),
-    ("3.9.*", "3.9", true),
-    (" V1!2.0.* ", "1!2.0", true),
-];
-
-const PATTERN_FAULTS: [(&str, usize, Expected); 8] = [
-    ("*", 0, Expected::ReleaseNumber),
-    ("3.9*", 3, Expected::End),
-    ("3.9. *", 4, Expected::ReleaseNumber),
-    ("3.*.1", 3, Expected::End),
-    ("3.9.*x", 5, Expected::End),
-    ("3.9a1.*", 5, Expected::End),
-    ("3.9.dev1.*", 8, Expected::End),
-    ("3.9+x.*", 6, Expected::LocalSegment),
 ];
 
 // Whether the version is the one that the text says, with the same release, and is hashed like it.
@@ -335,65 +265,60 @@ fn is_same(alloc: Global, version: &Version, text: &str) -> Result<bool, Fail> {
     )
 }
 
-// Whether the text is a version with this normal text, which reads back as the same version.
-fn is_normal(alloc: Global, text: &str, normal: &str) -> Result<bool, Fail> {
-    let version = Version::parse(alloc, text)?;
-    Ok(prints(alloc, &version, normal)? && is_same(alloc, &version, normal)?)
+// The normal text of the version that the text is, which reads back as it. Nothing where it is no
+// version.
+fn normal_text(alloc: Global, text: &str) -> Result<String, Fail> {
+    match Version::parse(alloc, text) {
+        Ok(version) => {
+            let normal = version.to_string(alloc)?;
+            if !is_same(alloc, &version, normal.as_str())? {
+                return Err("the normal text is another version".into());
+            }
+            Ok(normal)
+        }
+        Err(Refusal::Fault(_)) => Ok(String::new(alloc)),
+        Err(_) => Err("out of memory".into()),
+    }
 }
 
-// PEP 440, "Normalization", and the examples of its grammar.
 #[test]
 fn texts_are_normalized(rt: HostRuntime) -> Result<(), Fail> {
-    for (text, normal) in NORMALIZED {
-        assert!(rt; is_normal(rt.alloc(), text, normal)?, "{text:?}");
+    for (text, normal) in NORMALIZED.iter() {
+        assert_eq!(rt;
+            normal_text(rt.alloc(), text)?.as_str(),
+            *normal,
+            "{text:?}"
+        );
     }
     Ok(())
 }
 
-// Whether a version with the word and no number behind it has the number 0.
-fn has_no_number(alloc: Global, before: &str, word: &str, normal: &str) -> Result<bool, Fail> {
-    let text = format!(in alloc; "1.0{before}{word}")?;
-    let expected = format!(in alloc; "1.0{normal}0")?;
-    is_normal(alloc, text.as_str(), expected.as_str())
-}
-
-// Whether a version with the word and a number behind this separator has the number.
-fn has_number(
-    alloc: Global,
-    before: &str,
-    word: &str,
-    after: &str,
-    normal: &str,
-) -> Result<bool, Fail> {
-    let text = format!(in alloc; "1.0{before}{word}{after}07")?;
-    let expected = format!(in alloc; "1.0{normal}7")?;
-    is_normal(alloc, text.as_str(), expected.as_str())
-}
-
-// Whether a text that ends in a separator is no version.
-fn is_open(alloc: Global, before: &str, word: &str, after: &str) -> Result<bool, Fail> {
-    let text = format!(in alloc; "1.0{before}{word}{after}")?;
-    Ok(after.is_empty() || Version::parse(alloc, text.as_str()).is_err())
-}
-
-// Whether the word is read before and behind each separator.
+// Whether the word is read as this behind a release and this, whatever stands behind it.
 fn is_word(alloc: Global, before: &str, word: &str, normal: &str) -> Result<bool, Fail> {
-    let mut is_read = has_no_number(alloc, before, word, normal)?;
-    for after in ["", "-", "_", "."] {
-        is_read = is_read && has_number(alloc, before, word, after, normal)?;
-        is_read = is_read && is_open(alloc, before, word, after)?;
+    let mut is_read = true;
+    for (behind, number) in NUMBERS.iter() {
+        let text = format!(in alloc; "1.0{before}{word}{behind}")?;
+        let found = normal_text(alloc, text.as_str())?;
+        is_read = is_read
+            && if normal.is_empty() || number.is_empty() {
+                found.is_empty()
+            } else {
+                found == format!(in alloc; "1.0{normal}{number}")?
+            };
     }
     Ok(is_read)
 }
 
 #[test]
 fn each_word_is_read_with_each_separator(rt: HostRuntime) -> Result<(), Fail> {
-    for (word, normal) in WORDS {
-        for before in ["", "-", "_", "."] {
-            assert!(rt;
-                is_word(rt.alloc(), before, word, normal)?,
-                "{before}{word}"
-            );
+    for (words, normal) in WORDS.iter() {
+        for word in words.split(' ') {
+            for before in SEPARATORS.iter() {
+                assert!(rt;
+                    is_word(rt.alloc(), before, word, normal)?,
+                    "{before}{word}"
+                );
+            }
         }
     }
     Ok(())
@@ -401,62 +326,63 @@ fn each_word_is_read_with_each_separator(rt: HostRuntime) -> Result<(), Fail> {
 
 // Whether the first version stands before the second one.
 fn is_ordered(alloc: Global, low: &str, high: &str) -> Result<bool, Fail> {
-    let below = Version::parse(alloc, low)?;
-    let above = Version::parse(alloc, high)?;
-    Ok(is_before(&below, &above))
-}
-
-// PEP 440, "Summary of permitted suffixes and relative ordering", and its examples of release schemes.
-#[test]
-fn versions_stand_in_order(rt: HostRuntime) -> Result<(), Fail> {
-    for pair in ORDERED.as_slice().windows(2) {
-        if let [low, high] = pair {
-            assert!(rt; is_ordered(rt.alloc(), low, high)?, "{low} and {high}");
-        }
-    }
-    Ok(())
+    Ok(is_before(&Version::parse(alloc, low)?, &Version::parse(alloc, high)?))
 }
 
 // Whether each version of a line stands before the next one.
 fn is_ascending(alloc: Global, scheme: &str) -> Result<bool, Fail> {
-    let mut last: Option<&str> = None;
-    for text in scheme.split(' ') {
-        if let Some(low) = last {
-            if !is_ordered(alloc, low, text)? {
-                return Ok(false);
-            }
-        }
-        last = Some(text);
+    let mut is_so = true;
+    for (low, high) in scheme.split(' ').zip(scheme.split(' ').skip(1)) {
+        is_so = is_so && is_ordered(alloc, low, high)?;
     }
-    Ok(last.is_some())
+    Ok(is_so)
 }
 
 #[test]
 fn schemes_of_versions_stand_in_order(rt: HostRuntime) -> Result<(), Fail> {
-    for scheme in SCHEMES {
+    for scheme in SCHEMES.iter() {
         assert!(rt; is_ascending(rt.alloc(), scheme)?, "{scheme}");
     }
     Ok(())
 }
 
-// Whether both are one version, whatever the zeros at the end of its release.
-fn is_tie(alloc: Global, short: &str, long: &str) -> Result<bool, Fail> {
-    let left = Version::parse(alloc, short)?;
-    let right = Version::parse(alloc, long)?;
-    Ok(left == right && left.cmp(&right) == Ordering::Equal && hash_of(&left) == hash_of(&right))
+// A version, its release, that without the zeros at its end, and the version that has that.
+const RELEASES: [(&str, &[u64], &[u64], &str); 4] = [
+    ("3.9", &[3, 9], &[3, 9], "3.9"),
+    ("3.9.0", &[3, 9, 0], &[3, 9], "3.9"),
+    ("3.0.0.0.0", &[3, 0, 0, 0, 0], &[3], "3"),
+    ("1!0.0+a", &[0, 0], &[0], "1!0+a"),
+];
+
+// Whether both are one version, and are hashed alike.
+fn is_tie(version: &Version, other: &Version) -> bool {
+    version == other && version.cmp(other) == Ordering::Equal && hash_of(version) == hash_of(other)
 }
 
-// Whether a version has this release, and prints as it was written.
-fn has_release(alloc: Global, text: &str, release: &[u64]) -> Result<bool, Fail> {
-    let version = Version::parse(alloc, text)?;
-    Ok(version.release() == release && prints(alloc, &version, text)?)
+// Whether the version is trimmed to the other one.
+fn is_trimmed(alloc: Global, version: &Version, text: &str) -> Result<bool, Fail> {
+    Ok(is_tie(version, &Version::parse(alloc, text)?) && prints(alloc, &version.trimmed()?, text)?)
+}
+
+// Zeros at the end of a release do not count.
+#[test]
+fn zeros_are_trimmed(rt: HostRuntime) -> Result<(), Fail> {
+    for (text, release, trimmed, other) in RELEASES.iter() {
+        let version = Version::parse(rt.alloc(), text)?;
+        let is_read = version.release() == *release && version.trimmed_release() == *trimmed;
+        assert!(rt; is_read && prints(rt.alloc(), &version, text)?, "{text}");
+        assert!(rt; is_trimmed(rt.alloc(), &version, other)?, "{text}");
+    }
+    Ok(())
 }
 
 #[test]
-fn zeros_at_the_end_of_a_release_do_not_count(rt: HostRuntime) -> Result<(), Fail> {
-    assert!(rt; is_tie(rt.alloc(), "3.9", "3.9.0")?);
-    assert!(rt; has_release(rt.alloc(), "3.9", &[3, 9])?);
-    assert!(rt; has_release(rt.alloc(), "3.9.0", &[3, 9, 0])?);
+fn versions_are_made_of_release_numbers(rt: HostRuntime) -> Result<(), Fail> {
+    let made = Version::new(rt.alloc(), [3, 0, 0, 0, 0].as_slice())?;
+    assert_eq!(rt; made.release(), [3, 0, 0, 0, 0].as_slice());
+    assert_eq!(rt; made.trimmed_release(), [3].as_slice());
+    assert!(rt; prints(rt.alloc(), &made, "3.0.0.0.0")?);
+    assert!(rt; made == Version::parse(rt.alloc(), "3")?);
     Ok(())
 }
 
@@ -483,134 +409,83 @@ fn is_local(segments: &[LocalSegment]) -> bool {
     }
 }
 
-#[test]
-fn the_parts_are_given(rt: HostRuntime) -> Result<(), Fail> {
-    let version = Version::parse(rt.alloc(), WITH_ALL_PARTS)?;
-    assert!(rt; has_numbers(&version));
-    assert!(rt; is_local(version.local()));
-    Ok(())
+// Whether the version has the parts of that text.
+fn has_all_parts(version: &Version) -> bool {
+    has_numbers(version) && is_local(version.local())
 }
 
 #[test]
-fn a_clone_has_all_parts(rt: HostRuntime) -> Result<(), Fail> {
+fn a_version_and_its_clone_have_all_parts(rt: HostRuntime) -> Result<(), Fail> {
     let version = Version::parse(rt.alloc(), WITH_ALL_PARTS)?;
     let copy = version.clone()?;
-    assert!(rt; has_numbers(&copy));
-    assert!(rt; is_local(copy.local()));
-    assert!(rt; prints(rt.alloc(), &copy, WITH_ALL_PARTS)?);
+    assert!(rt; has_all_parts(&version));
+    assert!(rt; has_all_parts(&copy) && prints(rt.alloc(), &copy, WITH_ALL_PARTS)?);
     Ok(())
 }
 
-#[test]
-fn versions_are_made_of_release_numbers(rt: HostRuntime) -> Result<(), Fail> {
-    let made = Version::new(rt.alloc(), [3, 0, 0, 0, 0].as_slice())?;
-    assert_eq!(rt; made.release(), [3, 0, 0, 0, 0].as_slice());
-    assert_eq!(rt; made.trimmed_release(), [3].as_slice());
-    assert!(rt; prints(rt.alloc(), &made, "3.0.0.0.0")?);
-    assert!(rt; made == Version::parse(rt.alloc(), "3")?);
-    Ok(())
-}
-
-#[test]
-fn zeros_are_trimmed(rt: HostRuntime) -> Result<(), Fail> {
-    let version = Version::parse(rt.alloc(), "1!0.0+a")?;
-    assert_eq!(rt; version.trimmed_release(), [0].as_slice());
-    assert!(rt; prints(rt.alloc(), &version.trimmed()?, "1!0+a")?);
-    Ok(())
-}
-
-fn is_no_version(alloc: Global, text: &str) -> bool {
-    fault_of(Version::parse(alloc, text)).is_some()
-}
-
-// Whether no version has this in place of a word, behind its release with a separator or none, with a number or none.
-fn is_no_word(alloc: Global, word: &str) -> Result<bool, Fail> {
-    for before in ["", "-", "_", "."] {
-        let bare = format!(in alloc; "1.0{before}{word}")?;
-        let numbered = format!(in alloc; "1.0{before}{word}1")?;
-        if !is_no_version(alloc, bare.as_str()) || !is_no_version(alloc, numbered.as_str()) {
-            return Ok(false);
-        }
-    }
-    Ok(true)
-}
-
-// Whether none of these stands for a word.
-fn are_no_words(alloc: Global, words: &str) -> Result<bool, Fail> {
-    for word in words.split(' ') {
-        if !is_no_word(alloc, word)? {
-            return Ok(false);
-        }
-    }
-    Ok(true)
-}
-
-#[test]
-fn near_misses_of_words_are_refused(rt: HostRuntime) -> Result<(), Fail> {
-    for (word, misses) in NEAR_MISSES {
-        assert!(rt; are_no_words(rt.alloc(), misses)?, "of {word}");
-    }
-    Ok(())
-}
-
-#[test]
-fn near_misses_of_versions_are_refused(rt: HostRuntime) {
-    for text in NO_VERSIONS {
-        assert!(rt; is_no_version(rt.alloc(), text), "{text:?}");
-    }
-}
-
-// Whether the text is no version, with this fault.
-fn is_told(alloc: Global, text: &str, offset: usize, message: &str) -> Result<bool, Fail> {
-    let Some(fault) = fault_of(Version::parse(alloc, text)) else {
-        return Ok(false);
-    };
-    Ok(prints(alloc, &fault, message)? && fault.offset() == offset)
+// The byte of the fault of the text, and what is told.
+fn fault_text(alloc: Global, text: &str) -> Result<String, Fail> {
+    let fault = fault_of(Version::parse(alloc, text)).ok_or("a version")?;
+    let offset = fault.offset();
+    Ok(format!(in alloc; "{offset} {fault}")?)
 }
 
 #[test]
 fn faults_name_the_place_and_the_cause(rt: HostRuntime) -> Result<(), Fail> {
-    for (text, offset, message) in FAULTS {
-        assert!(rt; is_told(rt.alloc(), text, offset, message)?, "{text:?}");
+    for (text, expected) in FAULTS.iter() {
+        assert_eq!(rt; fault_text(rt.alloc(), text)?.as_str(), *expected);
     }
     Ok(())
 }
 
-// Whether the text is a pattern with this version.
-fn is_pattern(alloc: Global, text: &str, normal: &str, star: bool) -> Result<bool, Fail> {
-    let pattern = VersionPattern::parse(alloc, text)?;
-    Ok(pattern.is_wildcard() == star && prints(alloc, pattern.version(), normal)?)
+// A text, and the pattern that it is, or where it is none and what is missed there.
+const PATTERNS: [(&str, &str); 12] = [
+    ("3.9", "3.9"),
+    ("1.0a1+x", "1.0a1+x"),
+    ("3.9.*", "3.9.*"),
+    (" V1!2.0.* ", "1!2.0.*"),
+    ("*", "0 ReleaseNumber"),
+    ("3.9*", "3 End"),
+    ("3.9. *", "4 ReleaseNumber"),
+    ("3.*.1", "3 End"),
+    ("3.9.*x", "5 End"),
+    ("3.9a1.*", "5 End"),
+    ("3.9.dev1.*", "8 End"),
+    ("3.9+x.*", "6 LocalSegment"),
+];
+
+// The version, and a star behind it or none.
+fn starred(alloc: Global, version: &Version, star: bool) -> Result<String, AllocError> {
+    let mut text = version.to_string(alloc)?;
+    if star {
+        text.push_str(".*")?;
+    }
+    Ok(text)
 }
 
-// Whether the pattern of the text comes apart into the version and whether it has a star.
-fn comes_apart(alloc: Global, text: &str, normal: &str, star: bool) -> Result<bool, Fail> {
-    let (version, wildcard) = VersionPattern::parse(alloc, text)?.into_parts();
-    Ok(wildcard == star && prints(alloc, &version, normal)?)
+// The pattern that the text is, or where it is none and what is missed there.
+fn pattern_text(alloc: Global, text: &str) -> Result<String, Fail> {
+    match VersionPattern::parse(alloc, text) {
+        Ok(pattern) => {
+            let shown = starred(alloc, pattern.version(), pattern.is_wildcard())?;
+            let (version, star) = pattern.into_parts();
+            if starred(alloc, &version, star)? != shown {
+                return Err("the pattern comes apart into another one".into());
+            }
+            Ok(shown)
+        }
+        Err(Refusal::Fault(fault)) => {
+            let (offset, missed) = (fault.offset(), fault.expected());
+            Ok(format!(in alloc; "{offset} {missed:?}")?)
+        }
+        Err(_) => Err("out of memory".into()),
+    }
 }
 
 #[test]
-fn patterns_are_read(rt: HostRuntime) -> Result<(), Fail> {
-    for (text, normal, star) in PATTERNS {
-        assert!(rt; is_pattern(rt.alloc(), text, normal, star)?, "{text:?}");
-        assert!(rt; comes_apart(rt.alloc(), text, normal, star)?, "{text:?}");
+fn patterns_are_read_or_refused(rt: HostRuntime) -> Result<(), Fail> {
+    for (text, expected) in PATTERNS.iter() {
+        assert_eq!(rt; pattern_text(rt.alloc(), text)?.as_str(), *expected);
     }
     Ok(())
-}
-
-// Whether the text is no pattern, with this fault.
-fn is_no_pattern(alloc: Global, text: &str, offset: usize, expected: Expected) -> bool {
-    match fault_of(VersionPattern::parse(alloc, text)) {
-        Some(fault) => fault.offset() == offset && fault.expected() == expected,
-        None => false,
-    }
-}
-
-#[test]
-fn faults_of_patterns_name_the_place(rt: HostRuntime) {
-    for (text, offset, expected) in PATTERN_FAULTS {
-        assert!(rt;
-            is_no_pattern(rt.alloc(), text, offset, expected),
-            "{text:?}"
-        );
-    }
 }

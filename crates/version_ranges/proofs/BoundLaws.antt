@@ -1,5 +1,5 @@
 -- What the values of all cuts pass, the values of the cuts pass that are made of them.
-use Rattle.std.proofs.Common.{◌≡◌, ℕ, zero, suc, ◌<◌, Bool, true, false, cond, List, [], ◌∷◌, ◌++◌, length, get_or, set, refl, ap, ◌∙◌, arith}
+use Rattle.std.proofs.Common.{◌≡◌, ℕ, zero, suc, ◌<◌, Bool, true, false, cond, List, [], ◌∷◌, ◌++◌, length, get_or, set, refl, sym, ap, ◌∙◌, arith}
 use Rattle.std.proofs.lemmas.Bool.{and_parts, and_from}
 use Rattle.std.proofs.lemmas.List.Folds.{list_all-append, list_all-map}
 use Rattle.std.proofs.lemmas.List.Sorted.{All-permutation}
@@ -14,7 +14,7 @@ use Rattle.std.specs.declared.ops.Bound.TheVariants.{Included, Excluded}
 use Rattle.version_ranges.specs.declared.cut.Cut.{Cut}
 use Rattle.version_ranges.specs.Bounds.{IsKeptByClones, passes_at, passes_at_both}
 use Rattle.version_ranges.specs.Cut.{lower_of, upper_of}
-use Rattle.version_ranges.specs.Intervals.{held}
+use Rattle.version_ranges.specs.Intervals.{intervals_among}
 use Rattle.version_ranges.specs.Parts.{parts_from}
 use Rattle.version_ranges.specs.Sweep.{merge_steps, overlay, overlay_step, relabel}
 
@@ -39,6 +39,10 @@ module _ {C : Type 0} (test : C → Bool) where
   -- whether each cut passes
   abbrev pub passes : {V : Type 0} → List (C × V) → Bool
   passes steps = list_all (λ s. test s.0) steps
+
+  -- the first cut passes, and the others
+  pub passes_first : {V : Type 0} (xs ys : List (C × V)) (x : C × V) → xs ≡ x ∷ ys → passes xs ≡ true → (test x.0 ≡ true) × (passes ys ≡ true)
+  passes_first xs ys x e h = and_parts _ _ (ap passes (sym e) ∙ h)
 
   by_test : {A : Type 0} (p : A → Bool) (b : Bool) (x y : A) → p x ≡ true → p y ≡ true → p (cond b x y) ≡ true
   by_test p true x y e f = e
@@ -123,7 +127,7 @@ module _ {T : Type 0} (test : T → Bool) where
 
   -- the bounds of the intervals
   pub held_passes : (low : Bound T) (v : Bool) (xs : List (Cut T × Bool)) → passes_at test low ≡ true → list_all (λ s. test s.0.value) xs ≡ true →
-      list_all (passes_at_both test) (held (parts_from low v xs)) ≡ true
+      list_all (passes_at_both test) (intervals_among (parts_from low v xs)) ≡ true
   held_passes low true [] e h = and_from _ _ (and_from _ _ e refl) refl
   held_passes low false [] e h = refl
   held_passes low true (x ∷ xs) e h =

@@ -93,23 +93,23 @@ module _ {T V : Type 0} {a : _} {b : _} {c : _} (cmp : T → T → Ordering) (sa
       all_steps : take i items ≡ cuts.rest.items
       all_steps = take_all i items end ∙ items_are
 
-      held : IsHeld (cuts.first ∷ map (λ y. y.1) cuts.rest.items) cuts.first cuts.rest.items pairs
-      held = subst (λ l. IsHeld (cuts.first ∷ map (λ y. y.1) l) cuts.first l pairs) all_steps k.1
+      intervals_among : IsHeld (cuts.first ∷ map (λ y. y.1) cuts.rest.items) cuts.first cuts.rest.items pairs
+      intervals_among = subst (λ l. IsHeld (cuts.first ∷ map (λ y. y.1) l) cuts.first l pairs) all_steps k.1
 
       value_held : (p : Point T) → (j : ℕ) × (q : Bor V × Ranges T a b c) × (slice_get pairs j ≡ Some q) × (same q.0.now (value_at (stands_before (λ v. v) cmp p) cuts.first cuts.rest.items) ≡ true)
       value_held p =
           let u = value_at (stands_before (λ v. v) cmp p) cuts.first cuts.rest.items in
           let f = found_place (λ q. same u q.0.now) pairs
-          (any_key (λ q. q.0.now) (same u) pairs ∙ ap (list_any (same u)) held.values ∙ found_seen s u (cuts.first ∷ map (λ y. y.1) cuts.rest.items) ∙ value_found (same u) (stands_before (λ v. v) cmp p) cuts.first cuts.rest.items (s.refl u)) in
+          (any_key (λ q. q.0.now) (same u) pairs ∙ ap (list_any (same u)) intervals_among.values ∙ found_seen s u (cuts.first ∷ map (λ y. y.1) cuts.rest.items) ∙ value_found (same u) (stands_before (λ v. v) cmp p) cuts.first cuts.rest.items (s.refl u)) in
           (f.0, f.1, f.2, s.symm f.1.0.now u ∙ f.3)
 
       pub gathered : IsGathered cmp same cuts pairs
       gathered = record {
-        values = held.values ∙ ap (first_seen same) (sym (part_values Unbounded cuts.first cuts.rest.items));
+        values = intervals_among.values ∙ ap (first_seen same) (sym (part_values Unbounded cuts.first cuts.rest.items));
         sets = λ j q e p.
-            let h = held.sets j q e in
+            let h = intervals_among.sets j q e in
             value_at_place cmp q.1.cuts.first q.1.cuts.rest.items p ∙ sees_value same q.0.now (cut_total o) cuts.first cuts.rest.items q.1.cuts.first q.1.cuts.rest.items rises h.0 h.1 (place p)
             ∙ ap (same q.0.now) (sym (value_at_place cmp cuts.first cuts.rest.items p));
         covers = value_held;
-        apart = λ j l q r e f h. eqb-true j l (places_apart (λ q. q.0.now) s pairs j l q r (subst (AreApart same) (sym held.values) (seen_apart same (cuts.first ∷ map (λ y. y.1) cuts.rest.items))) e f ∙ h);
+        apart = λ j l q r e f h. eqb-true j l (places_apart (λ q. q.0.now) s pairs j l q r (subst (AreApart same) (sym intervals_among.values) (seen_apart same (cuts.first ∷ map (λ y. y.1) cuts.rest.items))) e f ∙ h);
       }

@@ -1,5 +1,6 @@
--- What holds at every point over the values of an order holds at every point over other names of these values: a finite
--- function cannot tell such a point from a point of the order.
+-- For `names_have_the_values_of_points`: what holds at every point over the values of an order holds
+-- at every point over other names of these values, since a function with finitely many cuts cannot
+-- tell such a point from some point of the order.
 use Rattle.std.proofs.Common.{◌≡◌, ℕ, suc, Bool, true, false, cond, List, [], ◌∷◌, ◌++◌, map, Option, Some, None, refl, sym, ap, ◌∙◌, subst}
 use Rattle.std.specs.Ordering.{is_lt, ordering_then, ordering_reverse}
 use Rattle.std.specs.declared.cmp.Ordering.{Ordering}

@@ -1,4 +1,5 @@
--- One of two values by the answer at each piece.
+-- For `Cuts::from_ranges`: one of two values by the answer at each piece of a set, as its loop picks
+-- them.
 use Rattle.std.proofs.Common.{◌≡◌, ℕ, ◌+◌, ◌<◌, ◌≤◌, get_or, Bool, true, false, not, cond, ◌&&◌, List, [], ◌∷◌, ◌++◌, map, drop, length, Option, Some, None, refl, sym, ap, ◌∙◌, append-nil, add-one, subst, suc}
 use mathlib.Core.Bool.{beq}
 use Rattle.std.specs.declared.cmp.Ordering.{Ordering}
@@ -10,6 +11,7 @@ use Rattle.version_ranges.specs.declared.cut.Cut.{Cut}
 use Rattle.version_ranges.specs.Point.{Point}
 use Rattle.version_ranges.specs.Cut.{cut_cmp, stands_before}
 use Rattle.version_ranges.specs.Steps.{is_before, ascends, value_at, is_merged}
+use Rattle.std.proofs.lemmas.Cmp.{tied_itself}
 use Rattle.version_ranges.proofs.StepLaws.{value_from, Alike, alike_itself, alike_moved, alike_value, alike_ascends}
 use Rattle.version_ranges.proofs.PointLaws.{cut_total, place, value_at_place}
 
@@ -61,20 +63,19 @@ module _ {C V : Type 0} (inside outside : V) where
 
     module _ {cmp : C → C → Ordering} (o : IsTotalOrder cmp) where
       -- what the loop keeps
-      abbrev pub Picks : List (C × V) → List (C × Bool) → ℕ → List (C × Bool) → Type 0
-      Picks out xs i all = Alike cmp (λ a b. same a b ≡ true) (out ++ picked (drop i xs)) (picked all)
+      abbrev pub Picks : List (C × V) → List (C × Bool) → List (C × Bool) → Type 0
+      Picks out left all = Alike cmp (λ a b. same a b ≡ true) (out ++ picked left) (picked all)
 
-      pub picks_init : (out : List (C × V)) (xs all : List (C × Bool)) → out ≡ [] → xs ≡ all → Picks out xs 0 all
+      pub picks_init : (out : List (C × V)) (xs all : List (C × Bool)) → out ≡ [] → xs ≡ all → Picks out xs all
       picks_init out xs all e f = rw (e, f) (alike_itself o (λ a b. same a b ≡ true) s.refl (picked all))
 
-      pub picks_step : (out new : List (C × V)) (xs all : List (C × Bool)) (i : ℕ) (x : C × Bool) (c : C) (u : V) → Picks out xs i all → i < length xs → x ≡ get_or xs i x →
-          new ≡ out ++ (c, u) ∷ [] → cmp c x.0 ≡ Equal → same u (pick inside outside x.1) ≡ true → Picks new xs (i + 1) all
-      picks_step out new xs all i x c u a h e f g k =
-          let d : drop i xs ≡ x ∷ drop (i + 1) xs = drop-cons xs i x h ∙ ap (λ y. y ∷ drop (suc i) xs) (sym e) ∙ ap (λ n. x ∷ drop n xs) (sym (add-one i)) in
-          rw f (alike_moved o (λ a b. same a b ≡ true) (λ a b c p q. s.congr a b c p ∙ q) out c x.0 u (pick inside outside x.1) (picked (drop (i + 1) xs)) (picked all) g k (rw d at a))
+      pub picks_step : (out new : List (C × V)) (left more all : List (C × Bool)) (c : C) (b : Bool) (u : V) → Picks out left all → left ≡ (c, b) ∷ more →
+          new ≡ out ++ (c, u) ∷ [] → same u (pick inside outside b) ≡ true → Picks new more all
+      picks_step out new left more all c b u a e f k =
+          rw f (alike_moved o (λ a b. same a b ≡ true) (λ a b c p q. s.congr a b c p ∙ q) out c c u (pick inside outside b) (picked more) (picked all) (tied_itself o c) k (rw e at a))
 
-      pub picks_end : (out : List (C × V)) (xs all : List (C × Bool)) (i : ℕ) → Picks out xs i all → drop i xs ≡ [] → Alike cmp (λ a b. same a b ≡ true) out (picked all)
-      picks_end out xs all i a e = subst (λ l. Alike cmp (λ a b. same a b ≡ true) l (picked all)) (ap (λ l. out ++ picked l) e ∙ append-nil out) a
+      pub picks_end : (out : List (C × V)) (left all : List (C × Bool)) → Picks out left all → left ≡ [] → Alike cmp (λ a b. same a b ≡ true) out (picked all)
+      picks_end out left all a e = subst (λ l. Alike cmp (λ a b. same a b ≡ true) l (picked all)) (ap (λ l. out ++ picked l) e ∙ append-nil out) a
 
       pub picks_ascends : (out : List (C × V)) (all : List (C × Bool)) → Alike cmp (λ a b. same a b ≡ true) out (picked all) → ascends cmp None all ≡ true → ascends cmp None out ≡ true
       picks_ascends out all a h = alike_ascends o (λ a b. same a b ≡ true) out (picked all) None a ∙ picked_ascends cmp None all ∙ h

@@ -1,4 +1,5 @@
--- What the list of values and sets is after each step of a function.
+-- For `Cuts::gather`: after each step its list has the values seen so far, each with the set of the
+-- points that have it; and where a value stands in that list.
 use Rattle.std.proofs.Common.{◌≡◌, ℕ, zero, suc, Bool, true, false, not, cond, ◌||◌, List, [], ◌∷◌, ◌++◌, map, length, Some, None, refl, sym, ap, ◌∙◌, subst, slice_get, eqb, pred, inl, inr, ◌⊎◌}
 use mathlib.Core.Bool.{beq}
 use Rattle.std.specs.Ordering.{ordering_reverse}

@@ -7,7 +7,7 @@ use Rattle.std.specs.declared.ops.Bound.TheVariants.{Included, Excluded, Unbound
 use Rattle.version_ranges.specs.declared.cut.Cut.{Cut}
 use Rattle.version_ranges.specs.Cut.{lower_of, upper_of}
 use Rattle.version_ranges.specs.Parts.{Part, parts_from, same_bound, same_part, same_parts}
-use Rattle.version_ranges.specs.Intervals.{held, same_intervals}
+use Rattle.version_ranges.specs.Intervals.{intervals_among, same_intervals}
 use Rattle.version_ranges.proofs.StepLaws.{same_steps}
 use Rattle.version_ranges.proofs.EqualLaws.{cut_eq}
 
@@ -80,7 +80,7 @@ module _ {T : Type 0} (eq : T → T → Bool) where
   held_by i j false true is js h k e r = absurd (false≢true e)
   held_by i j false false is js h k e r = r
 
-  pub held_same : (ps qs : List (Part T Bool)) → same_parts eq beq ps qs ≡ true → same_intervals eq (held ps) (held qs) ≡ true
+  pub held_same : (ps qs : List (Part T Bool)) → same_parts eq beq ps qs ≡ true → same_intervals eq (intervals_among ps) (intervals_among qs) ≡ true
   held_same [] [] e = refl
   held_same [] (q ∷ qs) e = absurd (false≢true e)
   held_same (p ∷ ps) [] e = absurd (false≢true e)
@@ -88,4 +88,4 @@ module _ {T : Type 0} (eq : T → T → Bool) where
       let r = and_parts (same_part eq beq p q) (same_parts eq beq ps qs) e in
       let s = and_parts (same_bound eq p.lower q.lower) _ r.0 in
       let t = and_parts (same_bound eq p.upper q.upper) (beq p.value q.value) s.1 in
-      held_by (p.lower, p.upper) (q.lower, q.upper) p.value q.value (held ps) (held qs) s.0 t.0 t.1 (held_same ps qs r.1)
+      held_by (p.lower, p.upper) (q.lower, q.upper) p.value q.value (intervals_among ps) (intervals_among qs) s.0 t.0 t.1 (held_same ps qs r.1)

@@ -1,4 +1,5 @@
--- The values of a list, each where it stands first.
+-- For `Cuts::gather`: the values of a list, each where it stands first (`first_seen`), and what one
+-- value more adds to them.
 use Rattle.std.proofs.Common.{◌≡◌, ℕ, suc, Bool, true, false, not, cond, ◌||◌, List, [], ◌∷◌, ◌++◌, filter, Some, refl, sym, ap, ◌∙◌, append-nil, slice_get}
 use Rattle.std.specs.List.{list_any}
 use Rattle.std.specs.Cmp.{IsEquivalence}

@@ -1,4 +1,4 @@
--- Laws of `overlay`, as its loop keeps them.
+-- For `Cuts::overlay`: its loop makes both functions side by side, whose halves are the two functions.
 use Rattle.std.proofs.Common.{◌≡◌, Bool, true, List, [], ◌∷◌, ◌++◌, Option, None, ap, ◌∙◌, subst, append-nil}
 use Rattle.std.specs.declared.cmp.Ordering.{Ordering}
 use Rattle.std.specs.declared.cmp.Ordering.TheVariants.{Equal}

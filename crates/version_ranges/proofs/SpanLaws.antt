@@ -8,11 +8,11 @@ use Rattle.version_ranges.specs.declared.cut.Cut.{Cut}
 use Rattle.version_ranges.specs.Cut.{lower_of, upper_of}
 use Rattle.version_ranges.specs.Steps.{is_merged}
 use Rattle.version_ranges.specs.Parts.{parts_from}
-use Rattle.version_ranges.specs.Intervals.{held, last_upper, lower_from, span_of, upper_after}
+use Rattle.version_ranges.specs.Intervals.{intervals_among, last_upper, lower_from, span_of, upper_after}
 
 module _ {T : Type 0} where
   upper_held : (u low : Bound T) (c : Cut T) (b v : Bool) (xs : List (Cut T × Bool)) → is_merged beq v ((c, b) ∷ xs) ≡ true →
-      last_upper u (held (parts_from low v ((c, b) ∷ xs))) ≡ upper_after ((c, b) ∷ xs)
+      last_upper u (intervals_among (parts_from low v ((c, b) ∷ xs))) ≡ upper_after ((c, b) ∷ xs)
   upper_held u low c true true xs m = cc m
   upper_held u low c false false xs m = cc m
   upper_held u low c false true [] m = refl
@@ -21,12 +21,12 @@ module _ {T : Type 0} where
   upper_held u low c true false (y ∷ ys) m = upper_held u (lower_of c) y.0 y.1 true ys m
 
   span_first : (c : Cut T) (b : Bool) (xs : List (Cut T × Bool)) → is_merged beq false ((c, b) ∷ xs) ≡ true →
-      span_of (held (parts_from (lower_of c) b xs)) ≡ Some (lower_of c, upper_after ((c, b) ∷ xs))
+      span_of (intervals_among (parts_from (lower_of c) b xs)) ≡ Some (lower_of c, upper_after ((c, b) ∷ xs))
   span_first c false xs m = cc m
   span_first c true [] m = refl
   span_first c true (y ∷ ys) m = ap (λ (u : Bound T). Some (lower_of c, u)) (upper_held Unbounded (lower_of c) y.0 y.1 true ys m)
 
-  pub span_is : (first : Bool) (xs : List (Cut T × Bool)) → is_merged beq first xs ≡ true → span_of (held (parts_from Unbounded first xs)) ≡ option_map (λ l. (l, upper_after xs)) (lower_from first xs)
+  pub span_is : (first : Bool) (xs : List (Cut T × Bool)) → is_merged beq first xs ≡ true → span_of (intervals_among (parts_from Unbounded first xs)) ≡ option_map (λ l. (l, upper_after xs)) (lower_from first xs)
   span_is true [] m = refl
   span_is false [] m = refl
   span_is true (x ∷ xs) m = ap (λ (u : Bound T). Some (Unbounded, u)) (upper_held Unbounded Unbounded x.0 x.1 true xs m)

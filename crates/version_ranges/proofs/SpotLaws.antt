@@ -1,4 +1,5 @@
--- The set of single values: the cuts around them.
+-- For `Ranges::from_points`: the cuts around sorted values, one below and one above each, ascend, and
+-- what they make is the set of these values.
 use Rattle.std.proofs.Common.{◌≡◌, ℕ, zero, suc, ◌<◌, get_or, Bool, true, false, not, cond, ◌&&◌, ◌||◌, List, [], ◌∷◌, ◌++◌, length, Option, Some, None, refl, sym, ap, ◌∙◌, subst, append-nil, add-one, arith}
 use mathlib.Core.Bool.{beq}
 use Rattle.std.specs.List.{list_any, dedup, dedup_from}

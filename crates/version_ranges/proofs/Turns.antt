@@ -1,4 +1,5 @@
--- The private steps of `gather`: a value that joins the list, a set that goes on at a cut, and the steps that are done.
+-- For `place_of` and `pass`, the private steps of `Cuts::gather`: a value that joins the list, two
+-- sets that end and go on at a cut, and the steps that are done.
 use Rattle.std.proofs.Common.{◌≡◌, ℕ, zero, suc, ◌+◌, ◌<◌, Bool, true, false, not, cond, ◌||◌, List, [], ◌∷◌, ◌++◌, map, take, set, length, get_or, Option, Some, None, refl, sym, ap, ◌∙◌, subst, slice_get, eqb, add-one}
 use mathlib.Core.Bool.{beq}
 use Rattle.std.specs.List.{list_any}

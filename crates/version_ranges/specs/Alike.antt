@@ -1,5 +1,5 @@
 -- Points that stand alike to some points: what compares a point with these alone tells no two such
--- points apart. (This project's own.)
+-- points apart.
 use Rattle.std.specs.Prelude.{◌≡◌, ◌≢◌, ⊤, List, [], ◌∷◌}
 use Rattle.std.specs.declared.cmp.Ordering.{Ordering}
 use Rattle.std.specs.declared.cmp.Ordering.TheVariants.{Equal}

@@ -1,4 +1,4 @@
--- Tests that the values at bounds pass. (This project's own.)
+-- Tests that the values at bounds pass.
 use Rattle.std.specs.Prelude.{◌≡◌, Bool, true, ◌&&◌}
 use Rattle.std.specs.List.{list_all}
 use Rattle.std.specs.declared.ops.Bound.{Bound}
@@ -26,6 +26,39 @@ module _ {T : Type 0} where
     abbrev pub all_cuts : {V : Type 0} → (T → Bool) → Cuts T V a b c → Bool
     all_cuts test cuts = list_all (λ s. test s.0.value) cuts.rest.items
 
-    -- whether the value of each bound passes a test: the bounds are those of the intervals that `iter` gives
+    -- whether the value of each bound passes a test: the bounds are those of the intervals that
+    -- `iter` gives
     abbrev pub all_bounds : (T → Bool) → Ranges T a b c → Bool
     all_bounds test ranges = all_cuts test ranges.cuts
+
+    -- each bound of a set is at a value, as far as tests can tell
+    abbrev pub IsBoundedBy : T → Ranges T a b c → Type 0
+    IsBoundedBy v ranges = (test : T → Bool) → test v ≡ true → all_bounds test ranges ≡ true
+
+    -- each bound of a set is at the value of one of two bounds, as far as tests can tell
+    abbrev pub IsBoundedAt : Bound T → Bound T → Ranges T a b c → Type 0
+    IsBoundedAt lower upper ranges = (test : T → Bool)
+        → passes_at test lower ≡ true → passes_at test upper ≡ true → all_bounds test ranges ≡ true
+
+    -- each cut of a function is at a clone of a value of another one's, as far as tests can tell
+    abbrev pub KeepsCuts : {V W : Type 0}
+        → (T → T → Type 0) → Cuts T V a b c → Cuts T W a b c → Type 0
+    KeepsCuts C old new = (test : T → Bool) → IsKeptByClones C test
+        → all_cuts test old ≡ true → all_cuts test new ≡ true
+
+    -- or of one of two functions
+    abbrev pub KeepsCutsOfBoth : {V W X : Type 0}
+        → (T → T → Type 0) → Cuts T V a b c → Cuts T W a b c → Cuts T X a b c → Type 0
+    KeepsCutsOfBoth C left right new = (test : T → Bool) → IsKeptByClones C test
+        → all_cuts test left ≡ true → all_cuts test right ≡ true → all_cuts test new ≡ true
+
+    -- each bound of a set is at a clone of a value of another one's, as far as tests can tell
+    abbrev pub KeepsBounds : (T → T → Type 0) → Ranges T a b c → Ranges T a b c → Type 0
+    KeepsBounds C old new = (test : T → Bool) → IsKeptByClones C test
+        → all_bounds test old ≡ true → all_bounds test new ≡ true
+
+    -- or of one of two sets
+    abbrev pub KeepsBoundsOfBoth :
+        (T → T → Type 0) → Ranges T a b c → Ranges T a b c → Ranges T a b c → Type 0
+    KeepsBoundsOfBoth C left right new = (test : T → Bool) → IsKeptByClones C test
+        → all_bounds test left ≡ true → all_bounds test right ≡ true → all_bounds test new ≡ true

@@ -1,4 +1,4 @@
--- Functions whose points are moved into a range. (This project's own.)
+-- Functions whose points are moved into a range.
 use Rattle.std.specs.Prelude.{◌≡◌, Bool, true, false}
 use Rattle.std.specs.Borrow.{Bor}
 use Rattle.std.specs.Range.Bound.{bound_map}
@@ -16,14 +16,21 @@ module _ {T : Type 0} where
     abbrev pub IsBetween : Point T → Type 0
     IsBetween p = is_in_bounds cmp lower upper p ≡ true
 
+    -- there is a point between two bounds
+    abbrev pub HasPoint : Type 0
+    HasPoint = (p : Point T) × IsBetween p
+
     -- there is no point between two bounds
     abbrev pub IsBare : Type 0
     IsBare = (p : Point T) → is_in_bounds cmp lower upper p ≡ false
 
-    -- One function is another one between two bounds. Below them it has that function's value at the first point between
-    -- them, and above them the value at each point between them, from some such point on.
+    -- One function is another one between two bounds. Below them it has that function's value at
+    -- the first point between them, and above them the value at each point between them, from some
+    -- such point on.
     pub record IsClamped {V : Type 0} (same : V → V → Bool) (old new : Point T → V) : Type 0 where
       pub inside : (p : Point T) → IsBetween p → same (new p) (old p) ≡ true
-      pub below : (p : Point T) → is_from cmp lower p ≡ false → same (new p) (old (begin_point lower)) ≡ true
+      pub below : (p : Point T) → is_from cmp lower p ≡ false →
+          same (new p) (old (begin_point lower)) ≡ true
       pub above : (p : Point T) → is_until cmp upper p ≡ false →
-          (q : Point T) × IsBetween q × ((r : Point T) → IsBetween r → point_lt cmp r q ≡ false → same (new p) (old r) ≡ true)
+          (q : Point T) × IsBetween q ×
+          ((r : Point T) → IsBetween r → point_lt cmp r q ≡ false → same (new p) (old r) ≡ true)

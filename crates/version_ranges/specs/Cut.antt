@@ -1,4 +1,4 @@
--- Cuts of an ordered set: where a piece begins. (This project's own.)
+-- Cuts of an ordered set: where a piece begins.
 use Rattle.std.specs.Prelude.{Bool, if◌then◌else◌}
 use Rattle.std.specs.Ordering.{then_cmp, on, bool_cmp}
 use Rattle.std.specs.declared.cmp.Ordering.{Ordering}
@@ -11,7 +11,8 @@ use Rattle.version_ranges.specs.Point.{Point, at, above, point_lt}
 abbrev pub cut_cmp : {T : Type 0} → (T → T → Ordering) → Cut T → Cut T → Ordering
 cut_cmp cmp = then_cmp (on (λ c. c.value) cmp) (on (λ c. c.above) bool_cmp)
 
--- the first point of the piece that begins at a cut, where the values go by the names that f gives them
+-- the first point of the piece that begins at a cut, where the values go by the names that f gives
+-- them
 abbrev pub cut_point : {T K : Type 0} → (T → K) → Cut T → Point K
 cut_point f c = if c.above then above (f c.value) else at (f c.value)
 

@@ -1,4 +1,4 @@
--- The values of a function, each with the set of the points that have it. (This project's own.)
+-- The values of a function, each with the set of the points that have it.
 use Rattle.std.specs.Prelude.{◌≡◌, ℕ, Bool, true, not, List, [], ◌∷◌, ◌++◌, None, Some, map, filter, slice_get, if◌then◌else◌}
 use Rattle.std.specs.Borrow.{Bor}
 use Rattle.std.specs.declared.cmp.Ordering.{Ordering}
@@ -18,17 +18,30 @@ abbrev pub first_seen : {V : Type 0} → (V → V → Bool) → List V → List 
 first_seen same [] = []
 first_seen same (v ∷ vs) = v ∷ filter (λ w. not (same v w)) (first_seen same vs)
 
-module _ {T V : Type 0} {a : _} {b : _} {c : _} {a' : _} {b' : _} {c' : _} (cmp : T → T → Ordering) (same : V → V → Bool) where
+module _ {T V : Type 0} {a : _} {b : _} {c : _} {a' : _} {b' : _} {c' : _}
+    (cmp : T → T → Ordering) (same : V → V → Bool) where
   -- these pairs are the values of a function, each with the set of the points that have it
-  pub record IsGathered (cuts : Cuts T V a b c) (pairs : List (Bor V × Ranges T a' b' c')) : Type 0 where
+  pub record IsGathered (cuts : Cuts T V a b c)
+      (pairs : List (Bor V × Ranges T a' b' c')) : Type 0 where
     -- the values of the pieces, in order, each where it stands first
-    pub values : map (λ q. q.0.now) pairs ≡ first_seen same (map (λ part. part.value) (parts_of cuts))
+    pub values : map (λ q. q.0.now) pairs ≡
+        first_seen same (map (λ part. part.value) (parts_of cuts))
     -- the set of a value has the points at which the function has it
-    pub sets : (i : ℕ) (q : Bor V × Ranges T a' b' c') → slice_get pairs i ≡ Some q → (p : Point T) → contains_point cmp q.1 p ≡ same q.0.now (value_of cmp cuts p)
+    pub sets : (i : ℕ) (q : Bor V × Ranges T a' b' c') → slice_get pairs i ≡ Some q →
+        (p : Point T) → contains_point cmp q.1 p ≡ same q.0.now (value_of cmp cuts p)
     -- the value of each point is in the list
-    pub covers : (p : Point T) → (i : ℕ) × (q : Bor V × Ranges T a' b' c') × (slice_get pairs i ≡ Some q) × (same q.0.now (value_of cmp cuts p) ≡ true)
+    pub covers : (p : Point T) → (i : ℕ) × (q : Bor V × Ranges T a' b' c') ×
+        (slice_get pairs i ≡ Some q) × (same q.0.now (value_of cmp cuts p) ≡ true)
     -- and no value stands there twice
-    pub apart : (i j : ℕ) (q r : Bor V × Ranges T a' b' c') → slice_get pairs i ≡ Some q → slice_get pairs j ≡ Some r → same q.0.now r.0.now ≡ true → i ≡ j
+    pub apart : (i j : ℕ) (q r : Bor V × Ranges T a' b' c') →
+        slice_get pairs i ≡ Some q → slice_get pairs j ≡ Some r →
+        same q.0.now r.0.now ≡ true → i ≡ j
+
+module _ {T : Type 0} {a : _} {b : _} {c : _} where
+  -- the cuts of a set, and a later one, from which on the points are in it that were not
+  abbrev pub with_turn : Ranges T a b c → Cut T → List (Cut T × Bool)
+  with_turn set cut = set.cuts.rest.items ++
+      (cut, not (last_value set.cuts.first set.cuts.rest.items)) ∷ []
 
 module _ {T : Type 0} {a : _} {b : _} {c : _} (cmp : T → T → Ordering) where
   -- a cut stands after all cuts of a set
@@ -38,4 +51,5 @@ module _ {T : Type 0} {a : _} {b : _} {c : _} (cmp : T → T → Ordering) where
   -- one set is another one, and ends or begins at a cut too where `turns`
   pub record IsTurned (turns : Bool) (cut : Cut T) (old new : Ranges T a b c) : Type 0 where
     pub first : new.cuts.first ≡ old.cuts.first
-    pub rest : (d : Cut T) × (cut_cmp cmp cut d ≡ Equal) × (new.cuts.rest.items ≡ (if turns then old.cuts.rest.items ++ (d, not (last_value old.cuts.first old.cuts.rest.items)) ∷ [] else old.cuts.rest.items))
+    pub rest : (d : Cut T) × (cut_cmp cmp cut d ≡ Equal) ×
+        (new.cuts.rest.items ≡ (if turns then with_turn old d else old.cuts.rest.items))

@@ -1,4 +1,4 @@
--- The pieces of a function, one after another. (This project's own.)
+-- The pieces of a function, one after another.
 use Rattle.std.specs.Prelude.{◌≡◌, ℕ, ◌<◌, Bool, true, false, ◌&&◌, Option, Some, None, List, [], ◌∷◌, length, slice_get}
 use Rattle.std.specs.Option.{option_copied}
 use Rattle.std.specs.Range.Bound.{bound_map}
@@ -35,7 +35,8 @@ same_bound eq Unbounded Unbounded = true
 module _ {T V : Type 0} where
   -- whether two pieces have equal bounds and equal values
   abbrev pub same_part : (T → T → Bool) → (V → V → Bool) → Part T V → Part T V → Bool
-  same_part eq same p q = same_bound eq p.lower q.lower && (same_bound eq p.upper q.upper && same p.value q.value)
+  same_part eq same p q =
+      same_bound eq p.lower q.lower && (same_bound eq p.upper q.upper && same p.value q.value)
 
   -- whether two lists have equal pieces, one after another
   abbrev pub same_parts : (T → T → Bool) → (V → V → Bool) → List (Part T V) → List (Part T V) → Bool
@@ -47,11 +48,16 @@ module _ {T V : Type 0} where
   -- the pieces from a lower bound on
   abbrev pub parts_from : Bound T → V → List (Cut T × V) → List (Part T V)
   parts_from low v [] = record { lower = low; upper = Unbounded; value = v } ∷ []
-  parts_from low v (s ∷ steps) = record { lower = low; upper = upper_of s.0; value = v } ∷ parts_from (lower_of s.0) s.1 steps
+  parts_from low v (s ∷ steps) =
+      record { lower = low; upper = upper_of s.0; value = v } ∷ parts_from (lower_of s.0) s.1 steps
 
   -- what a piece lends
   abbrev pub part_of : Piece T V → Part T V
-  part_of p = record { lower = bound_map (λ v. v.now) p.lower; upper = bound_map (λ v. v.now) p.upper; value = p.value.now }
+  part_of p = record {
+    lower = bound_map (λ v. v.now) p.lower;
+    upper = bound_map (λ v. v.now) p.upper;
+    value = p.value.now;
+  }
 
   abbrev pub parts_if : Bound T → Option V → List (Cut T × V) → List (Part T V)
   parts_if low None steps = []
@@ -70,14 +76,29 @@ module _ {T V : Type 0} where
     abbrev pub parts_of : Cuts T V a b c → List (Part T V)
     parts_of cuts = parts_from Unbounded cuts.first cuts.rest.items
 
+    -- the piece at an index
+    abbrev pub IsPiece : Cuts T V a b c → ℕ → Part T V → Type 0
+    IsPiece cuts i part = slice_get (parts_of cuts) i ≡ Some part
+
+    -- what holds of the value of each piece
+    abbrev pub HoldsOfPieces : (V → Bool) → Cuts T V a b c → Type 0
+    HoldsOfPieces holds cuts =
+        (i : ℕ) (part : Part T V) → IsPiece cuts i part → holds part.value ≡ true
+
     -- these parts are the pieces of a function, in order
-    pub record ArePieces (cmp : T → T → Ordering) (cuts : Cuts T V a b c) (parts : List (Part T V)) : Type 0 where
+    pub record ArePieces (cmp : T → T → Ordering) (cuts : Cuts T V a b c)
+        (parts : List (Part T V)) : Type 0 where
       pub count : length parts ≡ piece_count cuts
       -- each point lies in the part at its index, which has the value there
-      pub covers : (p : Point T) → (part : Part T V) × (slice_get parts (piece_of cmp cuts p) ≡ Some part) × IsIn cmp part p × (part.value ≡ value_of cmp cuts p)
+      pub covers : (p : Point T) → (part : Part T V) ×
+          (slice_get parts (piece_of cmp cuts p) ≡ Some part) ×
+          IsIn cmp part p × (part.value ≡ value_of cmp cuts p)
       -- and in no other part
-      pub apart : (i : ℕ) (part : Part T V) (p : Point T) → slice_get parts i ≡ Some part → IsIn cmp part p → piece_of cmp cuts p ≡ i
+      pub apart : (i : ℕ) (part : Part T V) (p : Point T) →
+          slice_get parts i ≡ Some part → IsIn cmp part p → piece_of cmp cuts p ≡ i
       -- each part has a point
-      pub nonempty : (i : ℕ) (part : Part T V) → slice_get parts i ≡ Some part → (p : Point T) × IsIn cmp part p
+      pub nonempty : (i : ℕ) (part : Part T V) →
+          slice_get parts i ≡ Some part → (p : Point T) × IsIn cmp part p
       -- the points of a part stand before those of the next
-      pub ascending : (p q : Point T) → piece_of cmp cuts p < piece_of cmp cuts q → point_cmp cmp p q ≡ Less
+      pub ascending : (p q : Point T) →
+          piece_of cmp cuts p < piece_of cmp cuts q → point_cmp cmp p q ≡ Less

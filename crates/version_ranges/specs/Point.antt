@@ -1,5 +1,6 @@
--- Points of an ordered set, and the ranges of points between two bounds. (This project's own.)
-use Rattle.std.specs.Prelude.{Bool, true, not, ◌&&◌}
+-- Points of an ordered set, and the ranges of points between two bounds.
+use Rattle.std.specs.Prelude.{Bool, true, not, ◌&&◌, List}
+use Rattle.std.specs.List.{list_any}
 use Rattle.std.specs.Ordering.{is_lt, ordering_then}
 use Rattle.std.specs.declared.cmp.Ordering.{Ordering}
 use Rattle.std.specs.declared.cmp.Ordering.TheVariants.{Less, Equal, Greater}
@@ -25,7 +26,8 @@ begin_point (Excluded v) = above v
 begin_point Unbounded = bottom
 
 module _ {T : Type 0} (cmp : T → T → Ordering) where
-  -- the order of points: `bottom` first, `at v` before `above v`, and else as the values; values that tie are at one point
+  -- the order of points: `bottom` first, `at v` before `above v`, and else as the values; values
+  -- that tie are at one point
   abbrev pub point_cmp : Point T → Point T → Ordering
   point_cmp bottom bottom = Equal
   point_cmp bottom (at w) = Less
@@ -41,11 +43,13 @@ module _ {T : Type 0} (cmp : T → T → Ordering) where
   abbrev pub point_lt : Point T → Point T → Bool
   point_lt p q = is_lt (point_cmp p q)
 
-  -- not before a lower bound: `Included v` begins at `at v`, `Excluded v` at `above v`, `Unbounded` at `bottom`
+  -- not before a lower bound: `Included v` begins at `at v`, `Excluded v` at `above v`, `Unbounded`
+  -- at `bottom`
   abbrev pub is_from : Bound T → Point T → Bool
   is_from lower p = not (point_lt p (begin_point lower))
 
-  -- not past an upper bound: `Included v` ends after `at v`, `Excluded v` before it, `Unbounded` never
+  -- not past an upper bound: `Included v` ends after `at v`, `Excluded v` before it, `Unbounded`
+  -- never
   abbrev pub is_until : Bound T → Point T → Bool
   is_until (Included v) p = point_lt p (above v)
   is_until (Excluded v) p = point_lt p (at v)
@@ -54,3 +58,11 @@ module _ {T : Type 0} (cmp : T → T → Ordering) where
   -- between two bounds
   abbrev pub is_in_bounds : Bound T → Bound T → Point T → Bool
   is_in_bounds lower upper p = is_from lower p && is_until upper p
+
+  -- at a value
+  abbrev pub is_value : T → Point T → Bool
+  is_value v p = is_in_bounds (Included v) (Included v) p
+
+  -- at one of these values
+  abbrev pub is_one_of : List T → Point T → Bool
+  is_one_of vs p = list_any (λ v. is_value v p) vs

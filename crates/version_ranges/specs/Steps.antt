@@ -1,5 +1,6 @@
--- Functions of points that are constant between cuts, as lists: the value before all cuts, then each cut with the value after it.
--- A point is known by a test, which tells before which cuts it stands. (This project's own.)
+-- Functions of points that are constant between cuts, as lists: the value before all cuts, then
+-- each cut with the value after it. A point is known by a test, which tells before which cuts it
+-- stands.
 use Rattle.std.proofs.Common.{suc}
 use Rattle.std.specs.Prelude.{ℕ, Bool, true, not, List, [], ◌∷◌, Option, Some, None, if◌then◌else◌, ◌&&◌}
 use Rattle.std.specs.Ordering.{is_lt}

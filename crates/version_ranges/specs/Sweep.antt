@@ -1,14 +1,18 @@
--- What the sweeps over cuts give, step by step: for the contracts of private functions. (This project's own.)
+-- What the sweeps over cuts give, step by step: for the contracts of private functions.
 use Rattle.std.specs.Prelude.{Bool, List, [], ◌∷◌, map, if◌then◌else◌}
 use Rattle.std.specs.Ordering.{match_ordering}
 use Rattle.std.specs.declared.cmp.Ordering.{Ordering}
 
 module _ {C V W : Type 0} (cmp : C → C → Ordering) where
   -- x and the steps after it, which `more` overlays, with the steps ys
-  abbrev pub overlay_step : V → (C × V) → (W → List (C × W) → List (C × (V × W))) → W → List (C × W) → List (C × (V × W))
+  abbrev pub overlay_step : V → (C × V)
+      → (W → List (C × W) → List (C × (V × W))) → W → List (C × W) → List (C × (V × W))
   overlay_step v x more w [] = (x.0, (x.1, w)) ∷ more w []
   overlay_step v x more w (y ∷ ys) =
-      match_ordering (cmp x.0 y.0) ((x.0, (x.1, w)) ∷ more w (y ∷ ys)) ((x.0, (x.1, y.1)) ∷ more y.1 ys) ((y.0, (v, y.1)) ∷ overlay_step v x more y.1 ys)
+      match_ordering (cmp x.0 y.0)
+      ((x.0, (x.1, w)) ∷ more w (y ∷ ys))
+      ((x.0, (x.1, y.1)) ∷ more y.1 ys)
+      ((y.0, (v, y.1)) ∷ overlay_step v x more y.1 ys)
 
   -- both functions side by side
   abbrev pub overlay : V → List (C × V) → W → List (C × W) → List (C × (V × W))
@@ -18,7 +22,8 @@ module _ {C V W : Type 0} (cmp : C → C → Ordering) where
 -- the steps, without those that change nothing
 abbrev pub merge_steps : {C V : Type 0} → (V → V → Bool) → V → List (C × V) → List (C × V)
 merge_steps same v [] = []
-merge_steps same v (s ∷ steps) = if same v s.1 then merge_steps same v steps else s ∷ merge_steps same s.1 steps
+merge_steps same v (s ∷ steps) =
+    if same v s.1 then merge_steps same v steps else s ∷ merge_steps same s.1 steps
 
 -- the steps with other values
 abbrev pub relabel : {C V W : Type 0} → List (C × V) → List W → List (C × W)

@@ -1,11 +1,11 @@
 //! Functions whose points are moved into a range.
-ghost use Rattle.std.specs.Prelude.{◌≡◌, Bool, IfOk, true, false};
+ghost use Rattle.std.specs.Prelude.{◌≡◌, IfOk, true, false};
 ghost use Rattle.std.specs.Set.{ClonesAreEqual};
-ghost use Rattle.version_ranges.specs.Bounds.{IsKeptByClones, all_cuts};
-ghost use Rattle.version_ranges.specs.Point.{Point, at, begin_point, is_in_bounds, is_until, point_lt};
+ghost use Rattle.version_ranges.specs.Bounds.{KeepsCuts};
+ghost use Rattle.version_ranges.specs.Point.{at, begin_point, is_in_bounds, is_until, point_lt};
 ghost use Rattle.version_ranges.specs.Cut.{cut_point};
 ghost use Rattle.version_ranges.specs.Cuts.{value_of};
-ghost use Rattle.version_ranges.specs.Clamp.{IsBare, IsBetween, IsClamped, bound_of};
+ghost use Rattle.version_ranges.specs.Clamp.{HasPoint, IsBare, IsClamped, bound_of};
 
 use crate::cut::Cut;
 use crate::cuts::Cuts;
@@ -14,10 +14,10 @@ use std::alloc::{AllocError, Global};
 use std::cmp::Ordering;
 use std::ops::Bound;
 
-/// Whether there is a point between two bounds: between `Excluded` 1 and `Excluded` 2 there is the place right above 1,
-/// whatever values the order has.
+/// Whether there is a point between two bounds: between `Excluded` 1 and `Excluded` 2 there is the
+/// place right above 1, whatever values the order has.
 pub fn has_point<T: Ord>(lower: Bound<&T>, upper: Bound<&T>) -> bool
-    ensures some { result ≡ true → (p : Point T) × IsBetween T.cmp (bound_of lower.entry) (bound_of upper.entry) p }
+    ensures some { result ≡ true → HasPoint T.cmp (bound_of lower.entry) (bound_of upper.entry) }
     ensures none { result ≡ false → IsBare T.cmp (bound_of lower.entry) (bound_of upper.entry) }
 {
     begins_within(lower, upper)
@@ -41,7 +41,8 @@ fn begins_within<T: Ord>(lower: Bound<&T>, upper: Bound<&T>) -> bool
 impl<T: Ord> Cut<T> {
     // Whether this cut lies after the first point of a range with this lower bound.
     fn is_after_begin(&self, lower: Bound<&T>) -> bool
-        ensures { result ≡ point_lt T.cmp (begin_point (bound_of lower.entry)) (cut_point (λ v. v) self.now) }
+        ensures { result
+            ≡ point_lt T.cmp (begin_point (bound_of lower.entry)) (cut_point (λ v. v) self.now) }
     {
         match lower {
             Bound::Included(first) => self.is_after(first),
@@ -67,8 +68,9 @@ impl<T: Ord> Cut<T> {
 }
 
 impl<T: Ord + Clone, V: Eq + Clone> Cuts<T, V> {
-    /// The function with its points moved into a range: below the range it has the value of the first point, and above it
-    /// the value that it has at every point of the range from some point on. The range has a point.
+    /// The function with its points moved into a range: below the range it has the value of the
+    /// first point, and above it the value that it has at every point of the range from some point
+    /// on. The range has a point.
     pub fn clamped(
         &self,
         alloc: Global,
@@ -77,11 +79,10 @@ impl<T: Ord + Clone, V: Eq + Clone> Cuts<T, V> {
     ) -> Result<Self, AllocError>
         requires clones { ClonesAreEqual T.eq T.is_clone }
         requires value_clones { ClonesAreEqual V.eq V.is_clone }
-        requires point { (p : Point T) × IsBetween T.cmp (bound_of lower) (bound_of upper) p }
+        requires point { HasPoint T.cmp (bound_of lower) (bound_of upper) }
         ensures clamped { IfOk result (λ r. IsClamped T.cmp (bound_of lower.entry)
             (bound_of upper.entry) V.eq (value_of T.cmp self.now) (value_of T.cmp r)) }
-        ensures bounds { IfOk result (λ r. (test : T → Bool) → IsKeptByClones T.is_clone test
-            → all_cuts test self.now ≡ true → all_cuts test r ≡ true) }
+        ensures bounds { IfOk result (λ r. KeepsCuts T.is_clone self.now r) }
     {
         let steps: &[(Cut<T>, V)] = &self.rest;
         let mut first = &self.first;
@@ -103,7 +104,8 @@ impl<T: Ord + Clone, V: Eq + Clone> Cuts<T, V> {
 impl<T: Ord, V> Piece<'_, T, V> {
     /// Whether a value lies in the piece.
     pub fn contains(&self, value: &T) -> bool
-        ensures { result ≡ is_in_bounds T.cmp (bound_of self.now.lower) (bound_of self.now.upper) (at value.now) }
+        ensures { result ≡ is_in_bounds T.cmp
+            (bound_of self.now.lower) (bound_of self.now.upper) (at value.now) }
     {
         let is_from = match self.lower {
             Bound::Included(first) => first <= value,

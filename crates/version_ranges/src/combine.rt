@@ -8,7 +8,8 @@ use crate::overlay::next_turn;
 use crate::ranges::Ranges;
 use std::alloc::{AllocError, Global};
 
-/// Which points of two sets are taken: those in one set at least, in both sets, or in one set alone.
+/// Which points of two sets are taken: those in one set at least, in both sets, or in one set
+/// alone.
 #[derive(Clone, Copy)]
 pub(crate) enum Taken {
     InEither,
@@ -30,22 +31,23 @@ impl Taken {
 }
 
 impl<T: Ord + Clone> Ranges<T> {
-    ghost use Rattle.std.specs.Prelude.{Bool, true, IfOk};
+    ghost use Rattle.std.specs.Prelude.{IfOk};
     ghost use Rattle.std.specs.Set.{ClonesAreEqual};
-    ghost use Rattle.version_ranges.specs.Bounds.{IsKeptByClones, all_bounds};
-    ghost use Rattle.version_ranges.specs.Point.{Point};
-    ghost use Rattle.version_ranges.specs.Ranges.{contains_point};
+    ghost use Rattle.version_ranges.specs.Bounds.{KeepsBoundsOfBoth};
+    ghost use Rattle.version_ranges.specs.Ranges.{contains_point, IsSet};
 
-    // The points of two sets that are taken. A cut is cloned only where the taken points begin or end.
-    pub(crate) fn combined(
+    // The points of two sets that are taken. A cut is cloned only where the taken points begin or
+    // end.
+    pub(crate) fn taken_points(
         &self,
         alloc: Global,
         other: &Self,
         taken: Taken,
     ) -> Result<Self, AllocError>
         requires clones { ClonesAreEqual T.eq T.is_clone }
-        ensures set { IfOk result (λ r. (p : Point T) → contains_point T.cmp r p ≡ takes taken (contains_point T.cmp self.now p, contains_point T.cmp other.now p)) }
-        ensures bounds { IfOk result (λ r. (test : T → Bool) → IsKeptByClones T.is_clone test → all_bounds test self.now ≡ true → all_bounds test other.now ≡ true → all_bounds test r ≡ true) }
+        ensures set { IfOk result (λ r. IsSet T.cmp r (λ p. takes taken
+            (contains_point T.cmp self.now p, contains_point T.cmp other.now p))) }
+        ensures bounds { IfOk result (λ r. KeepsBoundsOfBoth T.is_clone self.now other.now r) }
     {
         let mut left = &self.cuts.first;
         let mut right = &other.cuts.first;

@@ -52,7 +52,8 @@ impl<T: Ord, V> Cuts<T, V> {
     // The value of the piece at an index.
     pub(crate) fn piece_value(&self, index: usize) -> &V
         requires { index < piece_count self.now }
-        ensures { (p : Point T) → piece_of T.cmp self.now p ≡ index → value_of T.cmp self.now p ≡ result.now }
+        ensures { (p : Point T)
+            → piece_of T.cmp self.now p ≡ index → value_of T.cmp self.now p ≡ result.now }
     {
         if index == 0 {
             &self.first
@@ -63,15 +64,12 @@ impl<T: Ord, V> Cuts<T, V> {
 }
 
 impl<V> Cuts<String, V> {
-    ghost use Rattle.std.specs.Prelude.{◌≡◌, string_bytes};
-    ghost use Rattle.std.specs.Ordering.{nat_cmp};
-    ghost use Rattle.std.specs.Cmp.Lexicographic.{slice_cmp};
     ghost use Rattle.version_ranges.specs.Point.{at};
-    ghost use Rattle.version_ranges.specs.Cuts.{value_by};
+    ghost use Rattle.version_ranges.specs.Cuts.{text_value};
 
     /// The value at the point of a text, which need be no `String`.
     pub fn at_str(&self, text: &str) -> &V
-        ensures { result.now ≡ value_by string_bytes (slice_cmp nat_cmp) self.now (at text.now) }
+        ensures { result.now ≡ text_value self.now (at text.now) }
     {
         let passed = self.rest.partition_point(|step| !step.0.is_after_str(text));
         self.piece_value(passed)
@@ -79,18 +77,18 @@ impl<V> Cuts<String, V> {
 }
 
 impl<T: Ord + Drop, V: Drop> Cuts<T, V> {
-    ghost use Rattle.std.specs.Prelude.{ℕ, IfOk, ◌≡◌, Bool, true, slice_get, Some, vec_len};
+    ghost use Rattle.std.specs.Prelude.{IfOk, ◌≡◌, Bool, true, vec_len};
     ghost use Rattle.version_ranges.specs.Bounds.{all_cuts};
-    ghost use Rattle.version_ranges.specs.Point.{Point};
-    ghost use Rattle.version_ranges.specs.Cuts.{value_of, piece_of, piece_count, IsMerged};
+    ghost use Rattle.version_ranges.specs.Cuts.{piece_count, HasValuesInOrder, IsMerged};
 
-    /// The pieces with these values in order, where neighbors with equal values are joined. There is a value for each
-    /// piece.
+    /// The pieces with these values in order, where neighbors with equal values are joined. There
+    /// is a value for each piece.
     pub fn with_values<W: Eq + Drop>(self, values: Vec<W>) -> Result<Cuts<T, W>, AllocError>
         requires { vec_len values ≡ piece_count self }
-        ensures value { IfOk result (λ r. (p : Point T) (w : W) → slice_get values.items (piece_of T.cmp self p) ≡ Some w → W.eq (value_of T.cmp r p) w ≡ true) }
+        ensures value { IfOk result (λ r. HasValuesInOrder T.cmp W.eq self values.items r) }
         ensures merged { IfOk result (IsMerged W.eq) }
-        ensures bounds { IfOk result (λ r. (test : T → Bool) → all_cuts test self ≡ true → all_cuts test r ≡ true) }
+        ensures bounds { IfOk result (λ r. (test : T → Bool)
+            → all_cuts test self ≡ true → all_cuts test r ≡ true) }
     {
         let Cuts {
             first: _,

@@ -7,8 +7,7 @@ ghost use Rattle.version_ranges.specs.Bounds.{IsKeptByClones, all_bounds, all_cu
 ghost use Rattle.version_ranges.specs.Point.{Point};
 ghost use Rattle.version_ranges.specs.Cuts.{value_of, IsMerged};
 ghost use Rattle.version_ranges.specs.Ranges.{contains_point};
-ghost use Rattle.version_ranges.specs.Steps.{last_value};
-ghost use Rattle.version_ranges.specs.Gather.{IsGathered, IsPast, IsTurned};
+ghost use Rattle.version_ranges.specs.Gather.{IsGathered, IsPast, IsTurned, with_turn};
 
 use crate::cut::Cut;
 use crate::cuts::{Cuts, last_of};
@@ -17,30 +16,30 @@ use indexmap::IndexSet;
 use std::alloc::{AllocError, Global};
 use std::hash::Hash;
 
-impl<T: Ord + Clone, V: Eq + Clone> Cuts<T, V> {
-    /// One value at the points of a set, and another at all other points.
-    pub fn from_ranges(
-        alloc: Global,
-        ranges: &Ranges<T>,
-        inside: V,
-        outside: V,
-    ) -> Result<Self, AllocError>
-        requires clones { ClonesAreEqual T.eq T.is_clone }
+impl<T: Ord + Drop, V: Eq + Clone> Cuts<T, V> {
+    /// One value at the points of a set, and another at all other points. The cuts of the set move
+    /// into the function.
+    pub fn from_ranges(ranges: Ranges<T>, inside: V, outside: V) -> Result<Self, AllocError>
         requires value_clones { ClonesAreEqual V.eq V.is_clone }
-        ensures value { IfOk result (λ r. (p : Point T) → V.eq (value_of T.cmp r p) (if contains_point T.cmp ranges.now p then inside else outside) ≡ true) }
+        ensures value { IfOk result (λ r. (p : Point T) → V.eq (value_of T.cmp r p)
+            (if contains_point T.cmp ranges p then inside else outside) ≡ true) }
         ensures merged { IfOk result (IsMerged V.eq) }
-        ensures bounds { IfOk result (λ r. (test : T → Bool) → IsKeptByClones T.is_clone test
-            → all_bounds test ranges.now ≡ true → all_cuts test r ≡ true) }
+        ensures bounds { IfOk result (λ r. (test : T → Bool)
+            → all_bounds test ranges ≡ true → all_cuts test r ≡ true) }
     {
+        let Cuts {
+            first: is_first_inside,
+            rest: steps,
+        } = ranges.cuts;
+        let alloc = *steps.allocator();
         if inside == outside {
             return Ok(Cuts::constant(alloc, outside));
         }
-        let steps: &[(Cut<T>, bool)] = &ranges.cuts.rest;
         let mut rest = Vec::with_capacity(alloc, steps.len())?;
-        let first = either(ranges.cuts.first, &inside, &outside).clone()?;
-        for step in steps {
-            let cut = step.0.clone()?;
-            let value = either(step.1, &inside, &outside).clone()?;
+        let first = either(is_first_inside, &inside, &outside).clone()?;
+        let mut steps = steps.into_iter();
+        while let Some((cut, is_inside)) = steps.next() {
+            let value = either(is_inside, &inside, &outside).clone()?;
             rest.push((cut, value))?;
         }
         Ok(Cuts { first, rest })
@@ -94,8 +93,11 @@ fn place_of<'a, T: Ord + Drop, V: Eq + Hash>(
 ) -> Result<usize, AllocError>
     requires { places.old.keys ≡ map (λ q. q.0) pairs.old.items }
     ensures keys { OnOk result (places.new.keys ≡ map (λ q. q.0) pairs.new.items) }
-    ensures pairs { OnOk result (pairs.new.items ≡ (if list_any (λ q. V.eq value.now q.0.now) pairs.old.items then pairs.old.items else pairs.old.items ++ (value.entry, set) ∷ [])) }
-    ensures found { IfOk result (λ i. (q : _) × (slice_get pairs.new.items i ≡ Some q) × (V.eq value.now q.0.now ≡ true)) }
+    ensures pairs { OnOk result (pairs.new.items
+        ≡ (if list_any (λ q. V.eq value.now q.0.now) pairs.old.items
+        then pairs.old.items else pairs.old.items ++ (value.entry, set) ∷ [])) }
+    ensures found { IfOk result (λ i. (q : _) × (slice_get pairs.new.items i ≡ Some q)
+        × (V.eq value.now q.0.now ≡ true)) }
 {
     let (place, added) = match places.insert_full(value) {
         Ok(answer) => answer,
@@ -117,9 +119,11 @@ fn pass<T: Ord + Clone, V>(
     requires clones { ClonesAreEqual T.eq T.is_clone }
     requires from { from < vec_len pairs.old }
     requires to { to < vec_len pairs.old }
-    requires past { (i : ℕ) (q : _) → slice_get pairs.old.items i ≡ Some q → IsPast T.cmp q.1 cut.now }
+    requires past { (i : ℕ) (q : _)
+        → slice_get pairs.old.items i ≡ Some q → IsPast T.cmp q.1 cut.now }
     ensures len { OnOk result (vec_len pairs.new ≡ vec_len pairs.old) }
-    ensures each { OnOk result ((i : ℕ) (q r : _) → slice_get pairs.old.items i ≡ Some q → slice_get pairs.new.items i ≡ Some r
+    ensures each { OnOk result ((i : ℕ) (q r : _)
+        → slice_get pairs.old.items i ≡ Some q → slice_get pairs.new.items i ≡ Some r
         → (r.0 ≡ q.0) × IsTurned T.cmp (not (beq (eqb i from) (eqb i to))) cut.now q.1 r.1) }
     ensures bounds { OnOk result ((test : T → Bool) → IsKeptByClones T.is_clone test
         → test cut.now.value ≡ true → list_all (λ q. all_bounds test q.1) pairs.old.items ≡ true
@@ -151,7 +155,7 @@ impl<T: Ord + Drop> Ranges<T> {
     fn turn(&mut self, cut: Cut<T>) -> Result<(), AllocError>
         requires { IsPast T.cmp self.old cut }
         ensures first { OnOk result (self.new.cuts.first ≡ self.old.cuts.first) }
-        ensures rest { OnOk result (self.new.cuts.rest.items ≡ self.old.cuts.rest.items ++ (cut, not (last_value self.old.cuts.first self.old.cuts.rest.items)) ∷ []) }
+        ensures rest { OnOk result (self.new.cuts.rest.items ≡ with_turn self.old cut) }
     {
         let cuts = &mut self.cuts;
         let inside = !*last_of(&cuts.first, &cuts.rest);

@@ -44,15 +44,16 @@ impl<T: Ord> Ranges<T> {
         ensures items { intervals_left result ≡ intervals_of self.now }
         ensures intervals { AreIntervals T.cmp self.now (intervals_of self.now) }
         ensures apart { AreApart T.cmp (intervals_of self.now) }
-        ensures bounds { (test : T → Bool) → all_bounds test self.now ≡ true → list_all (passes_at_both test) (intervals_of self.now) ≡ true }
+        ensures bounds { (test : T → Bool) → all_bounds test self.now ≡ true
+            → list_all (passes_at_both test) (intervals_of self.now) ≡ true }
     {
         Intervals {
             pieces: self.cuts.pieces(),
         }
     }
 
-    /// The least range that has all points of the set: from the lower bound of its first interval to the upper bound of
-    /// its last one. There is none where the set is empty.
+    /// The least range that has all points of the set: from the lower bound of its first interval
+    /// to the upper bound of its last one. There is none where the set is empty.
     pub fn bounding_range(&self) -> Option<(Bound<&T>, Bound<&T>)>
         ensures span { option_map interval_of result ≡ span_of (intervals_of self.now) }
         ensures intervals { AreIntervals T.cmp self.now (intervals_of self.now) }
@@ -63,7 +64,8 @@ impl<T: Ord> Ranges<T> {
 
     // The lower bound of the first interval, if there is one.
     fn first_lower(&self) -> Option<Bound<&T>>
-        ensures { option_map (bound_map (λ v. v.now)) result ≡ lower_from self.now.cuts.first self.now.cuts.rest.items }
+        ensures { option_map (bound_map (λ v. v.now)) result
+            ≡ lower_from self.now.cuts.first self.now.cuts.rest.items }
     {
         if self.cuts.first {
             return Some(Bound::Unbounded);

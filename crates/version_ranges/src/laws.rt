@@ -1,74 +1,93 @@
 //! Laws of functions and sets. A call of one does nothing: what it promises is its contract.
-ghost use Rattle.std.specs.Prelude.{◌≡◌, ℕ, Bool, List, false, true, Some, slice_get, string_bytes};
-ghost use Rattle.std.specs.Ordering.{nat_cmp};
-ghost use Rattle.std.specs.Cmp.Lexicographic.{slice_cmp};
+ghost use Rattle.std.specs.Prelude.{◌≡◌, ℕ, Bool, List, false, true};
 ghost use Rattle.std.specs.String.{string_eq};
 ghost use Rattle.std.specs.declared.cmp.Ordering.TheVariants.{Less};
 ghost use Rattle.version_ranges.specs.Alike.{AreAlike, TiesWithNone};
 ghost use Rattle.version_ranges.specs.Point.{Point, point_cmp, point_lt, point_map};
-ghost use Rattle.version_ranges.specs.Cuts.{value_of, value_by, piece_of, piece_by, IsMerged};
-ghost use Rattle.version_ranges.specs.Ranges.{contains_point};
-ghost use Rattle.version_ranges.specs.Parts.{Part, parts_of, same_parts, IsIn};
+ghost use Rattle.version_ranges.specs.Cuts.{value_of, piece_of, AgreeEverywhere, IsMerged, AgreeOnTexts, IsOrderOfNames, named_piece, named_value, text_value};
+ghost use Rattle.version_ranges.specs.Ranges.{HaveSamePoints};
+ghost use Rattle.version_ranges.specs.Parts.{Part, parts_of, same_parts, HoldsOfPieces, IsIn, IsPiece};
 ghost use Rattle.version_ranges.specs.Intervals.{intervals_of, same_intervals};
 
 use crate::cuts::Cuts;
 use crate::ranges::Ranges;
 
-/// Functions whose neighboring pieces differ, as `with_values` makes them, are equal by `==` where they have equal
-/// values at every point. Equal functions have equal pieces: as many, with equal bounds and equal values. Functions with
-/// equal pieces have equal values at every point.
+/// Functions whose neighboring pieces differ, as `with_values` makes them, are equal by `==` where
+/// they have equal values at every point. Equal functions have equal pieces: as many, with equal
+/// bounds and equal values. Functions with equal pieces have equal values at every point.
 pub fn same_values_make_same_pieces<T: Ord, V: Eq>(left: &Cuts<T, V>, right: &Cuts<T, V>)
     requires left_merged { IsMerged V.eq left.now }
     requires right_merged { IsMerged V.eq right.now }
-    ensures equal { ((p : Point T) → V.eq (value_of T.cmp left.now p) (value_of T.cmp right.now p) ≡ true) → ⟦<Cuts<T, V> as PartialEq>⟧.eq left.now right.now ≡ true }
-    ensures pieces { ⟦<Cuts<T, V> as PartialEq>⟧.eq left.now right.now ≡ true → same_parts T.eq V.eq (parts_of left.now) (parts_of right.now) ≡ true }
-    ensures values { same_parts T.eq V.eq (parts_of left.now) (parts_of right.now) ≡ true → (p : Point T) → V.eq (value_of T.cmp left.now p) (value_of T.cmp right.now p) ≡ true }
+    ensures equal { AgreeEverywhere T.cmp V.eq left.now right.now
+        → ⟦<Cuts<T, V> as PartialEq>⟧.eq left.now right.now ≡ true }
+    ensures pieces { ⟦<Cuts<T, V> as PartialEq>⟧.eq left.now right.now ≡ true
+        → same_parts T.eq V.eq (parts_of left.now) (parts_of right.now) ≡ true }
+    ensures values { same_parts T.eq V.eq (parts_of left.now) (parts_of right.now) ≡ true
+        → AgreeEverywhere T.cmp V.eq left.now right.now }
 {}
 
-/// Sets with the same points are equal by `==`. Equal sets have equal intervals: as many, with equal bounds. Sets with
-/// equal intervals have the same points.
+/// Sets with the same points are equal by `==`. Equal sets have equal intervals: as many, with
+/// equal bounds. Sets with equal intervals have the same points.
 pub fn same_points_make_same_intervals<T: Ord>(left: &Ranges<T>, right: &Ranges<T>)
-    ensures equal { ((p : Point T) → contains_point T.cmp left.now p ≡ contains_point T.cmp right.now p) → ⟦<Ranges<T> as PartialEq>⟧.eq left.now right.now ≡ true }
-    ensures intervals { ⟦<Ranges<T> as PartialEq>⟧.eq left.now right.now ≡ true → same_intervals T.eq (intervals_of left.now) (intervals_of right.now) ≡ true }
-    ensures points { same_intervals T.eq (intervals_of left.now) (intervals_of right.now) ≡ true → (p : Point T) → contains_point T.cmp left.now p ≡ contains_point T.cmp right.now p }
+    ensures equal { HaveSamePoints T.cmp left.now right.now
+        → ⟦<Ranges<T> as PartialEq>⟧.eq left.now right.now ≡ true }
+    ensures intervals { ⟦<Ranges<T> as PartialEq>⟧.eq left.now right.now ≡ true
+        → same_intervals T.eq (intervals_of left.now) (intervals_of right.now) ≡ true }
+    ensures points { same_intervals T.eq (intervals_of left.now) (intervals_of right.now) ≡ true
+        → HaveSamePoints T.cmp left.now right.now }
 {}
 
-/// Each point lies between the bounds of one piece and of no other, and the value at the point is that of this piece.
+/// Each point lies between the bounds of one piece and of no other, and the value at the point is
+/// that of this piece.
 pub fn point_lies_in_one_piece<T: Ord, V>(cuts: &Cuts<T, V>)
-    ensures found { (p : Point T) → (i : ℕ) × (part : Part T V) × (slice_get (parts_of cuts.now) i ≡ Some part) × IsIn T.cmp part p }
-    ensures alone { (p : Point T) (i j : ℕ) (x y : Part T V) → slice_get (parts_of cuts.now) i ≡ Some x → slice_get (parts_of cuts.now) j ≡ Some y → IsIn T.cmp x p → IsIn T.cmp y p → i ≡ j }
-    ensures value { (p : Point T) (i : ℕ) (part : Part T V) → slice_get (parts_of cuts.now) i ≡ Some part → IsIn T.cmp part p → value_of T.cmp cuts.now p ≡ part.value }
+    ensures found { (p : Point T)
+        → (i : ℕ) × (part : Part T V) × IsPiece cuts.now i part × IsIn T.cmp part p }
+    ensures alone { (p : Point T) (i j : ℕ) (x y : Part T V)
+        → IsPiece cuts.now i x → IsPiece cuts.now j y → IsIn T.cmp x p → IsIn T.cmp y p → i ≡ j }
+    ensures value { (p : Point T) (i : ℕ) (part : Part T V)
+        → IsPiece cuts.now i part → IsIn T.cmp part p → value_of T.cmp cuts.now p ≡ part.value }
 {}
 
-/// What holds of the value of each piece holds of the value at each point, and the other way round: each piece has a
-/// point.
+/// What holds of the value of each piece holds of the value at each point, and the other way round:
+/// each piece has a point.
 pub fn pieces_have_the_values_of_points<T: Ord, V>(cuts: &Cuts<T, V>)
-    ensures points { (holds : V → Bool) → ((i : ℕ) (part : Part T V) → slice_get (parts_of cuts.now) i ≡ Some part → holds part.value ≡ true) → (p : Point T) → holds (value_of T.cmp cuts.now p) ≡ true }
-    ensures pieces { (holds : V → Bool) → ((p : Point T) → holds (value_of T.cmp cuts.now p) ≡ true) → (i : ℕ) (part : Part T V) → slice_get (parts_of cuts.now) i ≡ Some part → holds part.value ≡ true }
-    ensures inhabited { (i : ℕ) (part : Part T V) → slice_get (parts_of cuts.now) i ≡ Some part → (p : Point T) × IsIn T.cmp part p × (value_of T.cmp cuts.now p ≡ part.value) }
+    ensures points { (holds : V → Bool) → HoldsOfPieces holds cuts.now
+        → (p : Point T) → holds (value_of T.cmp cuts.now p) ≡ true }
+    ensures pieces { (holds : V → Bool) → ((p : Point T) → holds (value_of T.cmp cuts.now p) ≡ true)
+        → HoldsOfPieces holds cuts.now }
+    ensures inhabited { (i : ℕ) (part : Part T V) → IsPiece cuts.now i part
+        → (p : Point T) × IsIn T.cmp part p × (value_of T.cmp cuts.now p ≡ part.value) }
 {}
 
-/// Where texts name the values of the order, and the order is that of the bytes of the texts, a point of the order has
-/// the same value by its name, and two functions cannot tell a point by any name, which need be the name of no value,
-/// from some point of the order.
+/// Where texts name the values of the order, and the order is that of the bytes of the texts, a
+/// point of the order has the same value by its name, and two functions cannot tell a point by any
+/// name, which need be the name of no value, from some point of the order.
 pub fn names_have_the_values_of_points<T: Ord, V, W>(left: &Cuts<T, V>, right: &Cuts<T, W>)
-    ensures named { (name : T → List ℕ) → ((x y : T) → T.cmp x y ≡ slice_cmp nat_cmp (name x) (name y)) → (p : Point T)
-        → (value_by name (slice_cmp nat_cmp) left.now (point_map name p) ≡ value_of T.cmp left.now p) × (value_by name (slice_cmp nat_cmp) right.now (point_map name p) ≡ value_of T.cmp right.now p) }
-    ensures found { (name : T → List ℕ) → ((x y : T) → T.cmp x y ≡ slice_cmp nat_cmp (name x) (name y)) → (q : Point (List ℕ))
-        → (p : Point T) × (value_by name (slice_cmp nat_cmp) left.now q ≡ value_of T.cmp left.now p) × (piece_by name (slice_cmp nat_cmp) left.now q ≡ piece_of T.cmp left.now p)
-        × (value_by name (slice_cmp nat_cmp) right.now q ≡ value_of T.cmp right.now p) × (piece_by name (slice_cmp nat_cmp) right.now q ≡ piece_of T.cmp right.now p) }
+    ensures named { (name : T → List ℕ) → IsOrderOfNames T.cmp name → (p : Point T)
+        → (named_value name left.now (point_map name p) ≡ value_of T.cmp left.now p)
+        × (named_value name right.now (point_map name p) ≡ value_of T.cmp right.now p) }
+    ensures found { (name : T → List ℕ) → IsOrderOfNames T.cmp name → (q : Point (List ℕ))
+        → (p : Point T)
+        × (named_value name left.now q ≡ value_of T.cmp left.now p)
+        × (named_piece name left.now q ≡ piece_of T.cmp left.now p)
+        × (named_value name right.now q ≡ value_of T.cmp right.now p)
+        × (named_piece name right.now q ≡ piece_of T.cmp right.now p) }
 {}
 
-/// What these laws say of functions of texts, whose points are known by bytes: two functions with equal values at each
-/// point are equal by `==` and have equal pieces; the value at a point is that of a piece; and what holds of the value
-/// of each piece holds of the value at each point.
+/// What these laws say of functions of texts, whose points are known by bytes: two functions with
+/// equal values at each point are equal by `==` and have equal pieces; the value at a point is that
+/// of a piece; and what holds of the value of each piece holds of the value at each point.
 pub fn functions_of_texts<V: Eq>(left: &Cuts<String, V>, right: &Cuts<String, V>)
     requires left_merged { IsMerged V.eq left.now }
     requires right_merged { IsMerged V.eq right.now }
-    ensures equal { ((q : Point (List ℕ)) → V.eq (value_by string_bytes (slice_cmp nat_cmp) left.now q) (value_by string_bytes (slice_cmp nat_cmp) right.now q) ≡ true) → ⟦<Cuts<String, V> as PartialEq>⟧.eq left.now right.now ≡ true }
-    ensures pieces { ((q : Point (List ℕ)) → V.eq (value_by string_bytes (slice_cmp nat_cmp) left.now q) (value_by string_bytes (slice_cmp nat_cmp) right.now q) ≡ true) → same_parts string_eq V.eq (parts_of left.now) (parts_of right.now) ≡ true }
-    ensures value { (q : Point (List ℕ)) → (i : ℕ) × (part : _) × (slice_get (parts_of left.now) i ≡ Some part) × (value_by string_bytes (slice_cmp nat_cmp) left.now q ≡ part.value) }
-    ensures each { (holds : V → Bool) → ((i : ℕ) (part : _) → slice_get (parts_of left.now) i ≡ Some part → holds part.value ≡ true) → (q : Point (List ℕ)) → holds (value_by string_bytes (slice_cmp nat_cmp) left.now q) ≡ true }
+    ensures equal { AgreeOnTexts V.eq left.now right.now
+        → ⟦<Cuts<String, V> as PartialEq>⟧.eq left.now right.now ≡ true }
+    ensures pieces { AgreeOnTexts V.eq left.now right.now
+        → same_parts string_eq V.eq (parts_of left.now) (parts_of right.now) ≡ true }
+    ensures value { (q : Point (List ℕ))
+        → (i : ℕ) × (part : _) × IsPiece left.now i part × (text_value left.now q ≡ part.value) }
+    ensures each { (holds : V → Bool) → HoldsOfPieces holds left.now
+        → (q : Point (List ℕ)) → holds (text_value left.now q) ≡ true }
 {
     same_values_make_same_pieces(left, right);
     names_have_the_values_of_points(left, right);
@@ -77,8 +96,9 @@ pub fn functions_of_texts<V: Eq>(left: &Cuts<String, V>, right: &Cuts<String, V>
 }
 
 /// Where none of some points ties with a point, there is another one right before it, as far as
-/// these can tell: it comes before the point, not before a lower one that is given, and stands before
-/// the same of them. So what compares points with finitely many points alone changes at these alone.
+/// these can tell: it comes before the point, not before a lower one that is given, and stands
+/// before the same of them. So what compares points with finitely many points alone changes at
+/// these alone.
 pub fn point_before_is_alike<T: Ord>()
     ensures { (ends : List (Point T)) (low p : Point T)
         → TiesWithNone T.cmp p ends → point_cmp T.cmp low p ≡ Less

@@ -8,8 +8,8 @@ use crate::cuts::Cuts;
 use std::alloc::{AllocError, Global};
 use std::cmp::Ordering;
 
-// The next cut of two functions side by side, the values from it on, what is left of both, and how many cuts were
-// compared to tell.
+// The next cut of two functions side by side, the values from it on, what is left of both, and how
+// many cuts were compared to tell.
 #[derive(Drop)]
 pub(crate) struct Turn<'a, T, V, W> {
     pub(crate) cut: &'a Cut<T>,
@@ -29,8 +29,10 @@ pub(crate) fn next_turn<'a, T: Ord, V, W>(
     ensures next { MatchOption result
         (sweep.overlay (cut_cmp T.cmp) left.now lefts.now right.now rights.now ≡ [])
         (λ t. sweep.overlay (cut_cmp T.cmp) left.now lefts.now right.now rights.now
-        ≡ (t.cut.now, (t.left.now, t.right.now)) ∷ sweep.overlay (cut_cmp T.cmp) t.left.now t.lefts.now t.right.now t.rights.now) }
-    ensures fewer { IfSome result (λ t. length t.lefts.now + length t.rights.now < length lefts.now + length rights.now) }
+        ≡ (t.cut.now, (t.left.now, t.right.now))
+        ∷ sweep.overlay (cut_cmp T.cmp) t.left.now t.lefts.now t.right.now t.rights.now) }
+    ensures fewer { IfSome result (λ t.
+        length t.lefts.now + length t.rights.now < length lefts.now + length rights.now) }
     ensures comparisons { IfSome result (λ t. t.comparisons ≤ 1) }
 {
     match (lefts.split_first(), rights.split_first()) {
@@ -84,8 +86,8 @@ impl<T: Ord + Clone, V: Eq + Clone> Cuts<T, V> {
     ghost use Rattle.version_ranges.specs.Point.{Point};
     ghost use Rattle.version_ranges.specs.Cuts.{value_of, piece_count};
     ghost use Rattle.std.specs.Set.{ClonesAreEqual};
-    ghost use Rattle.std.specs.Prelude.{◌≡◌, ◌+◌, ◌≤◌, Bool, true, IfOk};
-    ghost use Rattle.version_ranges.specs.Bounds.{IsKeptByClones, all_cuts};
+    ghost use Rattle.std.specs.Prelude.{◌≡◌, ◌+◌, ◌≤◌, true, IfOk};
+    ghost use Rattle.version_ranges.specs.Bounds.{KeepsCutsOfBoth};
 
     /// Both functions side by side, and how many pairs of cuts were compared to make this.
     pub fn overlay<W: Eq + Clone>(
@@ -96,11 +98,15 @@ impl<T: Ord + Clone, V: Eq + Clone> Cuts<T, V> {
         requires clones { ClonesAreEqual T.eq T.is_clone }
         requires left_clones { ClonesAreEqual V.eq V.is_clone }
         requires right_clones { ClonesAreEqual W.eq W.is_clone }
-        ensures left { IfOk result (λ r. (p : Point T) → V.eq (value_of T.cmp r.0 p).0 (value_of T.cmp self.now p) ≡ true) }
-        ensures right { IfOk result (λ r. (p : Point T) → W.eq (value_of T.cmp r.0 p).1 (value_of T.cmp other.now p) ≡ true) }
-        ensures pieces { IfOk result (λ r. piece_count r.0 + 1 ≤ piece_count self.now + piece_count other.now) }
-        ensures comparisons { IfOk result (λ r. r.1 + 2 ≤ piece_count self.now + piece_count other.now) }
-        ensures bounds { IfOk result (λ r. (test : T → Bool) → IsKeptByClones T.is_clone test → all_cuts test self.now ≡ true → all_cuts test other.now ≡ true → all_cuts test r.0 ≡ true) }
+        ensures left { IfOk result (λ r. (p : Point T)
+            → V.eq (value_of T.cmp r.0 p).0 (value_of T.cmp self.now p) ≡ true) }
+        ensures right { IfOk result (λ r. (p : Point T)
+            → W.eq (value_of T.cmp r.0 p).1 (value_of T.cmp other.now p) ≡ true) }
+        ensures pieces { IfOk result (λ r.
+            piece_count r.0 + 1 ≤ piece_count self.now + piece_count other.now) }
+        ensures comparisons { IfOk result (λ r.
+            r.1 + 2 ≤ piece_count self.now + piece_count other.now) }
+        ensures bounds { IfOk result (λ r. KeepsCutsOfBoth T.is_clone self.now other.now r.0) }
     {
         let most = self
             .rest

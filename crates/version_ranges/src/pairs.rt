@@ -8,7 +8,8 @@ use crate::cut::Cut;
 use crate::cuts::Cuts;
 use std::cmp::Ordering;
 
-/// The values of two functions side by side, in ascending order of points: one pair from each cut of either function on.
+/// The values of two functions side by side, in ascending order of points: one pair from each cut
+/// of either function on.
 #[derive(Drop)]
 pub struct Pairs<'a, T, V, W> {
     // The values before the cuts that are left; where the last pair was given, none.
@@ -41,7 +42,8 @@ fn after<'a, T: Ord, V, W>(
     right: &'a W,
     rights: &'a [(Cut<T>, W)],
 ) -> Pairs<'a, T, V, W>
-    ensures { pairs_left T.cmp result ≡ map (λ s. s.1) (overlay (cut_cmp T.cmp) left.now lefts.now right.now rights.now) }
+    ensures { pairs_left T.cmp result
+        ≡ map (λ s. s.1) (overlay (cut_cmp T.cmp) left.now lefts.now right.now rights.now) }
 {
     match (lefts.split_first(), rights.split_first()) {
         (None, None) => Pairs {
@@ -82,8 +84,9 @@ fn after<'a, T: Ord, V, W>(
 impl<T: Ord, V> Cuts<T, V> {
     ghost use Rattle.version_ranges.specs.Pairs.{pairs_left, ArePairs};
 
-    /// The values of both functions side by side, in ascending order of points: each pair has the values at some point,
-    /// and the pair of each point is given. This takes no memory, and one comparison for each pair.
+    /// The values of both functions side by side, in ascending order of points: each pair has the
+    /// values at some point, and the pair of each point is given. This takes no memory, and one
+    /// comparison for each pair.
     pub fn pairs<'a, W>(&'a self, other: &'a Cuts<T, W>) -> Pairs<'a, T, V, W>
         ensures { ArePairs T.cmp self.now other.now (pairs_left T.cmp result) }
     {

@@ -13,8 +13,8 @@ use std::ops::Bound;
 
 /// A set of the points of an order that is a union of intervals.
 ///
-/// Equal sets are equal by `==`: intervals that touch are always joined, and no value between two values of the order
-/// is ever asked for.
+/// Equal sets are equal by `==`: intervals that touch are always joined, and no value between two
+/// values of the order is ever asked for.
 #[derive(PartialEq, Eq, Hash, Drop)]
 pub struct Ranges<T: Ord> {
     pub(crate) cuts: Cuts<T, bool>,
@@ -24,9 +24,8 @@ pub struct Ranges<T: Ord> {
 impl<T: Ord> Ranges<T> {
     ghost use Rattle.std.specs.Prelude.{◌≡◌, Bool, true, false, IfOk, IfSome, IfNone, IsTrue, ◌↔◌};
     ghost use Rattle.version_ranges.specs.Bounds.{all_bounds};
-    ghost use Rattle.version_ranges.specs.Point.{Point, at, is_in_bounds};
-    ghost use Rattle.version_ranges.specs.Ranges.{contains_point};
-    ghost use Rattle.std.specs.declared.ops.Bound.TheVariants.{Included, Excluded, Unbounded};
+    ghost use Rattle.version_ranges.specs.Point.{Point, at, is_value};
+    ghost use Rattle.version_ranges.specs.Ranges.{contains_point, IsSet};
 
     /// The set of no point.
     pub fn empty(alloc: Global) -> Self
@@ -57,8 +56,8 @@ impl<T: Ord> Ranges<T> {
 
     /// The value of a set that is one value alone. There is none for any other set.
     pub fn as_singleton(&self) -> Option<&T>
-        ensures single { IfSome result (λ v. (p : Point T) → contains_point T.cmp self.now p ≡ is_in_bounds T.cmp (Included v.now) (Included v.now) p) }
-        ensures other { IfNone result ((v : T) → ¬ ((p : Point T) → contains_point T.cmp self.now p ≡ is_in_bounds T.cmp (Included v) (Included v) p)) }
+        ensures single { IfSome result (λ v. IsSet T.cmp self.now (is_value T.cmp v.now)) }
+        ensures other { IfNone result ((v : T) → ¬ IsSet T.cmp self.now (is_value T.cmp v)) }
     {
         let steps: &[(Cut<T>, bool)] = &self.cuts.rest;
         if steps.len() != 2 {
@@ -83,26 +82,25 @@ impl<T: Ord> Ranges<T> {
 
 impl<T: Ord + Drop> Ranges<T> {
     ghost use Rattle.std.specs.Prelude.{◌≡◌, ◌&&◌, Bool, true, false, not, IfOk, if◌then◌else◌};
-    ghost use Rattle.version_ranges.specs.Bounds.{all_bounds, passes_at};
+    ghost use Rattle.version_ranges.specs.Bounds.{all_bounds, IsBoundedAt, IsBoundedBy};
     ghost use Rattle.std.specs.declared.cmp.Ordering.TheVariants.{Less};
     ghost use Rattle.std.specs.declared.ops.Bound.TheVariants.{Included, Excluded, Unbounded};
-    ghost use Rattle.version_ranges.specs.Point.{Point, is_in_bounds};
     ghost use Rattle.version_ranges.specs.Cut.{cut_cmp, stands_before};
-    ghost use Rattle.version_ranges.specs.Ranges.{contains_point};
+    ghost use Rattle.version_ranges.specs.Ranges.{IsInterval, IsSet};
 
     /// The set between two bounds, which is empty where they leave no point.
     pub fn from_range_bounds(
         alloc: Global,
         bounds: (Bound<T>, Bound<T>),
     ) -> Result<Self, AllocError>
-        ensures set { IfOk result (λ r. (p : Point T) → contains_point T.cmp r p ≡ is_in_bounds T.cmp bounds.0 bounds.1 p) }
-        ensures bounds { IfOk result (λ r. (test : T → Bool) → passes_at test bounds.0 ≡ true → passes_at test bounds.1 ≡ true → all_bounds test r ≡ true) }
+        ensures set { IfOk result (λ r. IsInterval T.cmp bounds.0 bounds.1 r) }
+        ensures bounds { IfOk result (λ r. IsBoundedAt bounds.0 bounds.1 r) }
     {
         let (lower, upper) = bounds;
         match (begin_of(lower), end_of(upper)) {
             (None, None) => Ok(Ranges::full(alloc)),
-            (Some(begin), None) => Ranges::divided(alloc, false, begin),
-            (None, Some(end)) => Ranges::divided(alloc, true, end),
+            (Some(begin), None) => Ranges::half_line(alloc, false, begin),
+            (None, Some(end)) => Ranges::half_line(alloc, true, end),
             (Some(begin), Some(end)) => {
                 if begin < end {
                     Ranges::between(alloc, begin, end)
@@ -115,40 +113,41 @@ impl<T: Ord + Drop> Ranges<T> {
 
     /// The set of a value and all after it.
     pub fn higher_than(alloc: Global, value: T) -> Result<Self, AllocError>
-        ensures set { IfOk result (λ r. (p : Point T) → contains_point T.cmp r p ≡ is_in_bounds T.cmp (Included value) Unbounded p) }
-        ensures bounds { IfOk result (λ r. (test : T → Bool) → test value ≡ true → all_bounds test r ≡ true) }
+        ensures set { IfOk result (λ r. IsInterval T.cmp (Included value) Unbounded r) }
+        ensures bounds { IfOk result (λ r. IsBoundedBy value r) }
     {
         Ranges::from_range_bounds(alloc, (Bound::Included(value), Bound::Unbounded))
     }
 
     /// The set of all after a value.
     pub fn strictly_higher_than(alloc: Global, value: T) -> Result<Self, AllocError>
-        ensures set { IfOk result (λ r. (p : Point T) → contains_point T.cmp r p ≡ is_in_bounds T.cmp (Excluded value) Unbounded p) }
-        ensures bounds { IfOk result (λ r. (test : T → Bool) → test value ≡ true → all_bounds test r ≡ true) }
+        ensures set { IfOk result (λ r. IsInterval T.cmp (Excluded value) Unbounded r) }
+        ensures bounds { IfOk result (λ r. IsBoundedBy value r) }
     {
         Ranges::from_range_bounds(alloc, (Bound::Excluded(value), Bound::Unbounded))
     }
 
     /// The set of a value and all before it.
     pub fn lower_than(alloc: Global, value: T) -> Result<Self, AllocError>
-        ensures set { IfOk result (λ r. (p : Point T) → contains_point T.cmp r p ≡ is_in_bounds T.cmp Unbounded (Included value) p) }
-        ensures bounds { IfOk result (λ r. (test : T → Bool) → test value ≡ true → all_bounds test r ≡ true) }
+        ensures set { IfOk result (λ r. IsInterval T.cmp Unbounded (Included value) r) }
+        ensures bounds { IfOk result (λ r. IsBoundedBy value r) }
     {
         Ranges::from_range_bounds(alloc, (Bound::Unbounded, Bound::Included(value)))
     }
 
     /// The set of all before a value.
     pub fn strictly_lower_than(alloc: Global, value: T) -> Result<Self, AllocError>
-        ensures set { IfOk result (λ r. (p : Point T) → contains_point T.cmp r p ≡ is_in_bounds T.cmp Unbounded (Excluded value) p) }
-        ensures bounds { IfOk result (λ r. (test : T → Bool) → test value ≡ true → all_bounds test r ≡ true) }
+        ensures set { IfOk result (λ r. IsInterval T.cmp Unbounded (Excluded value) r) }
+        ensures bounds { IfOk result (λ r. IsBoundedBy value r) }
     {
         Ranges::from_range_bounds(alloc, (Bound::Unbounded, Bound::Excluded(value)))
     }
 
     // The points before a cut where `first` is true, and else those from it on.
-    fn divided(alloc: Global, first: bool, cut: Cut<T>) -> Result<Self, AllocError>
-        ensures set { IfOk result (λ r. (p : Point T) → contains_point T.cmp r p ≡ (if stands_before (λ v. v) T.cmp p cut then first else not first)) }
-        ensures bounds { IfOk result (λ r. (test : T → Bool) → test cut.value ≡ true → all_bounds test r ≡ true) }
+    fn half_line(alloc: Global, first: bool, cut: Cut<T>) -> Result<Self, AllocError>
+        ensures set { IfOk result (λ r. IsSet T.cmp r
+            (λ p. if stands_before (λ v. v) T.cmp p cut then first else not first)) }
+        ensures bounds { IfOk result (λ r. IsBoundedBy cut.value r) }
     {
         let mut rest = Vec::with_capacity(alloc, 1)?;
         rest.push((cut, !first))?;
@@ -160,8 +159,10 @@ impl<T: Ord + Drop> Ranges<T> {
     // The points from one cut to a later one.
     fn between(alloc: Global, begin: Cut<T>, end: Cut<T>) -> Result<Self, AllocError>
         requires { cut_cmp T.cmp begin end ≡ Less }
-        ensures set { IfOk result (λ r. (p : Point T) → contains_point T.cmp r p ≡ (not (stands_before (λ v. v) T.cmp p begin) && stands_before (λ v. v) T.cmp p end)) }
-        ensures bounds { IfOk result (λ r. (test : T → Bool) → test begin.value ≡ true → test end.value ≡ true → all_bounds test r ≡ true) }
+        ensures set { IfOk result (λ r. IsSet T.cmp r (λ p.
+            not (stands_before (λ v. v) T.cmp p begin) && stands_before (λ v. v) T.cmp p end)) }
+        ensures bounds { IfOk result (λ r. (test : T → Bool)
+            → test begin.value ≡ true → test end.value ≡ true → all_bounds test r ≡ true) }
     {
         let mut rest = Vec::with_capacity(alloc, 2)?;
         rest.push((begin, true))?;
@@ -174,18 +175,18 @@ impl<T: Ord + Drop> Ranges<T> {
 
 impl<T: Ord + Clone> Ranges<T> {
     ghost use Rattle.std.specs.Prelude.{◌≡◌, ◌&&◌, ◌||◌, Bool, true, false, not, IfOk};
-    ghost use Rattle.std.specs.List.{list_all, list_any};
+    ghost use Rattle.std.specs.List.{list_all};
     ghost use Rattle.std.specs.Set.{ClonesAreEqual};
-    ghost use Rattle.std.specs.declared.ops.Bound.TheVariants.{Included};
-    ghost use Rattle.version_ranges.specs.Bounds.{IsKeptByClones, all_bounds};
-    ghost use Rattle.version_ranges.specs.Point.{Point, is_in_bounds};
-    ghost use Rattle.version_ranges.specs.Ranges.{contains_point};
+    ghost use Rattle.version_ranges.specs.Bounds.{IsKeptByClones, KeepsBounds, KeepsBoundsOfBoth, all_bounds};
+    ghost use Rattle.version_ranges.specs.Point.{is_one_of, is_value};
+    ghost use Rattle.version_ranges.specs.Ranges.{contains_point, IsComplement, IsSet};
 
     /// The set of one value.
     pub fn singleton(alloc: Global, value: T) -> Result<Self, AllocError>
         requires clones { ClonesAreEqual T.eq T.is_clone }
-        ensures set { IfOk result (λ r. (p : Point T) → contains_point T.cmp r p ≡ is_in_bounds T.cmp (Included value) (Included value) p) }
-        ensures bounds { IfOk result (λ r. (test : T → Bool) → IsKeptByClones T.is_clone test → test value ≡ true → all_bounds test r ≡ true) }
+        ensures set { IfOk result (λ r. IsSet T.cmp r (is_value T.cmp value)) }
+        ensures bounds { IfOk result (λ r. (test : T → Bool) → IsKeptByClones T.is_clone test
+            → test value ≡ true → all_bounds test r ≡ true) }
     {
         let lower = value.clone()?;
         Ranges::from_range_bounds(alloc, (Bound::Included(lower), Bound::Included(value)))
@@ -194,8 +195,9 @@ impl<T: Ord + Clone> Ranges<T> {
     /// The set of these values.
     pub fn from_points(points: Vec<T>) -> Result<Self, AllocError>
         requires clones { ClonesAreEqual T.eq T.is_clone }
-        ensures set { IfOk result (λ r. (p : Point T) → contains_point T.cmp r p ≡ list_any (λ v. is_in_bounds T.cmp (Included v) (Included v) p) points.items) }
-        ensures bounds { IfOk result (λ r. (test : T → Bool) → IsKeptByClones T.is_clone test → list_all test points.items ≡ true → all_bounds test r ≡ true) }
+        ensures set { IfOk result (λ r. IsSet T.cmp r (is_one_of T.cmp points.items)) }
+        ensures bounds { IfOk result (λ r. (test : T → Bool) → IsKeptByClones T.is_clone test
+            → list_all test points.items ≡ true → all_bounds test r ≡ true) }
     {
         let mut points = points;
         points.sort()?;
@@ -228,34 +230,37 @@ impl<T: Ord + Clone> Ranges<T> {
     /// The points that are in one of two sets.
     pub fn union(&self, alloc: Global, other: &Self) -> Result<Self, AllocError>
         requires clones { ClonesAreEqual T.eq T.is_clone }
-        ensures set { IfOk result (λ r. (p : Point T) → contains_point T.cmp r p ≡ (contains_point T.cmp self.now p || contains_point T.cmp other.now p)) }
-        ensures bounds { IfOk result (λ r. (test : T → Bool) → IsKeptByClones T.is_clone test → all_bounds test self.now ≡ true → all_bounds test other.now ≡ true → all_bounds test r ≡ true) }
+        ensures set { IfOk result (λ r. IsSet T.cmp r
+            (λ p. contains_point T.cmp self.now p || contains_point T.cmp other.now p)) }
+        ensures bounds { IfOk result (λ r. KeepsBoundsOfBoth T.is_clone self.now other.now r) }
     {
-        self.combined(alloc, other, Taken::InEither)
+        self.taken_points(alloc, other, Taken::InEither)
     }
 
     /// The points that are in both of two sets.
     pub fn intersection(&self, alloc: Global, other: &Self) -> Result<Self, AllocError>
         requires clones { ClonesAreEqual T.eq T.is_clone }
-        ensures set { IfOk result (λ r. (p : Point T) → contains_point T.cmp r p ≡ (contains_point T.cmp self.now p && contains_point T.cmp other.now p)) }
-        ensures bounds { IfOk result (λ r. (test : T → Bool) → IsKeptByClones T.is_clone test → all_bounds test self.now ≡ true → all_bounds test other.now ≡ true → all_bounds test r ≡ true) }
+        ensures set { IfOk result (λ r. IsSet T.cmp r
+            (λ p. contains_point T.cmp self.now p && contains_point T.cmp other.now p)) }
+        ensures bounds { IfOk result (λ r. KeepsBoundsOfBoth T.is_clone self.now other.now r) }
     {
-        self.combined(alloc, other, Taken::InBoth)
+        self.taken_points(alloc, other, Taken::InBoth)
     }
 
     /// The points that are not in the set.
     pub fn complement(&self, alloc: Global) -> Result<Self, AllocError>
         requires clones { ClonesAreEqual T.eq T.is_clone }
-        ensures set { IfOk result (λ r. (p : Point T) → contains_point T.cmp r p ≡ not (contains_point T.cmp self.now p)) }
-        ensures bounds { IfOk result (λ r. (test : T → Bool) → IsKeptByClones T.is_clone test → all_bounds test self.now ≡ true → all_bounds test r ≡ true) }
+        ensures set { IfOk result (λ r. IsComplement T.cmp self.now r) }
+        ensures bounds { IfOk result (λ r. KeepsBounds T.is_clone self.now r) }
     {
-        self.combined(alloc, &Ranges::full(alloc), Taken::InOne)
+        self.taken_points(alloc, &Ranges::full(alloc), Taken::InOne)
     }
 }
 
 // Whether a set with two cuts is the value between them.
 fn is_around<T: Ord>(first: bool, begin: &Cut<T>, end: &Cut<T>) -> bool
-    ensures { result ≡ (not first && (not begin.now.above && (end.now.above && T.eq begin.now.value end.now.value))) }
+    ensures { result ≡ (not first && (not begin.now.above
+        && (end.now.above && T.eq begin.now.value end.now.value))) }
 {
     !first && !begin.above && end.above && begin.value == end.value
 }

@@ -9,11 +9,11 @@ use Rattle.marker_comparisons.proofs.questions.asks_text.Goals as goal
 pub place_node-requires : goal.place_node-requires
 place_node-requires c =
     let x = c.args.variable in
-    decided_children _ (of_text x) (λ v. contains_by string_bytes text_cmp c.args.range.now (v.text x)) (λ v. value_by string_bytes text_cmp c.in_ok-edges.edges (v.text x))
-    (λ v. text_decided c.in_ok-edges.edges c.args.range.now.cuts c.in_ok-edges.ensures.value (v.text x))
+    decided_children _ (of_text x) (λ v. contains_by string_bytes text_cmp c.args.range (v.text x)) (λ v. value_by string_bytes text_cmp c.in_ok-edges.edges (v.text x))
+    (λ v. text_decided c.in_ok-edges.edges c.args.range.cuts c.in_ok-edges.ensures.value (v.text x))
 
 pub returns-clause-asks : goal.returns-clause-asks
 returns-clause-asks c =
     let x = c.args.variable in
-    decided_truth c.place_node.new.self (of_text x) (λ v. contains_by string_bytes text_cmp c.args.range.now (v.text x)) (λ v. value_by string_bytes text_cmp c.in_ok-edges.edges (v.text x))
-    (λ v. text_decided c.in_ok-edges.edges c.args.range.now.cuts c.in_ok-edges.ensures.value (v.text x)) c.place_node.result c.place_node.ensures.id
+    decided_truth c.place_node.new.self (of_text x) (λ v. contains_by string_bytes text_cmp c.args.range (v.text x)) (λ v. value_by string_bytes text_cmp c.in_ok-edges.edges (v.text x))
+    (λ v. text_decided c.in_ok-edges.edges c.args.range.cuts c.in_ok-edges.ensures.value (v.text x)) c.place_node.result c.place_node.ensures.id

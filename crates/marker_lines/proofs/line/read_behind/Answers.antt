@@ -1,7 +1,12 @@
-use Rattle.std.proofs.Common.{subst}
-use Rattle.marker_lines.specs.Line.{Takes, key_and_value, marker, negated, both, either, compared, parted, assumed, required}
-use Rattle.marker_lines.proofs.AskLaws.{no_key, not_both, not_either, not_compared, not_parted, not_assumed, not_required, takes_extras, takes_names, takes_search}
+use Rattle.std.proofs.Common.{◌≡◌, subst, ap, sym, ◌∙◌, Err, Result}
+use Rattle.std.proofs.lemmas.Result.{err_from_is_err_and}
+use Rattle.marker_lines.specs.declared.word.Word.TheVariants.{OnOne, OnTwo}
+use Rattle.marker_lines.specs.Line.{Takes, run, key_and_value, marker, one_cell, two_cells, cell_and_names, cell_and_bounds}
+use Rattle.marker_lines.proofs.AskLaws.{no_key, not_two, not_named, not_ranged}
 use Rattle.marker_lines.proofs.line.read_behind.Goals as goal
+
+err_same : {T E : Type 0} {a b : E} → ◌≡◌ {A = Result T E} (Err a) (Err b) → a ≡ b
+err_same e = cc
 
 pub returns-in-Some-clause-takes : goal.returns-in-Some-clause-takes
 returns-in-Some-clause-takes c = rw c.in-Env.is (key_and_value c.in-Some.ensures.1 c.in-Some.ensures.0)
@@ -13,55 +18,26 @@ pub returns-in-Parse-clause-takes : goal.returns-in-Parse-clause-takes
 returns-in-Parse-clause-takes c = rw c.in-Parse.is marker
 
 pub returns-in-Some-read_cell-clause-takes : goal.returns-in-Some-read_cell-clause-takes
-returns-in-Some-read_cell-clause-takes c = rw c.in-Not.is (negated (record { digits = c.in-Some-read_cell.ensures.0; number = c.in-Some-read_cell.ensures.1 }))
+returns-in-Some-read_cell-clause-takes c =
+    rw c.in-OnOne.is (subst (λ r. Takes (OnOne c.in-OnOne.command) c.args.text.now (run r)) (sym c.on.ensures) (one_cell {command = c.in-OnOne.command} c.in-Some-read_cell.ensures))
 
 pub returns-in-Some-two_cells-clause-takes : goal.returns-in-Some-two_cells-clause-takes
-returns-in-Some-two_cells-clause-takes c = rw c.in-And.is (both c.in-Some-two_cells.ensures)
+returns-in-Some-two_cells-clause-takes c =
+    rw c.in-OnTwo.is (subst (λ r. Takes (OnTwo c.in-OnTwo.command) c.args.text.now (run r)) (sym c.on-in-Some-two_cells.ensures) (two_cells {command = c.in-OnTwo.command} c.in-Some-two_cells.ensures))
 
 pub returns-in-None-two_cells-clause-malformed : goal.returns-in-None-two_cells-clause-malformed
-returns-in-None-two_cells-clause-malformed c = λ e request t. not_both c.in-None-two_cells.ensures (subst (λ w. Takes w c.args.text.now request) c.in-And.is t)
+returns-in-None-two_cells-clause-malformed c = λ e request t. not_two c.in-None-two_cells.ensures (subst (λ w. Takes w c.args.text.now request) c.in-OnTwo.is t)
 
-pub returns-in-Some-two_cells-2-clause-takes : goal.returns-in-Some-two_cells-2-clause-takes
-returns-in-Some-two_cells-2-clause-takes c = rw c.in-Or.is (either c.in-Some-two_cells-2.ensures)
-
-pub returns-in-None-two_cells-2-clause-malformed : goal.returns-in-None-two_cells-2-clause-malformed
-returns-in-None-two_cells-2-clause-malformed c = λ e request t. not_either c.in-None-two_cells-2.ensures (subst (λ w. Takes w c.args.text.now request) c.in-Or.is t)
-
-pub returns-in-Some-two_cells-3-clause-takes : goal.returns-in-Some-two_cells-3-clause-takes
-returns-in-Some-two_cells-3-clause-takes c = rw c.in-Equal.is (compared c.in-Some-two_cells-3.ensures)
-
-pub returns-in-None-two_cells-3-clause-malformed : goal.returns-in-None-two_cells-3-clause-malformed
-returns-in-None-two_cells-3-clause-malformed c = λ e request t. not_compared c.in-None-two_cells-3.ensures (subst (λ w. Takes w c.args.text.now request) c.in-Equal.is t)
-
-pub returns-in-Some-two_cells-4-clause-takes : goal.returns-in-Some-two_cells-4-clause-takes
-returns-in-Some-two_cells-4-clause-takes c = rw c.in-Disjoint.is (parted c.in-Some-two_cells-4.ensures)
-
-pub returns-in-None-two_cells-4-clause-malformed : goal.returns-in-None-two_cells-4-clause-malformed
-returns-in-None-two_cells-4-clause-malformed c = λ e request t. not_parted c.in-None-two_cells-4.ensures (subst (λ w. Takes w c.args.text.now request) c.in-Disjoint.is t)
-
-pub returns-in_ok-cell-in-Eval-clause-takes : goal.returns-in_ok-cell-in-Eval-clause-takes
-returns-in_ok-cell-in-Eval-clause-takes c =
-    let r = c.in_ok-cell-in-Eval.ensures.read in
-    rw c.in-Eval.is (takes_names c.in_ok-cell-in-Eval.cell r.1 r.2 r.3)
+pub returns-in_ok-cell-in-WithNames-clause-takes : goal.returns-in_ok-cell-in-WithNames-clause-takes
+returns-in_ok-cell-in-WithNames-clause-takes c = rw c.in-WithNames.is (cell_and_names c.in_ok-cell-in-WithNames.ensures.read)
 
 pub returns-in-Some-cell_and_bounds-clause-takes : goal.returns-in-Some-cell_and_bounds-clause-takes
-returns-in-Some-cell_and_bounds-clause-takes c = rw c.in-Simplify.is (assumed c.in-Some-cell_and_bounds.ensures)
+returns-in-Some-cell_and_bounds-clause-takes c = rw c.in-WithRange.is (cell_and_bounds c.in-Some-cell_and_bounds.ensures)
 
 pub returns-in-None-cell_and_bounds-clause-malformed : goal.returns-in-None-cell_and_bounds-clause-malformed
-returns-in-None-cell_and_bounds-clause-malformed c = λ e request t. not_assumed c.in-None-cell_and_bounds.ensures (subst (λ w. Takes w c.args.text.now request) c.in-Simplify.is t)
+returns-in-None-cell_and_bounds-clause-malformed c = λ e request t. not_ranged c.in-None-cell_and_bounds.ensures (subst (λ w. Takes w c.args.text.now request) c.in-WithRange.is t)
 
-pub returns-in-Some-cell_and_bounds-2-clause-takes : goal.returns-in-Some-cell_and_bounds-2-clause-takes
-returns-in-Some-cell_and_bounds-2-clause-takes c = rw c.in-Complexify.is (required c.in-Some-cell_and_bounds-2.ensures)
-
-pub returns-in-None-cell_and_bounds-2-clause-malformed : goal.returns-in-None-cell_and_bounds-2-clause-malformed
-returns-in-None-cell_and_bounds-2-clause-malformed c = λ e request t. not_required c.in-None-cell_and_bounds-2.ensures (subst (λ w. Takes w c.args.text.now request) c.in-Complexify.is t)
-
-pub returns-in_ok-cell-in-Extras-clause-takes : goal.returns-in_ok-cell-in-Extras-clause-takes
-returns-in_ok-cell-in-Extras-clause-takes c =
-    let r = c.in_ok-cell-in-Extras.ensures.read in
-    rw c.in-Extras.is (takes_extras c.in_ok-cell-in-Extras.cell r.1 r.2 r.3)
-
-pub returns-in_ok-cell-in-Possible-clause-takes : goal.returns-in_ok-cell-in-Possible-clause-takes
-returns-in_ok-cell-in-Possible-clause-takes c =
-    let r = c.in_ok-cell-in-Possible.ensures.read in
-    rw c.in-Possible.is (takes_search c.in_ok-cell-in-Possible.cell r.1 r.2 r.3)
+pub returns-in_err-cell-in-WithNames-clause-malformed : goal.returns-in_err-cell-in-WithNames-clause-malformed
+returns-in_err-cell-in-WithNames-clause-malformed c =
+    let p = err_from_is_err_and c.from_residual.result c.from_residual.ensures.1 in
+    λ e request t. not_named (c.in_err-cell-in-WithNames.ensures.malformed (ap Err (sym p.2 ∙ err_same (sym p.1 ∙ e)))) (subst (λ w. Takes w c.args.text.now request) c.in-WithNames.is t)

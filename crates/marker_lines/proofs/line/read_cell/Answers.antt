@@ -10,4 +10,4 @@ returns-then-not-is_number c = λ n. false≢true (c.if-not-is_number.ensures.1 
 pub returns : goal.returns
 returns c =
     let n = subst (IsNumeral 10) c.as_bytes.ensures.value (numeral_from c.as_bytes.result.now (c.if-not-is_number.ensures.0 refl)) in
-    (n, c.unwrap_or.ensures ∙ cell_read c.args.word.now c.parse.result c.parse.ensures.value.0 n)
+    record { digits = n; number = c.unwrap_or.ensures ∙ cell_read c.args.word.now c.parse.result c.parse.ensures.value.0 n }

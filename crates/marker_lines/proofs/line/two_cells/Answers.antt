@@ -15,6 +15,6 @@ returns c = record {
   first = c.in-Some.first.now;
   second = c.in-Some.second.now;
   parts = c.in-Some.ensures.1;
-  is_left = record { digits = c.in-Some-read_cell.ensures.0; number = c.in-Some-read_cell.ensures.1 };
-  is_right = record { digits = c.in-Some-read_cell-2.ensures.0; number = c.in-Some-read_cell-2.ensures.1 };
+  is_left = c.in-Some-read_cell.ensures;
+  is_right = c.in-Some-read_cell-2.ensures;
 }

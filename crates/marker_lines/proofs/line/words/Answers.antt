@@ -1,6 +1,6 @@
 use Rattle.std.proofs.Common.{◌≡◌, ◌≢◌, ◌++◌, sym, ap, ◌∙◌, subst, length, rules}
 use Rattle.std.proofs.lemmas.List.{nil_from_length}
-use Rattle.marker_lines.specs.Line.{Words, spaced}
+use Rattle.marker_lines.specs.Line.{Words, with_space}
 use Rattle.marker_lines.specs.LineView.{texts_of}
 use Rattle.marker_lines.proofs.WordLaws.{utf8_after, words_grow, words_left, words_end, words_of_nothing, words_of_space, texts-push}
 use Rattle.marker_lines.proofs.line.words.Goals as goal
@@ -16,7 +16,7 @@ pub returns-then-is_empty-clause-malformed : goal.returns-then-is_empty-clause-m
 returns-then-is_empty-clause-malformed c = λ e all w.
     let l = c.loop-word.invariant.left all w in
     let none : length c.in-Some.word.now ≡ 0 = search rules in
-    words_of_space l.1 (c.in-Some.ensures.1 ∙ ap (λ x. spaced x c.in-Some.after.now) (nil_from_length _ none))
+    words_of_space l.1 (c.in-Some.ensures.1 ∙ ap (λ x. with_space x c.in-Some.after.now) (nil_from_length _ none))
 
 pub loop-word-preserved : goal.loop-word-preserved
 loop-word-preserved c =

@@ -15,8 +15,8 @@ returns-clause-value c =
     let whole = raised-set c.args.release.now c.requires in
     rw (c.in_ok-numbers.ensures.items, whole, next.1) refl
 
-pub returns-clause-not_at_end : goal.returns-clause-not_at_end
-returns-clause-not_at_end c = λ most.
+pub returns-clause-no_overflow : goal.returns-clause-no_overflow
+returns-clause-no_overflow c = λ most.
     let next = c.in-Some.ensures in
     let last : Some (get_or c.args.release.now (length c.args.release.now - 1) 0) ≡ Some 18446744073709551615 = sym (last-read c.args.release.now c.requires) ∙ most in
     let small = next.0 in

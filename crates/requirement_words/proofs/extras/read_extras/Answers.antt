@@ -1,8 +1,7 @@
-use Rattle.std.proofs.Common.{sym, subst, ◌∙◌, ap, ◌∷◌, [], List, ℕ, lit<}
+use Rattle.std.proofs.Common.{sym, subst, ◌∙◌, lit<}
 use Rattle.std.specs.Str.{chars}
 use Rattle.std.proofs.lemmas.Str.{encode_ascii}
 use Rattle.pep508_text.proofs.SuffixLaws.{suffix_then}
-use Rattle.pep508_names.specs.Name.{IsName}
 use Rattle.requirement_words.specs.Extras.{IsExtras}
 use Rattle.requirement_words.specs.declared.fault.FaultKind.TheVariants.{UnclosedBracket}
 use Rattle.requirement_words.proofs.ExtrasLaws.{reading_closed, none_more, none_name, without_bracket, none_inside, going_start, going_more, named, not_named, nothing_named, not_begun, open_place, open_rest, behind_name, refused_name}

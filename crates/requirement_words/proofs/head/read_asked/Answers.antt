@@ -1,4 +1,4 @@
-use Rattle.std.proofs.Common.{sym, ◌∙◌, subst}
+use Rattle.std.proofs.Common.{sym, ◌∙◌}
 use Rattle.pep508_text.proofs.SuffixLaws.{suffix_then}
 use Rattle.requirement_words.proofs.HeadLaws.{is_ended, is_bare, broken, refused_with, refused_to_whole, asked_in, not_in}
 use Rattle.requirement_words.proofs.head.read_asked.Goals as goal

@@ -1,7 +1,6 @@
-use Rattle.std.proofs.Common.{refl, sym, ◌∙◌}
 use Rattle.pep508_text.proofs.SuffixLaws.{suffix_self}
-use Rattle.requirement_words.specs.Head.{bare, specifiers}
-use Rattle.requirement_words.proofs.HeadLaws.{no_bare, refused_piece, set_is_something, set_is_no_url, specifier_begins}
+use Rattle.requirement_words.specs.Head.{bare}
+use Rattle.requirement_words.proofs.HeadLaws.{no_bare, refused_piece, specifier_begins}
 use Rattle.requirement_words.proofs.head.read_body.Goals as goal
 
 pub returns-in-Ok-clause-found : goal.returns-in-Ok-clause-found

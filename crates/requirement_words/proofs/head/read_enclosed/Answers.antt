@@ -1,4 +1,4 @@
-use Rattle.std.proofs.Common.{refl, lit<, ◌∙◌}
+use Rattle.std.proofs.Common.{lit<, ◌∙◌}
 use Rattle.std.proofs.lemmas.Str.{encode_ascii}
 use Rattle.pep508_text.proofs.SuffixLaws.{suffix_then}
 use Rattle.requirement_words.specs.declared.fault.FaultKind.TheVariants.{UnclosedParenthesis}

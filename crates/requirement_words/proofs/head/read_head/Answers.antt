@@ -1,4 +1,4 @@
-use Rattle.std.proofs.Common.{subst, sym, refl, List, ℕ}
+use Rattle.std.proofs.Common.{subst, sym, List, ℕ}
 use Rattle.std.specs.Str.{chars}
 use Rattle.pep508_text.proofs.SuffixLaws.{suffix_then}
 use Rattle.requirement_words.specs.Extras.{IsExtras}

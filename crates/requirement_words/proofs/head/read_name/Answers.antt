@@ -3,7 +3,7 @@ use Rattle.std.specs.Str.{chars}
 use Rattle.pep508_text.proofs.SuffixLaws.{suffix_then}
 use Rattle.requirement_words.proofs.ExtrasLaws.{named, not_named, nothing_named, not_begun, refused_name, run_ends}
 use Rattle.requirement_words.proofs.HeadLaws.{name_end, refused_with, run_of_name}
-use Rattle.requirement_words.proofs.Splits.{front_is_utf8}
+use Rattle.pep508_text.proofs.Splits.{front_is_utf8}
 use Rattle.requirement_words.proofs.head.read_name.Goals as goal
 
 pub blank-requires : goal.blank-requires

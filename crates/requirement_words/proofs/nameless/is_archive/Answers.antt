@@ -1,4 +1,4 @@
-use Rattle.std.proofs.Common.{sym, ◌∙◌, subst, codes, List, ℕ}
+use Rattle.std.proofs.Common.{sym, ◌∙◌, subst, List, ℕ}
 use Rattle.requirement_words.specs.Archive.{HasExtension, archive, compressed}
 use Rattle.requirement_words.proofs.NamelessLaws.{no_extension, other_extension, inner_tar, extension_same}
 use Rattle.requirement_words.proofs.nameless.is_archive.Goals as goal

@@ -1,6 +1,5 @@
-use Rattle.std.proofs.Common.{sym, subst, List, ℕ}
+use Rattle.std.proofs.Common.{sym, subst}
 use Rattle.pep508_urls.specs.Variables.{Expands, value_of}
-use Rattle.requirement_words.specs.Nameless.{WithoutExtras}
 use Rattle.requirement_words.proofs.NamelessLaws.{comes_to}
 use Rattle.requirement_words.proofs.nameless.is_nameless.Goals as goal
 

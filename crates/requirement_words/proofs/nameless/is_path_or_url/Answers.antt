@@ -1,4 +1,4 @@
-use Rattle.std.proofs.Common.{◌≡◌, ℕ, sym, ◌∙◌, lit<, take, drop, ◌+◌}
+use Rattle.std.proofs.Common.{sym, ◌∙◌, lit<, take, drop, ◌+◌}
 use Rattle.std.proofs.lemmas.Bool.{true≢false}
 use Rattle.std.proofs.lemmas.Str.Pattern.{contains_char, starts_char}
 use Rattle.requirement_words.specs.Nameless.{slashed, backslashed, with_scheme, archived}

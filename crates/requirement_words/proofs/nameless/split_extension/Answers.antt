@@ -1,4 +1,4 @@
-use Rattle.std.proofs.Common.{◌≡◌, ℕ, sym, ◌∙◌, ap, subst, lit<, arith, get_or, length, ◌<◌}
+use Rattle.std.proofs.Common.{ℕ, sym, subst, lit<, length, ◌<◌}
 use Rattle.std.proofs.lemmas.Option.{MatchOption-at_none, MatchOption-at_some}
 use Rattle.std.proofs.lemmas.Str.{IsCharBoundary-before_ascii, IsCharBoundary-after_ascii}
 use Rattle.std.proofs.lemmas.Str.Pattern.{rfind_char}

@@ -3,7 +3,7 @@ use Rattle.std.specs.Str.{chars}
 use Rattle.pep508_text.specs.Suffix.{IsSuffix}
 use Rattle.requirement_words.specs.Runs.{holds, part_of, after_part}
 use Rattle.requirement_words.proofs.RunLaws.{part_holds, part_ends, part_at_end}
-use Rattle.requirement_words.proofs.Splits.{Stopped, none_passed, passed_more, stopped, suffix_of}
+use Rattle.pep508_text.proofs.Splits.{Stopped, none_passed, passed_more, stopped, suffix_of}
 use Rattle.requirement_words.proofs.runs.split_part.Goals as goal
 use Rattle.requirement_words.proofs.runs.split_part.Goals.{Joined-first, in-Some+then-not-holds, in_default}
 

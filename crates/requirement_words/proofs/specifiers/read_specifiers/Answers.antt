@@ -1,9 +1,8 @@
-use Rattle.std.proofs.Common.{sym, subst, ap, ◌∙◌, ◌++◌, List, ℕ}
+use Rattle.std.proofs.Common.{sym, subst, ap, ◌∙◌, List, ℕ}
 use Rattle.std.specs.Str.{chars}
 use Rattle.pep508_text.proofs.SuffixLaws.{suffix_self, suffix_then}
 use Rattle.pep440_specifier.specs.Grammar.{IsSpecifierText}
 use Rattle.requirement_words.specs.Specifiers.{piece_of}
-use Rattle.requirement_words.specs.declared.fault.FaultKind.TheVariants.{Specifier}
 use Rattle.requirement_words.proofs.SpecifierLaws.{going_start, going_more, reading_ended, none_piece, not_memory, open_behind_piece, piece_fault}
 use Rattle.requirement_words.proofs.specifiers.read_specifiers.Goals as goal
 

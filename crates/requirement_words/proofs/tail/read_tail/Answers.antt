@@ -1,4 +1,4 @@
-use Rattle.std.proofs.Common.{sym, ◌∙◌, refl, ap, ◌∷◌, List, ℕ, inl, inr, lit<, take, length, ◌-◌}
+use Rattle.std.proofs.Common.{sym, ◌∙◌, refl, ap, ◌∷◌, ℕ, inl, inr, lit<, take, length, ◌-◌}
 use Rattle.std.specs.Str.{chars}
 use Rattle.std.proofs.lemmas.Str.Pattern.{ends_char}
 use Rattle.pep508_text.proofs.SuffixLaws.{suffix_then}

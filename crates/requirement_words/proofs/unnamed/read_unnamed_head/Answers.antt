@@ -1,5 +1,5 @@
-use Rattle.std.proofs.Common.{refl, sym, ◌∙◌, subst, ap, List, ℕ, length, drop}
-use Rattle.std.specs.Str.{chars, IsCharBoundary}
+use Rattle.std.proofs.Common.{refl, sym, ◌∙◌, subst, ap}
+use Rattle.std.specs.Str.{chars}
 use Rattle.pep508_text.specs.Suffix.{IsSuffix}
 use Rattle.pep508_text.proofs.SuffixLaws.{suffix_self, suffix_then}
 use Rattle.requirement_words.specs.Unnamed.{bare}
@@ -38,7 +38,7 @@ returns-in-Ok-clause-found c =
     let o = opening_of _ _ c.split_url.result.1.now _ _ c.skip_space-place.utf8 c.split_url.ensures.joined c.split_url.ensures.suffix.utf8 c.in-Some-split_extras.ensures.found in
     record {
       written = is_url Alone (chars c.args.text.now) (chars c.skip_space-place.result.now) _ _ _ _ c.skip_space-place.ensures.rest c.split_url.ensures.bytes c.in-Some.ensures.characters c.split_url.ensures.rest;
-      is_cut = cut_by _ c.split_url.result.1.now _ _ c.split_at.result.1.now _ _ c.in-Some-split_extras.ensures.found (ap chars (c.split_at.ensures.back ∙ o.opening_is) ∙ o.characters) c.in-Ok.ensures.found;
+      is_cut = cut_by _ c.split_url.result.1.now _ _ c.split_at.result.1.now _ _ o.extras_utf8 c.in-Some-split_extras.ensures.found (ap chars (c.split_at.ensures.back ∙ o.opening_is) ∙ o.characters) c.in-Ok.ensures.found;
     }
 
 pub returns-in-Ok-clause-suffix : goal.returns-in-Ok-clause-suffix

@@ -2,7 +2,7 @@ use Rattle.std.proofs.Common.{sym, subst, ap, ◌∙◌, ◌≡◌, ◌∷◌, t
 use Rattle.std.specs.Str.{chars}
 use Rattle.pep508_text.specs.Suffix.{IsSuffix}
 use Rattle.requirement_words.specs.Url.{after_url, is_url_stop, stops, url_of}
-use Rattle.requirement_words.proofs.Splits.{Stopped, suffix_of}
+use Rattle.pep508_text.proofs.Splits.{Stopped, suffix_of}
 use Rattle.requirement_words.proofs.UrlLaws.{going_start, going_more, going_white, url_stopped, url_closed, stops_at_break, stops_at_space}
 use Rattle.requirement_words.proofs.url.split_url.Goals as goal
 use Rattle.requirement_words.proofs.url.split_url.Goals.{Joined-first, in-Some+then-is_line_break, in-Some+else-is_line_break+then-may_end_before+then-is_url_stop, in-Some+else-is_line_break+else-may_end_before+then-ends, in_default}

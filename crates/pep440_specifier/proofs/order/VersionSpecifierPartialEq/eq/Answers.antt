@@ -9,4 +9,4 @@ pub returns-then-eq : goal.returns-then-eq
 returns-then-eq c =
     let operator : is_eq (nat_cmp (rank c.args.self.now.operator) (rank c.args.other.now.operator)) ≡ true = search rules in
     let version : is_eq (version_cmp c.args.self.now.version c.args.other.now.version) ≡ true = search rules in
-    rw (tied_next _ _ operator, tied_next _ _ version, c.counted.ensures, c.counted-then-eq.ensures) (numbers_tie _ _)
+    rw (tied_next _ _ operator, tied_next _ _ version, c.number_count.ensures, c.number_count-then-eq.ensures) (numbers_tie _ _)

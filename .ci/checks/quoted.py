@@ -1,0 +1,77 @@
+"""Examples in documents and in doc comments, which stand in programs that the gate runs.
+
+Each fenced block of Rust of the README and of `docs/`, and each fenced block of a doc comment, is a
+stretch of lines of a program of `examples/`, indentation aside. So is the last cell of each row of the
+tables of `COMPARED`, where each piece of code is a line.
+"""
+
+from __future__ import annotations
+
+import re
+from collections.abc import Iterator
+from pathlib import Path
+
+from checks.kit import Repository
+
+COMPARED = "docs/COMING_FROM.md"
+FENCED = re.compile(r"^```rust\n(?P<block>.*?)^```$", re.MULTILINE | re.DOTALL)
+COMMENTS = re.compile(r"(?:^[ \t]*//[/!].*\n)+", re.MULTILINE)
+IN_COMMENT = re.compile(r"^```\n(?P<block>.*?)^```$", re.MULTILINE | re.DOTALL)
+TABLE = re.compile(r"^\|.*\n\|[-:| ]+\|\n(?P<rows>(?:\|.*\n?)+)", re.MULTILINE)
+CELL = re.compile(r"(?<!\\)\|")
+CODE = re.compile(r"`([^`]+)`")
+
+
+def lines_of(text: str) -> list[str]:
+    """The lines of a text without their indentation, and without those that are blank."""
+    return [line.strip() for line in text.splitlines() if line.strip()]
+
+
+def stands_in(block: list[str], program: list[str]) -> bool:
+    """Whether the lines stand in a program, one behind the other."""
+    width = len(block)
+    return any(program[at : at + width] == block for at in range(len(program) - width + 1))
+
+
+def blocks_of_document(text: str) -> Iterator[list[str]]:
+    for found in FENCED.finditer(text):
+        yield lines_of(found["block"])
+
+
+def blocks_of_tables(text: str) -> Iterator[list[str]]:
+    """The code in the last cell of each row of the tables, without their headers."""
+    for found in TABLE.finditer(text):
+        for row in found["rows"].splitlines():
+            cell = CELL.split(row.rstrip().removesuffix("|"))[-1]
+            yield [line.replace("\\|", "|") for line in CODE.findall(cell)]
+
+
+def blocks_of_code(text: str) -> Iterator[list[str]]:
+    """The fenced blocks of the doc comments of a file."""
+    for comment in COMMENTS.finditer(text):
+        lines = (re.sub(r"^\s*//[/!] ?", "", line) for line in comment[0].splitlines())
+        for found in IN_COMMENT.finditer("\n".join(lines) + "\n"):
+            yield lines_of(found["block"])
+
+
+def in_repository(repository: Repository) -> list[str]:
+    """Where an example stands in none of the programs."""
+    root = repository.root
+    programs = [
+        lines_of(file.read_text(encoding="utf-8"))
+        for file in sorted((root / "examples").glob("*/*.rt.txt"))
+    ]
+    quoting: list[tuple[Path, Iterator[list[str]]]] = []
+    for file in [root / "README.md", *sorted((root / "docs").glob("*.md"))]:
+        quoting.append((file, blocks_of_document(file.read_text(encoding="utf-8"))))
+    if (compared := root / COMPARED).is_file():
+        quoting.append((compared, blocks_of_tables(compared.read_text(encoding="utf-8"))))
+    for name in repository.uses:
+        for file in sorted((repository.folder(name) / "src").rglob("*.rt")):
+            quoting.append((file, blocks_of_code(file.read_text(encoding="utf-8"))))
+    return [
+        f"{file.relative_to(root)}: {block[0] if block else 'an empty example'}"
+        for file, blocks in quoting
+        for block in blocks
+        if not block or not any(stands_in(block, program) for program in programs)
+    ]

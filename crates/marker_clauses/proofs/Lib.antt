@@ -1,0 +1,4 @@
+pub mod JoinLaws
+pub mod BranchLaws
+pub mod WalkLaws
+pub mod DnfLaws

@@ -1,0 +1,30 @@
+use Rattle.std.proofs.Common.{◌≡◌, ◌||◌, ap, subst, sym, ◌∙◌}
+use Rattle.std.proofs.lemmas.Bool.{both_ways}
+use Rattle.marker_environment.specs.Valuation.{Valuation}
+use Rattle.marker_terms.specs.Clauses.{clauses_hold, clauses_of}
+use Rattle.marker_terms.specs.Plain.{HavePrintableTerms}
+use Rattle.marker_terms.proofs.TermsOf.{left_printable}
+use Rattle.marker_graph.specs.Contents.{truth}
+use Rattle.marker_clauses.specs.Branch.{HasReleases}
+use Rattle.marker_clauses.proofs.DnfLaws.{all_printable, of_false, of_paths, of_true, readable_releases}
+use Rattle.marker_clauses.proofs.dnf.to_dnf.Goals as goal
+
+pub returns-then-is_true : goal.returns-then-is_true
+returns-then-is_true c = of_true c.args.interner.now c.args.tree (clauses_of c.new.result.items) (ap (λ xs. clauses_of xs) c.new.ensures.items) (c.is_true.ensures.0 c.if-is_true.true)
+
+pub returns-then-is_false : goal.returns-then-is_false
+returns-then-is_false c =
+    of_false c.args.interner.now c.args.tree (clauses_of c.new-then-is_false.result.items) (ap (λ xs. clauses_of xs) c.new-then-is_false.ensures.items) (c.is_false.ensures.0 c.if-is_false.true)
+
+pub returns : goal.returns
+returns c =
+    of_paths c.args.interner.now c.args.tree (clauses_of c.reduce.new.clauses.items) (λ e. both_ways _ c.if-is_true.false (c.is_true.ensures.1 e)) (λ e. both_ways _ c.if-is_false.false (c.is_false.ensures.1 e))
+    mean
+    (λ r. all_printable c.args.interner.now c.args.tree c.requires (c.same_truth_is_same_tree.ensures c.args.interner.now c.keeps_the_rules.ensures.nodes)
+    (c.truths_of_constants.ensures.truth c.args.interner.now c.keeps_the_rules.ensures.nodes) (c.truths_of_constants.ensures.falsehood c.args.interner.now c.keeps_the_rules.ensures.nodes)
+    (clauses_of c.reduce.new.clauses.items) (λ e. both_ways _ c.if-is_true.false (c.is_true.ensures.1 e)) (λ e. both_ways _ c.if-is_false.false (c.is_false.ensures.1 e)) (mean (readable_releases c.args.interner.now c.args.tree r))
+    (left_printable (clauses_of c.reduce.new.clauses.items) (clauses_of c.collect.new.clauses.items) c.reduce.ensures.terms
+    (c.in_ok-collect.ensures.printable r tt (subst (λ xs. HavePrintableTerms (clauses_of xs)) (sym c.new-clauses.ensures.items) tt))))
+  where
+    mean : HasReleases c.args.interner.now c.args.tree → (v : Valuation) → clauses_hold (clauses_of c.reduce.new.clauses.items) v ≡ truth c.args.interner.now c.args.tree v
+    mean h v = c.reduce.ensures.means v ∙ c.in_ok-collect.ensures.means h v ∙ ap (λ xs. clauses_hold (clauses_of xs) v || truth c.args.interner.now c.args.tree v) c.new-clauses.ensures.items

@@ -1,0 +1,77 @@
+-- What a marker asks first, as clauses for each subtree.
+use Rattle.std.specs.Prelude.{◌≡◌, ◌≢◌, ◌<◌, ◌&&◌, ℕ, ⊤, Bool, true, List, [], ◌∷◌, Some, slice_get, string_bytes}
+use Rattle.std.specs.List.{AllByRecursion, list_any}
+use Rattle.version_ranges.specs.Bounds.{all_cuts}
+use Rattle.pep440_rs.specs.Bounds.{is_release}
+use Rattle.marker_environment.specs.Valuation.{Valuation}
+use Rattle.marker_parts.specs.Expression as asked
+use Rattle.marker_parts.specs.declared.expression.MarkerExpression.{MarkerExpression}
+use Rattle.marker_terms.specs.Clauses.{clauses_hold, clauses_of}
+use Rattle.marker_terms.specs.Plain.{HavePrintableTerms}
+use Rattle.marker_diagrams.specs.Id.{place_of}
+use Rattle.marker_nodes.specs.Node.{Node}
+use Rattle.marker_nodes.specs.declared.node.Branches.TheVariants.{Version, Text, Truth}
+use Rattle.marker_graph.specs.declared.kind.MarkerValueExtraRef.{MarkerValueExtraRef}
+use Rattle.marker_graph.specs.declared.kind.MarkerValueExtraRef.TheVariants as extras
+use Rattle.marker_graph.specs.declared.tree.MarkerTree.{MarkerTree}
+use Rattle.marker_graph.specs.declared.tree.TheConstants.MarkerTree.{TRUE}
+use Rattle.marker_graph.specs.Contents.{Contents, IsHeld, truth}
+use Rattle.marker_graph.specs.Tree.{node_of, IsSubtree}
+use Rattle.marker_clauses.specs.declared.branch.Branch.{Branch}
+use Rattle.marker_clauses.specs.Readable.{IsReadable}
+
+-- a node that asks about a version has its bounds at releases
+abbrev pub IsReleaseNode : Node → Type 0
+IsReleaseNode (Version x cuts) = all_cuts is_release cuts ≡ true
+IsReleaseNode (Text x cuts) = ⊤
+IsReleaseNode (Truth x high low) = ⊤
+
+-- all bounds of versions in a marker are release numbers alone
+abbrev pub HasReleases : Contents → MarkerTree → Type 0
+HasReleases c t = (s : MarkerTree) (n : Node) → IsSubtree c t s → node_of c s ≡ Some n
+    → IsReleaseNode n
+
+-- whether one of the clauses of a branch holds, and it leads to a marker that passes a test
+abbrev pub reaches : Valuation → (MarkerTree → Bool) → Branch → Bool
+reaches v test b = clauses_hold (clauses_of b.clauses.items) v && test b.child
+
+-- Each branch leads to one of these children, and where the premise holds, the clauses that hold at
+-- a valuation lead to the child there, whatever is asked of it.
+pub record LeadTo (Premise : Type 0) (child : Valuation → MarkerTree) (branches : List Branch)
+    : Type 0 where
+  pub each : (i : ℕ) (b : Branch) → slice_get branches i ≡ Some b
+      → (v : Valuation) × (b.child ≡ child v)
+  pub leads : Premise → (v : Valuation) (test : MarkerTree → Bool)
+      → list_any (λ b. reaches v test b) branches ≡ test (child v)
+
+-- each term of each clause of the branches is read back as it is printed
+abbrev pub HavePrintableBranches : List Branch → Type 0
+HavePrintableBranches branches =
+    AllByRecursion (λ b. HavePrintableTerms (clauses_of b.clauses.items)) branches
+
+-- a subtree of a marker, whose node is older
+abbrev pub IsBelow : Contents → MarkerTree → MarkerTree → Type 0
+IsBelow c t s = IsHeld c s × IsSubtree c t s × (place_of s.id < place_of t.id)
+
+-- The branches of a marker: each leads to a subtree, and together they mean what the marker means.
+-- Those of a readable marker have printable terms.
+pub record AreBranches (c : Contents) (t : MarkerTree) (branches : List Branch) : Type 0 where
+  pub each : (i : ℕ) (b : Branch) → slice_get branches i ≡ Some b → IsBelow c t b.child
+  pub mean : HasReleases c t → t ≢ TRUE → (v : Valuation)
+      → list_any (λ b. reaches v (λ s. truth c s v) b) branches ≡ truth c t v
+  pub printable : IsReadable c t → HavePrintableBranches branches
+
+-- a branch of one term
+abbrev pub IsOne : Branch → MarkerExpression → MarkerTree → Type 0
+IsOne b term t = (clauses_of b.clauses.items ≡ (term ∷ []) ∷ []) × (b.child ≡ t)
+
+-- two branches of one term each
+abbrev pub AreTwo : List Branch → MarkerExpression → MarkerTree → MarkerExpression → MarkerTree
+    → Type 0
+AreTwo branches positive high negative low = (first : Branch) × (second : Branch)
+    × (branches ≡ first ∷ second ∷ []) × IsOne first positive high × IsOne second negative low
+
+-- what stands beside `extra`, lent
+abbrev pub extra_of_ref : MarkerValueExtraRef → asked.Extra
+extra_of_ref (extras.Extra n) = asked.name n.now
+extra_of_ref (extras.Arbitrary t) = asked.arbitrary (string_bytes t.now)

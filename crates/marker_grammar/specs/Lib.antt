@@ -1,0 +1,11 @@
+pub mod Formula
+pub mod Grammar
+pub mod Reading
+pub mod Postfix
+pub mod Stack
+pub mod First
+pub mod Reader
+pub mod Flat
+pub mod HasTest
+pub mod Refused
+pub mod Valid

@@ -1,0 +1,31 @@
+-- Why a text was not read.
+use Rattle.std.specs.Prelude.{◌≡◌, ℕ, List, ◌++◌, Option, encode_utf8}
+use Rattle.marker_words.specs.declared.fault.Fault.{Fault}
+use Rattle.marker_words.specs.Fault.{IsFault}
+use Rattle.marker_warnings.specs.declared.warning.MarkerWarningKind.{MarkerWarningKind}
+use Rattle.marker_parts.specs.declared.comparison.ComparisonError.{ComparisonError}
+use Rattle.marker_parts.specs.declared.comparison.ComparisonError.TheVariants as errors
+use Rattle.marker_grammar.specs.Formula.{Formula}
+use Rattle.marker_grammar.specs.Grammar.{Reads}
+
+-- the grammar has the text
+abbrev pub IsMarker : List ℕ → Type 0
+IsMarker text = (f : Option Formula) × ((k : List MarkerWarningKind) × Reads text f k)
+
+-- a text that begins with a parenthesis, and behind it a marker stands, to its end
+abbrev pub OpensMarker : List ℕ → Type 0
+OpensMarker text = (back : List ℕ) → text ≡ encode_utf8 40 ++ back → IsMarker back
+
+-- the grammar does not have the text
+abbrev pub IsNoMarker : List ℕ → Type 0
+IsNoMarker text = (f : Option Formula) (k : List MarkerWarningKind) → Reads text f k → ⊥
+
+-- a fault that is true of the text: a parenthesis is not closed where a marker stands behind it, to
+-- the end of the text
+abbrev pub IsTextFault : List ℕ → Fault → Type 0
+IsTextFault = IsFault IsMarker
+
+-- memory ran out, or the fault is true of the text and the grammar does not have it
+abbrev pub IsRefusal : List ℕ → ComparisonError → Type 0
+IsRefusal text errors.OutOfMemory = Unit {0}
+IsRefusal text (errors.Fault e) = IsTextFault text e × IsNoMarker text

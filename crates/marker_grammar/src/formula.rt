@@ -1,0 +1,87 @@
+//! A formula as one flat list, so that neither its drop nor any walk over it calls itself.
+
+ghost use Rattle.std.specs.Prelude.{◌≡◌, ◌≤◌, ◌++◌, ◌∷◌, [], ◌&&◌, ◌||◌, if◌then◌else◌, length, option_map, true, IfOk, IfSome, OnOk};
+ghost use Rattle.marker_parts.specs.Expression.{test_of};
+ghost use Rattle.marker_grammar.specs.Formula.{of_test};
+ghost use Rattle.marker_grammar.specs.Postfix.{stack_of, IsPostfix, IsWhole};
+ghost use Rattle.marker_grammar.specs.Stack.{count, Appends};
+ghost use Rattle.marker_grammar.specs.Valid.{is_valid, IsValid};
+
+use marker_parts::MarkerExpression;
+use std::alloc::AllocError;
+
+/// One step of a formula in postfix order.
+#[derive(Debug, Drop)]
+pub enum Token {
+    /// An expression.
+    Expression(MarkerExpression),
+    /// Both of the two formulas before it.
+    And,
+    /// One of the two formulas before it, or both.
+    Or,
+}
+
+/// A formula in postfix order. A formula of which nothing is left has no tokens. None of its
+/// comparisons is one of texts by `~=`: a reader drops those.
+#[derive(Debug, Drop)]
+pub struct FlatFormula {
+    pub(crate) tokens: Vec<Token>,
+    ghost whole: { IsWhole tokens.items },
+    ghost valid: { IsValid tokens.items },
+}
+
+impl FlatFormula {
+    /// The tokens in postfix order: each connective joins two formulas that stand before it, and
+    /// one formula is left, or nothing.
+    pub fn into_tokens(self) -> Vec<Token>
+        ensures tokens { result ≡ self.tokens }
+        ensures whole { IsWhole result.items }
+
+        // None of them compares texts by `~=`.
+        ensures valid { IsValid result.items }
+    {
+        self.tokens
+    }
+}
+
+// Joins the last two formulas of a list where both are there, and tells whether one is.
+pub(crate) fn join(
+    tokens: &mut Vec<Token>,
+    first: bool,
+    second: bool,
+    connective: Token,
+) -> Result<bool, AllocError>
+    ensures tokens { IfOk result (λ _. tokens.new.items
+        ≡ (if first && second then tokens.old.items ++ connective ∷ [] else tokens.old.items)) }
+    ensures any { IfOk result (λ any. any ≡ (first || second)) }
+{
+    if first && second {
+        tokens.push(connective)?;
+    }
+    Ok(first || second)
+}
+
+// Adds an expression to an `and` that may have a formula yet, and tells whether it has one then.
+// Nothing is added where a comparison is dropped.
+pub(crate) fn append(
+    tokens: &mut Vec<Token>,
+    has_and: bool,
+    expression: Option<MarkerExpression>,
+) -> Result<bool, AllocError>
+    requires { count has_and ≤ length (stack_of tokens.old.items) }
+    ensures stack { IfOk result (λ any.
+        Appends has_and any (of_test (option_map test_of expression))
+        (stack_of tokens.old.items) (stack_of tokens.new.items)) }
+    ensures postfix { OnOk result (IsPostfix tokens.old.items → IsPostfix tokens.new.items) }
+    ensures valid { OnOk result (IfSome expression (λ e. is_valid (test_of e) ≡ true)
+        → IsValid tokens.old.items → IsValid tokens.new.items) }
+{
+    match expression {
+        None => Ok(has_and),
+        Some(expression) => {
+            tokens.push(Token::Expression(expression))?;
+            let any = join(tokens, has_and, true, Token::And)?;
+            Ok(any)
+        }
+    }
+}

@@ -1,0 +1,11 @@
+//! Laws of marker texts. Each is a function that does nothing, whose contract is the law.
+ghost use Rattle.std.specs.Prelude.{ℕ, List, Option};
+ghost use Rattle.marker_warnings.specs.declared.warning.MarkerWarningKind.{MarkerWarningKind};
+ghost use Rattle.marker_grammar.specs.Formula.{Formula};
+ghost use Rattle.marker_grammar.specs.Grammar.{Reads, IsOnlyReading};
+
+/// A text says one formula at most, or nothing, and has one list of warnings.
+pub fn text_says_one_formula()
+    ensures { (text : List ℕ) (f : Option Formula) (kinds : List MarkerWarningKind) →
+        Reads text f kinds → IsOnlyReading text f kinds }
+{}

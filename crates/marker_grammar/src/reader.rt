@@ -1,0 +1,220 @@
+//! The reader of marker texts. It keeps its open parentheses, and what their `or` and `and` have so
+//! far, in a list of its own and never calls itself.
+
+ghost use Rattle.std.specs.Prelude.{◌≡◌, ◌<◌, List, ℕ, Some, slice_get, [], IfOk, IfSome, IfNone, IfErr, OnOk, length};
+ghost use Rattle.std.specs.Prelude.{◌⊎◌, ◌≢◌, ◌++◌, ◌∷◌};
+ghost use Rattle.std.specs.Str.{chars};
+ghost use Rattle.marker_words.specs.Fault.{HasNoSpace};
+ghost use Rattle.marker_words.specs.Keyword.{NoKeyword};
+ghost use Rattle.marker_grammar.specs.First.{BeginsWith};
+ghost use Rattle.marker_grammar.specs.Refused.{IsTextFault, OpensMarker};
+
+use crate::formula::{FlatFormula, Token, append, join};
+use marker_parts::{ComparisonError, read_comparison};
+use marker_warnings::MarkerWarningKind;
+use marker_words::{Fault, FaultKind, Keyword, keyword};
+use pep508_text::{first, last, skip_space, strip};
+use std::alloc::{AllocError, Global};
+
+// An open parenthesis: the text from it on, and whether the `or` and the `and` that it stands in
+// have a formula yet.
+#[derive(Clone, Copy, Debug)]
+pub struct Group<'a> {
+    pub text: &'a str,
+    pub has_or: bool,
+    pub has_and: bool,
+    ghost opens: { slice_get (chars text.now) 0 ≡ Some 40 },
+}
+
+// What may stand next: an atom, or what follows one.
+#[derive(Clone, Copy, Debug, PartialEq, Eq)]
+pub enum Wanted {
+    Atom,
+    Rest,
+}
+
+// A text that is read so far: the formulas of all lists that are not finished stand in `tokens`,
+// one after another.
+#[derive(Debug, Drop)]
+pub struct Reader<'a> {
+    pub text: &'a str,
+    pub rest: &'a str,
+    pub groups: Vec<Group<'a>>,
+    pub has_or: bool,
+    pub has_and: bool,
+    pub tokens: Vec<Token>,
+    pub kinds: Vec<MarkerWarningKind>,
+}
+
+// Where a text goes on by a character in place of a keyword or its end. The last character is left
+// out of the span.
+fn unexpected(text: &str, found: char) -> Fault<'_>
+    requires begins { BeginsWith found text.now }
+    requires some { chars text.now ≢ [] }
+    ensures { HasNoSpace text.now → NoKeyword (chars text.now) → IsTextFault text.now result }
+{
+    match last(text) {
+        Some((piece, _)) => Fault {
+            kind: FaultKind::Unexpected(found),
+            piece,
+            left: text.len(),
+        },
+        None => Fault::at_end(FaultKind::Unexpected(found)),
+    }
+}
+
+// What is wrong where the parenthesis should close. At the end of the text the fault stands at the
+// parenthesis.
+fn unclosed<'a>(text: &'a str, group: &'a str) -> Fault<'a>
+    requires { slice_get (chars group.now) 0 ≡ Some 40 }
+    ensures { ((others : List ℕ) → chars text.now ≢ 41 ∷ others)
+        → (chars text.now ≡ [] → OpensMarker group.now)
+        → IsTextFault text.now result ⊎ IsTextFault group.now result }
+{
+    if let Some((_, rest)) = first(text) {
+        return Fault::before(FaultKind::Missing(')'), text, rest);
+    }
+    match strip(group, '(') {
+        Some(rest) => Fault::before(FaultKind::Unclosed(')'), group, rest),
+        None => Fault::at_end(FaultKind::Unclosed(')')),
+    }
+}
+
+// Opens a parenthesis. A refused one leaves the list as it was.
+fn open<'a>(groups: &mut Vec<Group<'a>>, group: Group<'a>) -> Result<(), AllocError>
+    ensures { OnOk result (groups.new.items ≡ groups.old.items ++ group.entry ∷ []) }
+{
+    groups.push(group)?;
+    Ok(())
+}
+
+impl<'a> Reader<'a> {
+    ghost use Rattle.marker_grammar.specs.Postfix.{IsWhole};
+    ghost use Rattle.marker_grammar.specs.Valid.{IsValid};
+    ghost use Rattle.marker_grammar.specs.Reader as half;
+    ghost use Rattle.marker_grammar.specs.Reader.{IsSound, IsOpened, LeavesReadings, LeavesOne};
+
+    // An open parenthesis, or a comparison.
+    fn atom(&mut self, alloc: Global) -> Result<Wanted, ComparisonError<'a>>
+        requires { IsSound self.old }
+        ensures sound { OnOk result (IsSound self.new) }
+        ensures text { OnOk result (self.new.text.now ≡ self.old.text.now) }
+        ensures same { IfOk result (λ next. LeavesReadings Wanted.Atom self.old next self.new) }
+        ensures opened { IfOk result (λ next.
+            IsOpened Wanted.Atom self.old → IsOpened next self.new) }
+        ensures shorter { OnOk result (length self.new.rest.now < length self.old.rest.now) }
+        ensures err { IfErr result (half.IsRefusal Wanted.Atom self.old) }
+    {
+        let text = skip_space(self.rest);
+        if let Some(rest) = strip(text, '(') {
+            let group = Group {
+                text,
+                has_or: self.has_or,
+                has_and: self.has_and,
+            };
+            open(&mut self.groups, group)?;
+            self.has_or = false;
+            self.has_and = false;
+            self.rest = rest;
+            return Ok(Wanted::Atom);
+        }
+        let (expression, rest) = read_comparison(alloc, text, &mut self.kinds)?;
+        self.has_and = append(&mut self.tokens, self.has_and, expression)?;
+        self.rest = rest;
+        Ok(Wanted::Rest)
+    }
+
+    // What follows an atom: a keyword, a closing parenthesis, or the end of the text, which gives
+    // None.
+    fn follow(&mut self) -> Result<Option<Wanted>, ComparisonError<'a>>
+        requires { IsSound self.old }
+        ensures sound { IfOk result (λ next. IfSome next (λ _. IsSound self.new)) }
+        ensures text { OnOk result (self.new.text.now ≡ self.old.text.now) }
+        ensures same { IfOk result (λ next. IfSome next (λ wanted.
+            LeavesReadings Wanted.Rest self.old wanted self.new)) }
+        ensures opened { IfOk result (λ next. IfSome next (λ wanted.
+            IsOpened Wanted.Rest self.old → IsOpened wanted self.new)) }
+        ensures shorter { IfOk result (λ next. IfSome next (λ _.
+            length self.new.rest.now < length self.old.rest.now)) }
+        ensures ended { IfOk result (λ next. IfNone next (LeavesOne self.old self.new)) }
+        ensures whole { IfOk result (λ next. IfNone next (IsWhole self.new.tokens.items)) }
+        ensures valid { IfOk result (λ next. IfNone next (IsValid self.new.tokens.items)) }
+        ensures err { IfErr result (half.IsRefusal Wanted.Rest self.old) }
+    {
+        let text = skip_space(self.rest);
+        let (word, rest) = keyword(text);
+        if let Keyword::And = word {
+            self.rest = rest;
+            return Ok(Some(Wanted::Atom));
+        }
+        let whole = join(&mut self.tokens, self.has_or, self.has_and, Token::Or)?;
+        if let Keyword::Or = word {
+            self.has_or = whole;
+            self.has_and = false;
+            self.rest = rest;
+            return Ok(Some(Wanted::Atom));
+        }
+        let Some(group) = self.groups.pop() else {
+            if let Some((found, _)) = first(text) {
+                return Err(ComparisonError::Fault(unexpected(text, found)));
+            }
+            self.has_or = whole;
+            self.has_and = false;
+            return Ok(None);
+        };
+        let Some(rest) = strip(text, ')') else {
+            return Err(ComparisonError::Fault(unclosed(text, group.text)));
+        };
+        self.has_or = group.has_or;
+        self.has_and = join(&mut self.tokens, group.has_and, whole, Token::And)?;
+        self.rest = rest;
+        Ok(Some(Wanted::Rest))
+    }
+}
+
+/// What a marker text is read as: its formula, which is empty where all of it is dropped, and the
+/// kinds of its warnings in the order of the text.
+#[derive(Debug, Drop)]
+pub struct Reading {
+    pub formula: FlatFormula,
+    pub kinds: Vec<MarkerWarningKind>,
+}
+
+ghost use Rattle.marker_grammar.specs.Grammar.{Reads, IsOnlyReading};
+ghost use Rattle.marker_grammar.specs.Flat.{formula_of};
+ghost use Rattle.marker_grammar.specs.Refused.{IsRefusal};
+
+/// Reads a whole marker text: exactly those of the grammar, each as its formula with the kinds of
+/// its warnings. Every other text is refused with its fault.
+pub fn read(alloc: Global, text: &str) -> Result<Reading, ComparisonError<'_>>
+    ensures found { IfOk result (λ r. Reads text.now (formula_of r.formula) r.kinds.items) }
+    ensures only { IfOk result (λ r.
+        IsOnlyReading text.now (formula_of r.formula) r.kinds.items) }
+    ensures err { IfErr result (IsRefusal text.now) }
+{
+    let mut reader = Reader {
+        text,
+        rest: text,
+        groups: Vec::new(alloc),
+        has_or: false,
+        has_and: false,
+        tokens: Vec::new(alloc),
+        kinds: Vec::new(alloc),
+    };
+    let mut wanted = Wanted::Atom;
+    loop {
+        match wanted {
+            Wanted::Atom => wanted = reader.atom(alloc)?,
+            Wanted::Rest => match reader.follow()? {
+                Some(next) => wanted = next,
+                None => break,
+            },
+        }
+    }
+    Ok(Reading {
+        formula: FlatFormula {
+            tokens: reader.tokens,
+        },
+        kinds: reader.kinds,
+    })
+}

@@ -1,0 +1,5 @@
+pub mod Agreements
+pub mod AlikeLaws
+pub mod OrderLaws
+pub mod TruthLaws
+pub mod TurnLaws

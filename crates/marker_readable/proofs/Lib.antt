@@ -1,0 +1,9 @@
+mod Asked
+mod QuestionLaws
+mod CutLaws
+mod Ascents
+mod VersionEnds
+mod NodeLaws
+mod TextLaws
+mod ReleaseLaws
+mod TellLaws

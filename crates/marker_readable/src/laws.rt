@@ -1,0 +1,43 @@
+//! Laws of readable markers. Each is a function that does nothing, whose contract is the law.
+
+ghost use Rattle.marker_diagrams.specs.Diagram.{IsStore};
+ghost use Rattle.marker_nodes.specs.Node.{markers};
+ghost use Rattle.marker_graph.specs.Contents.{Contents, IsHeld, truth};
+ghost use Rattle.marker_graph.specs.declared.tree.MarkerTree.{MarkerTree};
+ghost use Rattle.marker_readable.specs.Readable.{AsksPlainQuestions, HasReleases, IsReadable, IsReadableTruth};
+
+use marker_graph::laws::{
+    neighboring_children_differ, roots_ask_the_first_variable, subtrees_are_the_residues,
+};
+
+/// A marker that means a formula of plain comparisons asks for no truth but of what can be printed:
+/// a text that lacks one of the two quotes, a name of an extra, or an arbitrary extra that is no
+/// name.
+pub fn questions_of_readable_truths_are_plain()
+    ensures { (c : Contents) → IsStore markers c.nodes → (t : MarkerTree) → IsHeld c t
+        → IsReadableTruth (truth c t) → AsksPlainQuestions c t }
+{
+    subtrees_are_the_residues();
+    roots_ask_the_first_variable();
+}
+
+/// A marker that means a formula of plain comparisons has no bound of versions but release numbers
+/// alone.
+pub fn bounds_of_readable_truths_are_releases()
+    ensures { (c : Contents) → IsStore markers c.nodes → (t : MarkerTree) → IsHeld c t
+        → IsReadableTruth (truth c t) → HasReleases c t }
+{
+    subtrees_are_the_residues();
+    neighboring_children_differ();
+}
+
+/// The marker of a readable truth is readable: where it means a formula of plain comparisons, each
+/// of its nodes can be printed.
+pub fn readable_truths_have_readable_markers()
+    ensures { (c : Contents) → IsStore markers c.nodes → (t : MarkerTree) → IsHeld c t
+        → IsReadableTruth (truth c t) → IsReadable c t }
+{
+    subtrees_are_the_residues();
+    neighboring_children_differ();
+    roots_ask_the_first_variable();
+}

@@ -1,0 +1,170 @@
+-- Steps of granting extras: what is known, and which ids wait.
+use Rattle.std.proofs.Common.{◌≡◌, ℕ, zero, suc, ◌+◌, ◌-◌, ◌<◌, ◌≤◌, ◌==◌, Bool, true, false, cond, inl, inr, List, [], ◌∷◌, ◌++◌, length, get_or, Option, Some, None, is_some, refl, sym, ap, ◌∙◌, subst, arith}
+use Rattle.std.specs.Prelude.{All, slice_get, IfSome}
+use Rattle.std.specs.Map.{lookup}
+use Rattle.std.proofs.lemmas.Bool.{true≢false, false≢true, eqb-true, eqb-false}
+use Rattle.std.proofs.lemmas.List.{length-append}
+use Rattle.std.proofs.lemmas.List.Elements.{All-append, All-push, All-weaker}
+use Rattle.std.proofs.lemmas.Option.{slice_get-get_or}
+use Rattle.marker_diagrams.specs.declared.node_id.NodeId.{NodeId}
+use Rattle.marker_diagrams.specs.Id.{place_of, index_of, is_negated, signed, signed_id, same_id}
+use Rattle.marker_diagrams.specs.Diagram.{node_at, node_of, IsHeld, Keeps}
+use Rattle.marker_diagrams.proofs.IdLaws.{same_id_is, same_id_itself, one_id}
+use Rattle.marker_diagrams.proofs.NodeLaws.{none_some, same_some}
+use Rattle.marker_environment.specs.Valuation.{Valuation}
+use Rattle.marker_nodes.specs.Branches.{piece, value_at as pick}
+use Rattle.marker_nodes.specs.Node.{Node, markers}
+use Rattle.marker_nodes.proofs.Firsts.{first_none}
+use Rattle.marker_simplifications.specs.Granting.{Known, plain, IsUnknown, AreSettled, IsFoundAs, AreFoundAs, IsPlain, IsWanted}
+use Rattle.marker_simplifications.specs.Simplified.{AreGranted, AreKnown, AreUnder, IsGranted}
+use Rattle.marker_simplifications.proofs.Grants.{granted_itself, granted_under}
+
+-- ---- ids without signs
+signed_itself : (s : Bool) → signed s s ≡ false
+signed_itself true = refl
+signed_itself false = refl
+
+pub plain_is : (t u : NodeId) → u ≡ signed_id (is_negated t) t → u ≡ plain t
+plain_is t u e = e ∙ ap (λ b. let r : NodeId = record { place = place_of t; complement = b } in r) (signed_itself (is_negated t))
+
+plain_signed : (t : NodeId) → plain t ≡ signed_id (is_negated t) t
+plain_signed t = sym (plain_is t (signed_id (is_negated t) t) refl)
+
+pub first_plain : (n : ℕ) (t u : NodeId) → place_of t ≤ n → u ≡ signed_id (is_negated t) t → IsPlain n u
+first_plain n t u h e = subst (IsPlain n) (sym (plain_is t u e)) (record { within = h; sign = refl })
+
+-- an index is that of a node, and without one there is none
+index_by : (p : ℕ) (b : Bool) → (p == 0) ≡ b → None ≡ cond b None (Some (p - 1)) → p ≡ 0
+index_by p true e f = eqb-true p 0 e
+index_by p false e f = none_some (p - 1) f
+
+some_by : (p : ℕ) (b : Bool) (i : ℕ) → (p == 0) ≡ b → Some i ≡ cond b None (Some (p - 1)) → 0 < p
+some_by p true i e f = none_some i (sym f)
+some_by p false i e f = let k : p ≡ 0 → ⊥ = eqb-false p 0 e in omega arith
+
+pub no_index : (t : NodeId) → None ≡ index_of t → place_of t ≡ 0
+no_index t e = index_by (place_of t) (place_of t == 0) refl e
+
+-- ---- what is found
+pub constant_settled : (known : Known) (t : NodeId) → place_of t ≡ 0 → ¬ IsUnknown known (plain t)
+constant_settled known t e h = let k : 0 < place_of t = h.node in omega arith
+
+module _ (known : Known) (id key : NodeId) (key_is : key ≡ signed_id (is_negated id) id) where
+  at_plain : (o : Option NodeId) → o ≡ lookup (same_id key) known → lookup (same_id (plain id)) known ≡ o
+  at_plain o e = ap (λ k. lookup (same_id k) known) (sym (plain_is id key key_is)) ∙ sym e
+
+  pub found_as : (found result : NodeId) → Some found ≡ lookup (same_id key) known → result ≡ signed_id (is_negated id) found → IsFoundAs known id result
+  found_as found result e r = inr (found, at_plain (Some found) e, r)
+
+  pub found_settled : (found : NodeId) → Some found ≡ lookup (same_id key) known → ¬ IsUnknown known (plain id)
+  found_settled found e h = none_some found (sym h.missing ∙ at_plain (Some found) e)
+
+  pub missing_unknown : None ≡ lookup (same_id key) known → 0 < place_of id → IsUnknown known (plain id)
+  missing_unknown e n = record { node = n; missing = at_plain None e }
+
+pub found_granted : (Answers : List ℕ → Bool → Type 0) (nodes : List Node) (known : Known) (a t : NodeId) → AreKnown nodes Answers known → IsHeld nodes a → IsFoundAs known a t → IsGranted nodes Answers a t
+found_granted Answers nodes known a t w i h = elim h [
+  | inl e ↦ subst (IsGranted nodes Answers a) (sym e.1) (granted_itself Answers nodes a i (first_none nodes ∙ ap (node_at nodes) (sym e.0)))
+  | inr s ↦ granted_under Answers nodes a (plain a) s.0 t (plain_signed a) s.2 (w (plain a) s.0 s.1).1
+]
+
+pub each_granted : (Answers : List ℕ → Bool → Type 0) (nodes : List Node) (known : Known) (ids made : List NodeId) → AreKnown nodes Answers known → ((i : ℕ) (t : NodeId) → slice_get ids i ≡ Some t → IsHeld nodes t) → AreFoundAs known ids made → AreGranted nodes Answers ids made
+each_granted Answers nodes known ids made w held h i a t e f = found_granted Answers nodes known a t w (held i a e) (h i a t e f)
+
+-- ---- fewer ids are unknown
+at_place : ℕ → NodeId
+at_place n = record { place = n; complement = false }
+
+-- how many of the ids of the first n nodes are unknown
+abbrev pub unknown_ids : ℕ → Known → ℕ
+unknown_ids zero known = 0
+unknown_ids (suc n) known = cond (is_some (lookup (same_id (record { place = suc n; complement = false })) known)) 0 1 + unknown_ids n known
+
+-- an id is entered
+module _ (old new : Known) (a t : NodeId) (u : (q : NodeId) → lookup (same_id q) new ≡ cond (same_id a q) (Some t) (lookup (same_id q) old)) where
+  kept_or_less : (z : Bool) (o : Option NodeId) → cond (is_some (cond z (Some t) o)) 0 1 ≤ cond (is_some o) 0 1
+  kept_or_less true o = omega arith
+  kept_or_less false o = omega arith
+
+  not_more : (q : NodeId) → cond (is_some (lookup (same_id q) new)) 0 1 ≤ cond (is_some (lookup (same_id q) old)) 0 1
+  not_more q = subst (λ o. cond (is_some o) 0 1 ≤ cond (is_some (lookup (same_id q) old)) 0 1) (sym (u q)) (kept_or_less (same_id a q) (lookup (same_id q) old))
+
+  fewer_or_same : (n : ℕ) → unknown_ids n new ≤ unknown_ids n old
+  fewer_or_same zero = omega arith
+  fewer_or_same (suc n) =
+      let q : NodeId = record { place = suc n; complement = false } in
+      let i : unknown_ids n new ≤ unknown_ids n old = fewer_or_same n in
+      let j : cond (is_some (lookup (same_id q) new)) 0 1 ≤ cond (is_some (lookup (same_id q) old)) 0 1 = not_more q in
+      omega arith
+
+  one_less : (q : NodeId) → same_id a q ≡ true → lookup (same_id q) old ≡ None → cond (is_some (lookup (same_id q) new)) 0 1 + 1 ≤ cond (is_some (lookup (same_id q) old)) 0 1
+  one_less q e n =
+      let x : lookup (same_id q) new ≡ Some t = u q ∙ ap (λ z. cond z (Some t) (lookup (same_id q) old)) e in
+      subst (λ o. cond (is_some o) 0 1 + 1 ≤ cond (is_some (lookup (same_id q) old)) 0 1) (sym x)
+      (subst (λ o. cond (is_some (Some t)) 0 1 + 1 ≤ cond (is_some o) 0 1) (sym n) (omega arith))
+
+  module _ (sign : is_negated a ≡ false) (missing : lookup (same_id a) old ≡ None) where
+    fewer_at : (n : ℕ) → (place_of a ≤ n → unknown_ids n new < unknown_ids n old) → place_of a ≤ suc n → (b : Bool) → (place_of a == suc n) ≡ b → unknown_ids (suc n) new < unknown_ids (suc n) old
+    fewer_at n rest h true f =
+        let q : NodeId = record { place = suc n; complement = false } in
+        let same : a ≡ q = one_id a q (eqb-true (place_of a) (suc n) f) sign in
+        let i : unknown_ids n new ≤ unknown_ids n old = fewer_or_same n in
+        let j : cond (is_some (lookup (same_id q) new)) 0 1 + 1 ≤ cond (is_some (lookup (same_id q) old)) 0 1 =
+        one_less q (subst (λ r. same_id a r ≡ true) same (same_id_itself a)) (subst (λ r. lookup (same_id r) old ≡ None) same missing) in
+        omega arith
+    fewer_at n rest h false f =
+        let q : NodeId = record { place = suc n; complement = false } in
+        let k : place_of a ≡ suc n → ⊥ = eqb-false (place_of a) (suc n) f in
+        let i : unknown_ids n new < unknown_ids n old = rest (omega arith) in
+        let j : cond (is_some (lookup (same_id q) new)) 0 1 ≤ cond (is_some (lookup (same_id q) old)) 0 1 = not_more q in
+        omega arith
+
+    fewer_from : (n : ℕ) → 0 < place_of a → place_of a ≤ n → unknown_ids n new < unknown_ids n old
+    fewer_from zero p h = absurd (omega arith)
+    fewer_from (suc n) p h = fewer_at n (fewer_from n p) h (place_of a == suc n) refl
+
+pub fewer_unknown : (old new : Known) (a t : NodeId) → ((q : NodeId) → lookup (same_id q) new ≡ cond (same_id a q) (Some t) (lookup (same_id q) old)) → (n : ℕ) → IsPlain n a → IsUnknown old a → unknown_ids n new < unknown_ids n old
+fewer_unknown old new a t u n p h = fewer_from old new a t u p.sign h.missing n h.node p.within
+
+-- ---- the way down
+pub plain_longer : (old new : List Node) (t : NodeId) → Keeps markers old new → IsPlain (length old) t → IsPlain (length new) t
+plain_longer old new t k h = record { within = let l = k.longer in let w = h.within in omega arith; sign = h.sign }
+
+pub plain_below : (known : Known) (n : ℕ) (parent t : NodeId) → IsPlain n parent → IsWanted known parent t → IsPlain n t
+plain_below known n parent t h w = record { within = let b = w.below in let l = h.within in omega arith; sign = w.sign }
+
+pub plain_wait : (known : Known) (n : ℕ) (at : NodeId) (others pending pushed last : List NodeId) → IsPlain n at → All (IsWanted known at) others → All (IsPlain n) pending → pushed ≡ pending ++ at ∷ [] → last ≡ pushed ++ others → All (IsPlain n) last
+plain_wait known n at others pending pushed last p w h e f =
+    subst (All (IsPlain n)) (sym f)
+    (All-append (IsPlain n) pushed others (subst (All (IsPlain n)) (sym e) (All-push (IsPlain n) pending at h p)) (All-weaker (IsWanted known at) (IsPlain n) (λ t. plain_below known n at t p) others w))
+
+-- ---- the ids that a node waits for
+pub wanted_below : (known : Known) (parent id t : NodeId) → place_of id < place_of parent → t ≡ signed_id (is_negated id) id → IsUnknown known (plain id) → IsWanted known parent t
+wanted_below known parent id t b e h = subst (IsWanted known parent) (sym (plain_is id t e)) (record { below = b; sign = refl; unknown = h })
+
+pub not_none : {X : Type 0} (xs more : List X) (x : X) → more ≡ xs ++ x ∷ [] → more ≡ [] → ⊥
+not_none xs more x last none =
+    let e : length (xs ++ x ∷ []) ≡ 0 = ap length (sym last ∙ none) in
+    let f : length (xs ++ x ∷ []) ≡ length xs + length (x ∷ []) = length-append xs (x ∷ []) in
+    let g : length (x ∷ []) ≡ 1 = refl in
+    omega (arith, e, f, g)
+
+module _ (known : Known) (ids : List NodeId) where
+  pub settled_next : (index : ℕ) (d : NodeId) → index < length ids → ((i : ℕ) (t : NodeId) → i < index → slice_get ids i ≡ Some t → ¬ IsUnknown known (plain t)) → ¬ IsUnknown known (plain (get_or ids index d)) →
+      (i : ℕ) (t : NodeId) → i < index + 1 → slice_get ids i ≡ Some t → ¬ IsUnknown known (plain t)
+  settled_next index d within before now i t l e = by_test (i == index) refl
+    where
+      by_test : (b : Bool) → (i == index) ≡ b → ¬ IsUnknown known (plain t)
+      by_test true f = subst (λ u. ¬ IsUnknown known (plain u)) (same_some (get_or ids index d) t (sym (slice_get-get_or ids index d within) ∙ ap (slice_get ids) (sym (eqb-true i index f)) ∙ e)) now
+      by_test false f = let k : i ≡ index → ⊥ = eqb-false i index f in before i t (omega arith) e
+
+  -- the children of a clone are those of the node
+  pub settled_values : (listed values given : List NodeId) → listed ≡ ids → given ≡ values → (n copy : Node) → ((v : Valuation) → pick copy v ≡ pick n v) → ((v : Valuation) → slice_get ids (piece n v) ≡ Some (pick n v)) →
+      ((i : ℕ) (t : NodeId) → slice_get values i ≡ Some t → (v : Valuation) × (pick copy v ≡ t)) → AreSettled known listed → AreSettled known given
+  settled_values listed values given l_is g_is n copy same has each settled i t e =
+      let f = each i t (ap (λ xs. slice_get xs i) (sym g_is) ∙ e) in
+      settled (piece n f.0) t (ap (λ xs. slice_get xs (piece n f.0)) l_is ∙ has f.0 ∙ ap (λ u. let o : Option NodeId = Some u in o) (sym (same f.0) ∙ f.1))
+
+pub nil_by : {X : Type 0} (xs : List X) → (0 < length xs → ⊥) → xs ≡ []
+nil_by [] h = refl
+nil_by (x ∷ xs) h = absurd (h (omega arith))

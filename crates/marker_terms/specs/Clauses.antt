@@ -1,0 +1,26 @@
+-- What a list of lists of comparisons means: a disjunction of conjunctions.
+use Rattle.std.specs.Prelude.{◌≡◌, Bool, List, Vec, map}
+use Rattle.std.specs.List.{list_all, list_any}
+use Rattle.marker_environment.specs.Valuation.{Valuation}
+use Rattle.marker_parts.specs.declared.expression.MarkerExpression.{MarkerExpression}
+use Rattle.marker_parts.specs.Expression.{test_of, holds}
+
+-- the terms of the clauses
+abbrev pub clauses_of : {A : Type 0} → List (Vec MarkerExpression A) → List (List MarkerExpression)
+clauses_of clauses = map (λ c. c.items) clauses
+
+-- whether an expression holds
+abbrev pub term_holds : MarkerExpression → Valuation → Bool
+term_holds term v = holds (test_of term) v
+
+-- whether each term of a clause holds: all do where there is none
+abbrev pub clause_holds : List MarkerExpression → Valuation → Bool
+clause_holds clause v = list_all (λ t. term_holds t v) clause
+
+-- whether one of the clauses holds: none does where there is none
+abbrev pub clauses_hold : List (List MarkerExpression) → Valuation → Bool
+clauses_hold clauses v = list_any (λ c. clause_holds c v) clauses
+
+-- the clauses hold together where others do
+abbrev pub MeanTheSame : List (List MarkerExpression) → List (List MarkerExpression) → Type 0
+MeanTheSame clauses others = (v : Valuation) → clauses_hold clauses v ≡ clauses_hold others v

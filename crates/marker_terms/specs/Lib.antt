@@ -1,0 +1,4 @@
+pub mod Clauses
+pub mod Plain
+pub mod Reduction
+pub mod Extra

@@ -1,0 +1,193 @@
+//! Comparisons that say the same, or the opposite.
+
+ghost use Rattle.std.specs.Prelude.{◌≡◌, ℕ, IfOk, IfSome, List, Some, length, not, true};
+ghost use Rattle.std.specs.Ordering.{eq_by_cmp};
+ghost use Rattle.version_ranges.specs.Point.{Point};
+ghost use Rattle.pep440_version.specs.Order.{version_cmp};
+ghost use Rattle.pep440_version.specs.Parts.{Parts};
+ghost use Rattle.pep440_specifier.specs.Operator.{is_star, negated};
+ghost use Rattle.marker_words.specs.declared.key.MarkerValueString.{MarkerValueString};
+ghost use Rattle.marker_words.specs.declared.key.MarkerValueVersion.{MarkerValueVersion};
+ghost use Rattle.marker_environment.specs.Valuation.{Valuation};
+ghost use Rattle.marker_parts.specs.Expression.{holds_text, holds_version};
+ghost use Rattle.marker_terms.specs.Clauses.{clause_holds, clauses_hold, clauses_of, term_holds};
+ghost use Rattle.marker_terms.specs.Plain.{AllPrintable, HavePrintableTerms};
+
+use marker_parts::MarkerExpression;
+use marker_words::MarkerOperator;
+use pep440_rs::VersionSpecifier;
+use pep440_rs::laws::{equal_specifiers_stand_for_one_set, negated_operator_is_complement};
+use pep440_version::laws::normal_text_reads_back;
+use std::alloc::{AllocError, Global};
+
+/// Whether two terms are the same comparison. Comparisons with a list of versions, which the
+/// clauses of a tree have none of, are the same as no other.
+pub(crate) fn is_same(term: &MarkerExpression, other: &MarkerExpression) -> bool
+    ensures { result ≡ true → (v : Valuation) → term_holds term.now v ≡ term_holds other.now v }
+{
+    match (term, other) {
+        (
+            MarkerExpression::Version { key, specifier },
+            MarkerExpression::Version {
+                key: other_key,
+                specifier: other_specifier,
+            },
+        ) => key == other_key && is_same_specifier(specifier, other_specifier),
+        (
+            MarkerExpression::String {
+                key,
+                operator,
+                value,
+            },
+            MarkerExpression::String {
+                key: other_key,
+                operator: other_operator,
+                value: other_value,
+            },
+        ) => key == other_key && operator == other_operator && value == other_value,
+        (
+            MarkerExpression::Extra { operator, name },
+            MarkerExpression::Extra {
+                operator: other_operator,
+                name: other_name,
+            },
+        ) => operator == other_operator && name == other_name,
+        _ => false,
+    }
+}
+
+/// Whether a term is written as the negation of another one: with the same key and value, for stars
+/// as many numbers, and the negated operator.
+pub(crate) fn is_negation(term: &MarkerExpression, other: &MarkerExpression) -> bool
+    ensures { result ≡ true → (v : Valuation)
+        → term_holds term.now v ≡ not (term_holds other.now v) }
+{
+    match (term, other) {
+        (
+            MarkerExpression::Version { key, specifier },
+            MarkerExpression::Version {
+                key: other_key,
+                specifier: other_specifier,
+            },
+        ) => key == other_key && is_negated_specifier(specifier, other_specifier),
+        (
+            MarkerExpression::String {
+                key,
+                operator,
+                value,
+            },
+            MarkerExpression::String {
+                key: other_key,
+                operator: other_operator,
+                value: other_value,
+            },
+        ) => {
+            key == other_key
+                && is_negated_operator(*operator, *other_operator)
+                && value == other_value
+        }
+        (
+            MarkerExpression::Extra { operator, name },
+            MarkerExpression::Extra {
+                operator: other_operator,
+                name: other_name,
+            },
+        ) => operator != other_operator && name == other_name,
+        _ => false,
+    }
+}
+
+// Equal specifiers stand for one set.
+fn is_same_specifier(specifier: &VersionSpecifier, other: &VersionSpecifier) -> bool
+    ensures { result ≡ true → (key : MarkerValueVersion) (p : Point Parts)
+        → holds_version key specifier.now p ≡ holds_version key other.now p }
+{
+    equal_specifiers_stand_for_one_set();
+    normal_text_reads_back(specifier.version());
+    normal_text_reads_back(other.version());
+    specifier == other
+}
+
+// Specifiers with negated operators and equal versions.
+fn is_negated_specifier(specifier: &VersionSpecifier, other: &VersionSpecifier) -> bool
+    ensures { result ≡ true → (key : MarkerValueVersion) (p : Point Parts)
+        → holds_version key specifier.now p ≡ not (holds_version key other.now p) }
+{
+    equal_specifiers_stand_for_one_set();
+    negated_operator_is_complement();
+    normal_text_reads_back(specifier.version());
+    normal_text_reads_back(other.version());
+    if !has_negated_operator(specifier, other) {
+        return false;
+    }
+    if !counts_alike(specifier, other) {
+        return false;
+    }
+    has_equal_version(specifier, other)
+}
+
+fn has_negated_operator(specifier: &VersionSpecifier, other: &VersionSpecifier) -> bool
+    ensures { result ≡ true → negated specifier.now.operator ≡ Some other.now.operator }
+{
+    match specifier.operator().negate() {
+        Some(negated) => negated == other.operator(),
+        None => false,
+    }
+}
+
+// A star counts the numbers of a release.
+fn counts_alike(specifier: &VersionSpecifier, other: &VersionSpecifier) -> bool
+    ensures { result ≡ true → is_star specifier.now.operator ≡ true
+        → length specifier.now.version.release ≡ length other.now.version.release }
+{
+    !specifier.operator().is_star()
+        || specifier.version().release().len() == other.version().release().len()
+}
+
+fn has_equal_version(specifier: &VersionSpecifier, other: &VersionSpecifier) -> bool
+    ensures { result ≡ eq_by_cmp version_cmp specifier.now.version other.now.version }
+{
+    specifier.version() == other.version()
+}
+
+fn is_negated_operator(operator: MarkerOperator, other: MarkerOperator) -> bool
+    ensures { result ≡ true → (key : MarkerValueString) (value : List ℕ) (v : Valuation)
+        → holds_text operator key value v ≡ not (holds_text other key value v) }
+{
+    opposite(operator) == Some(other)
+}
+
+// The operator that holds where this one does not. There is none for `~=`.
+fn opposite(operator: MarkerOperator) -> Option<MarkerOperator>
+    ensures { IfSome result (λ o. (key : MarkerValueString) (value : List ℕ) (v : Valuation)
+        → holds_text operator key value v ≡ not (holds_text o key value v)) }
+{
+    match operator {
+        MarkerOperator::Equal => Some(MarkerOperator::NotEqual),
+        MarkerOperator::NotEqual => Some(MarkerOperator::Equal),
+        MarkerOperator::GreaterThan => Some(MarkerOperator::LessEqual),
+        MarkerOperator::GreaterEqual => Some(MarkerOperator::LessThan),
+        MarkerOperator::LessThan => Some(MarkerOperator::GreaterEqual),
+        MarkerOperator::LessEqual => Some(MarkerOperator::GreaterThan),
+        MarkerOperator::TildeEqual => None,
+        MarkerOperator::In => Some(MarkerOperator::NotIn),
+        MarkerOperator::NotIn => Some(MarkerOperator::In),
+        MarkerOperator::Contains => Some(MarkerOperator::NotContains),
+        MarkerOperator::NotContains => Some(MarkerOperator::Contains),
+    }
+}
+
+/// One clause alone.
+pub(crate) fn one_clause(
+    alloc: Global,
+    terms: Vec<MarkerExpression>,
+) -> Result<Vec<Vec<MarkerExpression>>, AllocError>
+    ensures means { IfOk result (λ clauses. (v : Valuation)
+        → clauses_hold (clauses_of clauses.items) v ≡ clause_holds terms.items v) }
+    ensures printable { IfOk result (λ clauses. AllPrintable terms.items
+        → HavePrintableTerms (clauses_of clauses.items)) }
+{
+    let mut clauses = Vec::with_capacity(alloc, 1)?;
+    clauses.push(terms)?;
+    Ok(clauses)
+}

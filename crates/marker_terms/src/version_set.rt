@@ -1,0 +1,194 @@
+//! The clauses that a set of versions is.
+
+ghost use Rattle.std.specs.Prelude.{◌≡◌, IfOk, IfSome, not, true};
+ghost use Rattle.std.specs.Borrow.{Bor};
+ghost use Rattle.std.specs.List.{AllByRecursion};
+ghost use Rattle.std.specs.declared.ops.Bound.{Bound};
+ghost use Rattle.version_ranges.specs.Bounds.{all_bounds};
+ghost use Rattle.version_ranges.specs.Point.{Point};
+ghost use Rattle.version_ranges.specs.Ranges.{contains_point};
+ghost use Rattle.pep440_version.specs.Order.{version_cmp};
+ghost use Rattle.pep440_version.specs.Parts.{Parts};
+ghost use Rattle.pep440_specifier.specs.Bounds.{bound_specifiers};
+ghost use Rattle.pep440_rs.specs.Bounds.{IsAtRelease, is_release, is_within};
+ghost use Rattle.pep440_rs.specs.Intervals.{is_in};
+ghost use Rattle.marker_environment.specs.Valuation.{Valuation};
+ghost use Rattle.marker_parts.specs.Expression.{holds, test_of};
+ghost use Rattle.marker_terms.specs.Clauses.{clause_holds, clauses_hold, clauses_of};
+ghost use Rattle.marker_terms.specs.Plain.{AllPrintable, HavePrintableTerms, IsPrintable, IsPrintableSpecifier};
+
+use crate::term::one_clause;
+use marker_parts::MarkerExpression;
+use marker_words::VersionVariable;
+use pep440_rs::laws::{
+    negated_operator_is_complement, range_is_its_specifiers, range_specifiers_raise_nothing,
+    version_clones_are_equal, versions_tied_with_releases_are_releases,
+};
+use pep440_rs::{Operator, Ranges, Version, VersionSpecifier};
+use pep440_specifier::laws::specifiers_are_well_formed;
+use pep440_version::laws::normal_text_reads_back;
+use std::alloc::{AllocError, Global};
+use std::ops::Bound;
+
+/// The clauses that hold where the variable's version is in a set.
+///
+/// A set that leaves out single versions alone is one clause, of a `!=` for each of them, and so is
+/// one that leaves out the versions from M.m up to M.(m+1), `!= 'M.m.*'`. Of another set each
+/// interval is a clause: `==`, `== 'M.m.*'`, or what its bounds ask for. What the clauses mean is
+/// promised where the bounds of the set are releases; each term is read back as it is printed,
+/// whatever they are. Only memory can run out.
+pub fn version_clauses(
+    alloc: Global,
+    variable: VersionVariable,
+    set: &Ranges<Version>,
+) -> Result<Vec<Vec<MarkerExpression>>, AllocError>
+    ensures means { IfOk result (λ clauses. all_bounds is_release set.now ≡ true → (v : Valuation)
+        → clauses_hold (clauses_of clauses.items) v
+        ≡ contains_point version_cmp set.now (v.version variable)) }
+    ensures printable { IfOk result (λ clauses. HavePrintableTerms (clauses_of clauses.items)) }
+{
+    version_clones_are_equal();
+    let outside = set.complement(alloc)?;
+    match exclusions(alloc, variable, &outside)? {
+        Some(terms) => one_clause(alloc, terms),
+        None => interval_clauses(alloc, variable, set),
+    }
+}
+
+// A clause for each interval.
+fn interval_clauses(
+    alloc: Global,
+    variable: VersionVariable,
+    set: &Ranges<Version>,
+) -> Result<Vec<Vec<MarkerExpression>>, AllocError>
+    ensures means { IfOk result (λ clauses. all_bounds is_release set.now ≡ true → (v : Valuation)
+        → clauses_hold (clauses_of clauses.items) v
+        ≡ contains_point version_cmp set.now (v.version variable)) }
+    ensures printable { IfOk result (λ clauses. HavePrintableTerms (clauses_of clauses.items)) }
+{
+    versions_tied_with_releases_are_releases();
+    let mut clauses = Vec::new(alloc);
+    for bounds in set.iter() {
+        let terms = range_terms(alloc, variable, bounds)?;
+        clauses.push(terms)?;
+    }
+    Ok(clauses)
+}
+
+// The terms of the versions that are not in a set, where they leave out single versions, or the
+// versions of one minor release.
+fn exclusions(
+    alloc: Global,
+    variable: VersionVariable,
+    outside: &Ranges<Version>,
+) -> Result<Option<Vec<MarkerExpression>>, AllocError>
+    ensures means { IfOk result (λ found. IfSome found (λ terms.
+        all_bounds is_release outside.now ≡ true → (v : Valuation) → clause_holds terms.items v
+        ≡ not (contains_point version_cmp outside.now (v.version variable)))) }
+    ensures printable { IfOk result (λ found. IfSome found (λ terms. AllPrintable terms.items)) }
+{
+    versions_tied_with_releases_are_releases();
+    let mut terms = Vec::new(alloc);
+    let mut has_star = false;
+    for bounds in outside.iter() {
+        let Some(specifier) = exclusion(alloc, bounds)? else {
+            return Ok(None);
+        };
+        has_star |= specifier.operator().is_star();
+        terms.push(compared(variable, specifier))?;
+    }
+    // A minor release is left out by itself alone.
+    if has_star && terms.len() > 1 {
+        return Ok(None);
+    }
+    Ok(Some(terms))
+}
+
+// The specifier of the versions that do not lie in a range, where those that do are a single one or
+// a minor release.
+fn exclusion(
+    alloc: Global,
+    bounds: (Bound<&Version>, Bound<&Version>),
+) -> Result<Option<VersionSpecifier>, AllocError>
+    ensures means { IfOk result (λ found. IfSome found (λ s.
+        IsAtRelease bounds.entry.0 → IsAtRelease bounds.entry.1 → (p : Point Parts)
+        → is_in s.operator s.version.release p ≡ not (is_within bounds.entry.0 bounds.entry.1 p))) }
+    ensures printable { IfOk result (λ found. IfSome found IsPrintableSpecifier) }
+{
+    range_is_its_specifiers();
+    range_specifiers_are_printable(bounds.1);
+    let mut specifiers = VersionSpecifier::from_release_only_bounds(alloc, bounds)?;
+    let Some(specifier) = specifiers.next() else {
+        return Ok(None);
+    };
+    if specifiers.next().is_some() {
+        return Ok(None);
+    }
+    Ok(inequality(specifier))
+}
+
+// The negation of a specifier, where it is `==` or has a star.
+fn inequality(specifier: VersionSpecifier) -> Option<VersionSpecifier>
+    ensures means { IfSome result (λ s. (p : Point Parts) → is_in s.operator s.version.release p
+        ≡ not (is_in specifier.operator specifier.version.release p)) }
+    ensures printable { IfSome result (λ s.
+        IsPrintableSpecifier specifier → IsPrintableSpecifier s) }
+{
+    negated_operator_is_complement();
+    let (operator, version) = specifier.into_parts();
+    let negated = match operator {
+        Operator::Equal => Operator::NotEqual,
+        Operator::EqualStar => Operator::NotEqualStar,
+        _ => return None,
+    };
+    match VersionSpecifier::from_version(negated, version) {
+        Ok(specifier) => Some(specifier),
+        Err(_) => unreachable!(),
+    }
+}
+
+// The terms that hold where the variable's version lies in a range.
+fn range_terms(
+    alloc: Global,
+    variable: VersionVariable,
+    bounds: (Bound<&Version>, Bound<&Version>),
+) -> Result<Vec<MarkerExpression>, AllocError>
+    ensures means { IfOk result (λ terms.
+        IsAtRelease bounds.entry.0 → IsAtRelease bounds.entry.1 → (v : Valuation)
+        → clause_holds terms.items v
+        ≡ is_within bounds.entry.0 bounds.entry.1 (v.version variable)) }
+    ensures printable { IfOk result (λ terms. AllPrintable terms.items) }
+{
+    range_is_its_specifiers();
+    range_specifiers_are_printable(bounds.1);
+    let mut terms = Vec::new(alloc);
+    for specifier in VersionSpecifier::from_release_only_bounds(alloc, bounds)? {
+        terms.push(compared(variable, specifier))?;
+    }
+    Ok(terms)
+}
+
+// The comparison of a variable's key.
+fn compared(variable: VersionVariable, specifier: VersionSpecifier) -> MarkerExpression
+    ensures means { (v : Valuation) → holds (test_of result) v
+        ≡ is_in specifier.operator specifier.version.release (v.version variable) }
+    ensures printable { IsPrintableSpecifier specifier → IsPrintable result }
+{
+    specifiers_are_well_formed(&specifier);
+    let key = variable.key();
+    MarkerExpression::Version { key, specifier }
+}
+
+// The specifiers of a range are printable, since the version at its upper bound is valid: the
+// number above that of a star is there.
+fn range_specifiers_are_printable(upper: Bound<&Version>)
+    ensures { (lower : Bound (Bor Parts))
+        → AllByRecursion IsPrintableSpecifier (bound_specifiers lower upper.entry) }
+{
+    range_specifiers_raise_nothing();
+    match upper {
+        Bound::Included(version) => normal_text_reads_back(version),
+        Bound::Excluded(version) => normal_text_reads_back(version),
+        Bound::Unbounded => {}
+    }
+}

@@ -1,0 +1,36 @@
+-- Views of markers and their order.
+use Rattle.std.specs.Prelude.{◌≡◌, Bool, List}
+use Rattle.std.specs.Cmp.{IsTotalOrder, on_total}
+use Rattle.std.specs.Ordering.{on}
+use Rattle.std.specs.declared.cmp.Ordering.{Ordering}
+use Rattle.marker_environment.specs.Valuation.{Valuation}
+use Rattle.marker_diagrams.specs.declared.node_id.NodeId.{NodeId}
+use Rattle.marker_nodes.specs.Node.{Node}
+use Rattle.marker_graph.specs.Contents.{Contents, truth}
+use Rattle.marker_order.specs.Order.{diagram_cmp}
+use Rattle.marker_order.proofs.OrderLaws.{diagrams_total}
+use Rattle.marker_view.specs.declared.view.MarkerTreeView.{MarkerTreeView}
+
+-- what the interner of a view holds
+abbrev pub contents_of : MarkerTreeView → Contents
+contents_of view = view.interner.now
+
+-- what the marker of a view means
+abbrev pub truth_of : MarkerTreeView → Valuation → Bool
+truth_of view = truth (contents_of view) view.tree
+
+-- the markers of two views mean the same
+abbrev pub MeanTheSame : MarkerTreeView → MarkerTreeView → Type 0
+MeanTheSame a b = (v : Valuation) → truth_of a v ≡ truth_of b v
+
+-- the diagram of a view: an id, and the nodes that it stands in
+abbrev pub diagram_of : MarkerTreeView → List Node × NodeId
+diagram_of view = ((contents_of view).nodes, view.tree.id)
+
+-- the order of views is that of their diagrams
+abbrev pub view_cmp : MarkerTreeView → MarkerTreeView → Ordering
+view_cmp = on diagram_of diagram_cmp
+
+-- it is total
+pub view_total : IsTotalOrder view_cmp
+view_total = on_total diagram_of diagrams_total

@@ -1,0 +1,58 @@
+-- What is read of a marker text as a tree, and why none is. (PEP 508.)
+use Rattle.std.specs.Prelude.{◌≡◌, ◌⊎◌, ⊤, ℕ, List, [], ◌++◌, Option}
+use Rattle.refusal.specs.declared.Refusal.{Refusal}
+use Rattle.refusal.specs.declared.Refusal.TheVariants.{OutOfMemory, SegmentAtEnd, Fault}
+use Rattle.pep508_errors.specs.declared.error.Pep508Error.{Pep508Error}
+use Rattle.marker_warnings.specs.declared.warning.MarkerWarningKind.{MarkerWarningKind}
+use Rattle.marker_warnings.specs.Kinds.{Adds}
+use Rattle.marker_environment.specs.Valuation.{Valuation}
+use Rattle.marker_parts.specs.Expression.{Overflows}
+use Rattle.marker_parts.specs.Error.{IsErrorOf}
+use Rattle.marker_graph.specs.declared.tree.MarkerTree.{MarkerTree}
+use Rattle.marker_graph.specs.Contents.{Contents, truth}
+use Rattle.marker_grammar.specs.Formula.{Formula}
+use Rattle.marker_grammar.specs.Formula as formulas
+use Rattle.marker_grammar.specs.Grammar.{Reads}
+use Rattle.marker_grammar.specs.Refused.{IsMarker, IsNoMarker}
+use Rattle.marker_grammar.specs.HasTest.{Says}
+
+-- the tree means what the text says, which raises no largest number, and these are the kinds of its
+-- warnings
+pub record IsTreeOf (c : Contents) (text : List ℕ) (t : MarkerTree)
+    (kinds : List MarkerWarningKind) : Type 0 where
+  pub formula : Option Formula
+  pub reads : Reads text formula kinds
+  pub no_overflow : ¬ Says Overflows formula
+  pub means : (v : Valuation) → truth c t v ≡ formulas.truth formula v
+
+-- the text is read, and a comparison of it would raise the largest number of a version
+abbrev pub TextOverflows : List ℕ → Type 0
+TextOverflows text =
+    (f : Option Formula) × ((kinds : List MarkerWarningKind) × Reads text f kinds)
+    × Says Overflows f
+
+module _ {T E : Type 0} where
+  -- why there is no tree of the marker that a text ends with
+  abbrev pub IsRefusalIn : List ℕ → List ℕ → Refusal (Pep508Error T E) → Type 0
+  IsRefusalIn text marker OutOfMemory = ⊤
+  IsRefusalIn text marker SegmentAtEnd = TextOverflows marker
+  IsRefusalIn text marker (Fault error) = IsNoMarker marker × IsErrorOf IsMarker text error
+
+  -- why there is no tree of the text
+  abbrev pub IsRefusal : List ℕ → Refusal (Pep508Error T E) → Type 0
+  IsRefusal text = IsRefusalIn text text
+
+  -- a fact of a text that is refused for what it says, and not for want of memory
+  abbrev pub OnRefusedText : Refusal (Pep508Error T E) → Type 0 → Type 0
+  OnRefusedText OutOfMemory P = ⊤
+  OnRefusedText SegmentAtEnd P = P
+  OnRefusedText (Fault error) P = P
+
+-- the kinds of a reporter
+abbrev pub Kinds : Type 0
+Kinds = Option (List MarkerWarningKind)
+
+-- the tree means what the text says, and the kinds of its warnings have been reported
+abbrev pub IsReportedTree : Contents → List ℕ → Kinds → Kinds → MarkerTree → Type 0
+IsReportedTree c text before after t =
+    (kinds : List MarkerWarningKind) × IsTreeOf c text t kinds × Adds before after kinds

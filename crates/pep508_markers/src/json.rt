@@ -1,0 +1,66 @@
+//! Strings of JSON, which markers and requirements are read out of and written as.
+
+ghost use Rattle.std.specs.Prelude.{◌≡◌, IfOk, MatchOption, string_bytes};
+ghost use Rattle.pep508_markers.specs.Json.{string_of, span_of, IsNoString, IsStringOf, IsUnread, TellsNoString};
+
+use pep508_errors::{Pep508Error, Pep508ErrorSource, Pep508Url};
+use refusal::Refusal;
+use serde_json::Value;
+use std::alloc::{AllocError, Global};
+
+/// The text of a string, or nothing where the JSON is none. Only memory can run out.
+pub fn read_string(alloc: Global, json: &str) -> Result<Option<String>, AllocError>
+    ensures { IfOk result (λ read. MatchOption read
+        (IsNoString json.now) (λ text. IsStringOf json.now (string_bytes text))) }
+{
+    match Value::from_str(alloc, json) {
+        Ok(Value::String(text)) => Ok(Some(text)),
+        Ok(_) => Ok(None),
+        Err(error) => {
+            if error.is_memory() {
+                return Err(AllocError);
+            }
+            Ok(None)
+        }
+    }
+}
+
+/// The text as a string of JSON. Only memory can run out.
+pub fn write_string(alloc: Global, text: String) -> Result<String, AllocError>
+    ensures written { IfOk result (λ json. string_bytes json ≡ string_of (string_bytes text)) }
+    ensures read_back { IfOk result (λ json. IsStringOf (string_bytes json) (string_bytes text)) }
+{
+    Value::String(text).to_string(alloc)
+}
+
+/// The refusal of JSON that is no string, with its place and a copy of the JSON. It is
+/// `OutOfMemory` where there is no memory for them.
+pub fn no_string<T: Pep508Url>(alloc: Global, json: &str) -> Refusal<Pep508Error<T>>
+    requires { IsNoString json.now }
+    ensures { IsUnread json.now result }
+{
+    match no_string_error(alloc, json) {
+        Ok(error) => Refusal::Fault(error),
+        Err(AllocError) => Refusal::OutOfMemory,
+    }
+}
+
+fn no_string_error<T: Pep508Url>(alloc: Global, json: &str) -> Result<Pep508Error<T>, AllocError>
+    requires { IsNoString json.now }
+    ensures { IfOk result (TellsNoString json.now) }
+{
+    let message = String::from_str(alloc, "Expected a JSON string")?;
+    Ok(Pep508Error {
+        message: Pep508ErrorSource::String(message),
+        start: 0,
+        len: no_string_len(json),
+        input: String::from_str(alloc, json)?,
+    })
+}
+
+// How long the place is where there is no string: 1 at the end of no text.
+fn no_string_len(json: &str) -> usize
+    ensures { result ≡ span_of json.now }
+{
+    if json.is_empty() { 1 } else { 0 }
+}

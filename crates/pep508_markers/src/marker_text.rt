@@ -1,0 +1,217 @@
+//! Markers and their texts.
+
+ghost use Rattle.std.specs.Prelude.{◌≡◌, ◌≤◌, List, IfOk, IfErr, option_map, string_bytes};
+ghost use Rattle.pep508_text.specs.Suffix.{IsSuffix};
+ghost use Rattle.marker_warnings.specs.declared.warning.MarkerWarningKind.{MarkerWarningKind};
+ghost use Rattle.marker_warnings.specs.Kinds.{Keeps};
+ghost use Rattle.marker_parts.specs.Reporting.{HasBegun};
+ghost use Rattle.marker_parts.specs.declared.expression.MarkerExpression.{MarkerExpression as Term};
+ghost use Rattle.marker_terms.specs.Clauses.{clauses_of};
+ghost use Rattle.marker_graph.specs.declared.tree.MarkerTree.{MarkerTree as Tree};
+ghost use Rattle.marker_graph.specs.Contents.{IsHeld, IsKept, truth};
+ghost use Rattle.marker_view.specs.View.{contents_of};
+ghost use Rattle.marker_clauses.specs.Dnf.{AreClausesOf, TellsExtra};
+ghost use Rattle.marker_grammar.specs.Grammar.{Reads};
+ghost use Rattle.marker_readable.specs.Text.{TellsText};
+ghost use Rattle.pep508_markers.specs.Json.{IsJsonRefusal, IsTreeOfJson};
+ghost use Rattle.pep508_markers.specs.Text.{IsTreeOf, IsReportedTree, IsRefusal, IsRefusalIn, OnRefusedText};
+
+use crate::formula_tree::tree_of;
+use crate::json::{no_string, read_string};
+use marker_grammar::read;
+use marker_graph::{Interner, MarkerTree};
+use marker_parts::{MarkerExpression, report_kinds};
+use marker_view::MarkerTreeView;
+use marker_warnings::Reporter;
+use pep508_errors::{Pep508Error, Pep508Url};
+use refusal::Refusal;
+use std::alloc::AllocError;
+
+/// What is read of texts, as a marker of an interner, and how it is shown and written.
+///
+/// ```
+/// let text = "'nt' == os.name and (extra == 'Dev' or python_version >= '3.8')";
+/// let marker = MarkerTree::parse_str::<VerbatimUrl>(text, &mut interner)?;
+/// if let Some(text) = marker.try_to_string(&interner)? {
+///     println!(rt; "{text}")?;
+/// }
+/// ```
+pub trait MarkerText: Sized {
+    // The marker that it is.
+    ghost tree: { Self → Tree };
+
+    /// The marker with the interner that it stands in, which can be compared over two interners and
+    /// printed. This takes no memory.
+    fn view<'a>(self, interner: &'a Interner) -> MarkerTreeView<'a>
+        requires { IsHeld interner.now (tree self) }
+        ensures contents { contents_of result ≡ interner.now }
+        ensures tree { result.tree ≡ tree self };
+
+    /// Reads a marker text (PEP 508), which reports nothing.
+    ///
+    /// Where the text is no marker, the fault has its message, its place and the text.
+    /// `SegmentAtEnd` comes where the text is read with a comparison for which 18446744073709551615
+    /// would be raised. What the trees of the interner mean stays, also then.
+    fn parse_str<T: Pep508Url>(
+        text: &str,
+        interner: &mut Interner,
+    ) -> Result<Self, Refusal<Pep508Error<T>>>
+        ensures kept { IsKept interner.old interner.new }
+        ensures counts { interner.old.expansions ≤ interner.new.expansions }
+        ensures held { IfOk result (λ t. IsHeld interner.new (tree t)) }
+        ensures means { IfOk result (λ t. (kinds : List MarkerWarningKind)
+            × IsTreeOf interner.new text.now (tree t) kinds) }
+        ensures refused { IfErr result (IsRefusal text.now) };
+
+    /// The same, with the warnings reported in the order of the text. A text that is refused as a
+    /// fault or as `SegmentAtEnd` has reported nothing, and where memory runs out the first of the
+    /// warnings, or none, have been reported.
+    fn parse_reporter<T: Pep508Url, R: Reporter>(
+        text: &str,
+        reporter: &mut R,
+        interner: &mut Interner,
+    ) -> Result<Self, Refusal<Pep508Error<T>>>
+        requires { R.can_report reporter.old }
+        ensures kept { IsKept interner.old interner.new }
+        ensures counts { interner.old.expansions ≤ interner.new.expansions }
+        ensures held { IfOk result (λ t. IsHeld interner.new (tree t)) }
+        ensures means { IfOk result (λ t. IsReportedTree interner.new text.now
+            (R.kinds reporter.old) (R.kinds reporter.new) (tree t)) }
+        ensures refused { IfErr result (IsRefusal text.now) }
+        ensures unreported { IfErr result (λ refusal. OnRefusedText refusal
+            (Keeps (R.kinds reporter.old) (R.kinds reporter.new))) }
+        ensures begun { IfErr result
+            (λ _. HasBegun Reads text.now (R.kinds reporter.old) (R.kinds reporter.new)) }
+        ensures again { R.can_report reporter.new };
+
+    /// Reads a marker out of a JSON string, as [`MarkerText::parse_str`] reads the string's text.
+    ///
+    /// JSON that is no string is a fault at its start, with no length, or 1 at the end of no text.
+    /// A fault of the string's text has its place there, and keeps that text.
+    fn from_json<T: Pep508Url>(
+        json: &str,
+        interner: &mut Interner,
+    ) -> Result<Self, Refusal<Pep508Error<T>>>
+        ensures kept { IsKept interner.old interner.new }
+        ensures counts { interner.old.expansions ≤ interner.new.expansions }
+        ensures held { IfOk result (λ t. IsHeld interner.new (tree t)) }
+        ensures means { IfOk result (λ t. IsTreeOfJson interner.new json.now (tree t)) }
+        ensures refused { IfErr result (IsJsonRefusal json.now) };
+
+    /// The marker as a disjunction of conjunctions: a list of clauses, each a list of comparisons.
+    /// Of `TRUE` and of `FALSE` there is none. Only memory can run out.
+    fn to_dnf(self, interner: &Interner) -> Result<Vec<Vec<MarkerExpression>>, AllocError>
+        requires { IsHeld interner.now (tree self) }
+        ensures { IfOk result
+            (λ clauses. AreClausesOf interner.now (tree self) (clauses_of clauses.items)) };
+
+    /// The text of the marker: its clauses, where the terms of each are joined by `and`, and they
+    /// by `or`. There is none for `TRUE`, which says nothing, and `python_version < '0'` stands for
+    /// `FALSE`, though it is another marker where it is read. Only memory can run out.
+    fn try_to_string(self, interner: &Interner) -> Result<Option<String>, AllocError>
+        requires { IsHeld interner.now (tree self) }
+        ensures { IfOk result (λ text.
+            TellsText (truth interner.now (tree self)) (option_map string_bytes text)) };
+
+    /// The first `extra ==` of every clause of the marker, where there is a clause and all are the
+    /// same. Only memory can run out.
+    fn top_level_extra(self, interner: &Interner) -> Result<Option<MarkerExpression>, AllocError>
+        requires { IsHeld interner.now (tree self) }
+        ensures { IfOk result (λ found. (clauses : List (List Term))
+            × AreClausesOf interner.now (tree self) clauses × TellsExtra clauses found) };
+}
+
+impl MarkerText for MarkerTree {
+    ghost tree = { λ t. t };
+
+    fn view<'a>(self, interner: &'a Interner) -> MarkerTreeView<'a> {
+        MarkerTreeView::new(interner, self)
+    }
+
+    #[tactic(auto, using(crate::proofs::FaultLaws::refused_text))]
+    fn parse_str<T: Pep508Url>(
+        text: &str,
+        interner: &mut Interner,
+    ) -> Result<MarkerTree, Refusal<Pep508Error<T>>> {
+        let alloc = interner.allocator();
+        let reading = match read(alloc, text) {
+            Ok(reading) => reading,
+            Err(error) => return Err(error.refusal(alloc, text)),
+        };
+        match tree_of(interner, reading.formula) {
+            Ok(tree) => Ok(tree),
+            Err(Refusal::OutOfMemory) => Err(Refusal::OutOfMemory),
+            Err(Refusal::SegmentAtEnd) => Err(Refusal::SegmentAtEnd),
+        }
+    }
+
+    fn parse_reporter<T: Pep508Url, R: Reporter>(
+        text: &str,
+        reporter: &mut R,
+        interner: &mut Interner,
+    ) -> Result<MarkerTree, Refusal<Pep508Error<T>>> {
+        parse_behind(text, text, reporter, interner)
+    }
+
+    fn from_json<T: Pep508Url>(
+        json: &str,
+        interner: &mut Interner,
+    ) -> Result<MarkerTree, Refusal<Pep508Error<T>>> {
+        let alloc = interner.allocator();
+        match read_string(alloc, json)? {
+            Some(text) => MarkerTree::parse_str(&text, interner),
+            None => Err(no_string(alloc, json)),
+        }
+    }
+
+    fn to_dnf(self, interner: &Interner) -> Result<Vec<Vec<MarkerExpression>>, AllocError> {
+        marker_clauses::to_dnf(interner, self)
+    }
+
+    fn try_to_string(self, interner: &Interner) -> Result<Option<String>, AllocError> {
+        marker_readable::try_to_string(interner, self)
+    }
+
+    fn top_level_extra(self, interner: &Interner) -> Result<Option<MarkerExpression>, AllocError> {
+        marker_clauses::top_level_extra(interner, self)
+    }
+}
+
+/// Reads the marker that a text ends with, as [`MarkerText::parse_reporter`] reads a whole text. A
+/// fault has its place in the text and keeps it.
+#[tactic(auto, using(crate::proofs::FaultLaws::refused_behind))]
+pub fn parse_behind<T: Pep508Url, R: Reporter>(
+    text: &str,
+    marker: &str,
+    reporter: &mut R,
+    interner: &mut Interner,
+) -> Result<MarkerTree, Refusal<Pep508Error<T>>>
+    requires can_report { R.can_report reporter.old }
+    requires suffix { IsSuffix text.now marker.now }
+    ensures kept { IsKept interner.old interner.new }
+    ensures counts { interner.old.expansions ≤ interner.new.expansions }
+    ensures held { IfOk result (IsHeld interner.new) }
+    ensures means { IfOk result (IsReportedTree interner.new marker.now
+        (R.kinds reporter.old) (R.kinds reporter.new)) }
+    ensures refused { IfErr result (IsRefusalIn text.now marker.now) }
+    ensures unreported { IfErr result (λ refusal. OnRefusedText refusal
+        (Keeps (R.kinds reporter.old) (R.kinds reporter.new))) }
+    ensures begun { IfErr result
+        (λ _. HasBegun Reads marker.now (R.kinds reporter.old) (R.kinds reporter.new)) }
+    ensures again { R.can_report reporter.new }
+{
+    let alloc = interner.allocator();
+    let reading = match read(alloc, marker) {
+        Ok(reading) => reading,
+        Err(error) => return Err(error.refusal(alloc, text)),
+    };
+    let kinds = reading.kinds;
+    match tree_of(interner, reading.formula) {
+        Ok(tree) => {
+            report_kinds(alloc, &kinds, reporter)?;
+            Ok(tree)
+        }
+        Err(Refusal::OutOfMemory) => Err(Refusal::OutOfMemory),
+        Err(Refusal::SegmentAtEnd) => Err(Refusal::SegmentAtEnd),
+    }
+}

@@ -1,0 +1,373 @@
+//! A session: markers in numbered cells, and the commands on them.
+
+ghost use Rattle.std.specs.Prelude.{◌≡◌, [], IfOk, IfNone, IfSome, OnErr, slice_get, Some};
+ghost use Rattle.marker_graph.specs.Contents.{truth};
+ghost use Rattle.pep508_markers.specs.Cells.{AreHeld};
+
+use crate::formula_tree::tree_of;
+use crate::marker_text::MarkerText;
+use marker_environment::MarkerEnvironment;
+use marker_grammar::read;
+use marker_graph::{Interner, MarkerTree};
+use marker_parts::{ComparisonError, MarkerExpression};
+use marker_warnings::MarkerWarningKind;
+use pep440_version::Version;
+use pep508_names::ExtraName;
+use refusal::Refusal;
+use std::alloc::{AllocError, Global};
+use std::ops::Bound;
+
+/// A command of a session. Cells are named by their numbers, from 0 on.
+#[derive(Clone, Copy, Debug)]
+pub enum Command<'a> {
+    /// Reads a marker text into a new cell.
+    Parse(&'a str),
+    /// Puts a comparison into a new cell.
+    Expression(&'a MarkerExpression),
+    /// Puts the negation of a cell into a new one.
+    Not(usize),
+    /// Puts the conjunction of two cells into a new one.
+    And(usize, usize),
+    /// Puts the disjunction of two cells into a new one.
+    Or(usize, usize),
+    /// Puts a cell into a new one where the Python version is taken to lie between two bounds.
+    SimplifyPython(usize, Bound<&'a Version>, Bound<&'a Version>),
+    /// Puts the conjunction of a cell and a range of Python versions into a new one.
+    ComplexifyPython(usize, Bound<&'a Version>, Bound<&'a Version>),
+    /// Puts a cell into a new one with extras set true.
+    SimplifyExtras(usize, &'a [ExtraName]),
+    /// Tells whether two cells mean the same.
+    Equal(usize, usize),
+    /// Tells whether nothing satisfies two cells at once.
+    Disjoint(usize, usize),
+    /// Tells whether a cell is true in an environment with these extras.
+    Evaluate(usize, &'a MarkerEnvironment, &'a [ExtraName]),
+    /// Tells whether a cell is true in some valuation with exactly these extras, and no arbitrary
+    /// one.
+    EvaluateExtras(usize, &'a [ExtraName]),
+    /// Tells the text of a cell.
+    Text(usize),
+}
+
+/// Why a command was refused. It has changed no cell.
+#[derive(Debug, PartialEq, Eq, Drop)]
+pub enum Reason {
+    /// No cell has such a number.
+    NoSuchCell,
+    /// There was no memory for a new cell, or for a text.
+    OutOfMemory,
+    /// A version key is compared in such a way that a bound would raise 18446744073709551615, the
+    /// largest number of a version.
+    SegmentAtEnd,
+    /// The comparison compares texts by `~=`.
+    InvalidExpression,
+    /// The text is no marker: where its fault stands, in bytes, and what it is.
+    Marker {
+        start: usize,
+        len: usize,
+        message: String,
+    },
+}
+
+/// The answer to a command.
+#[derive(Debug, PartialEq, Eq, Drop)]
+pub enum Reply {
+    /// The number of a new cell, and the kinds of the text's warnings in order.
+    Cell(usize, Vec<MarkerWarningKind>),
+    /// The answer to a question.
+    Truth(bool),
+    /// The text of a cell, or nothing where it is `TRUE`.
+    Text(Option<String>),
+    /// The command was refused.
+    Refused(Reason),
+}
+
+/// Markers in numbered cells.
+#[derive(Drop)]
+pub struct Session {
+    alloc: Global,
+    interner: Interner,
+    cells: Vec<MarkerTree>,
+    ghost held: { AreHeld interner cells.items },
+}
+
+impl Session {
+    ghost use Rattle.pep508_markers.specs.Session.{cells_of, request_of, Answers, Runs};
+
+    /// A session with no cells.
+    pub fn new(alloc: Global) -> Session
+        ensures { cells_of result ≡ [] }
+    {
+        Session {
+            alloc,
+            interner: Interner::new(alloc),
+            cells: Vec::new(alloc),
+        }
+    }
+
+    /// Runs the commands one after another and answers each. An `Err`, where there is no room for
+    /// the replies, has run nothing.
+    pub fn run(&mut self, commands: &[Command<'_>]) -> Result<Vec<Reply>, AllocError>
+        ensures run { IfOk result
+            (λ replies. Runs self.old commands.now replies.items self.new) }
+        ensures err { OnErr result (cells_of self.new ≡ cells_of self.old) }
+    {
+        let mut replies = Vec::with_capacity(self.alloc, commands.len())?;
+        for command in commands {
+            let reply = self.execute(*command);
+            replies.push(reply).unwrap();
+        }
+        Ok(replies)
+    }
+
+    /// Runs one command.
+    pub fn execute(&mut self, command: Command<'_>) -> Reply
+        ensures { Answers self.old (request_of command.entry) result self.new }
+    {
+        match command {
+            Command::Parse(text) => self.parse(text),
+            Command::Expression(expression) => self.expression(expression),
+            Command::Not(a) => self.negation(a),
+            Command::And(a, b) => self.conjunction(a, b),
+            Command::Or(a, b) => self.disjunction(a, b),
+            Command::SimplifyPython(a, lower, upper) => self.simplify_python(a, lower, upper),
+            Command::ComplexifyPython(a, lower, upper) => self.complexify_python(a, lower, upper),
+            Command::SimplifyExtras(a, extras) => self.simplify_extras(a, extras),
+            Command::Equal(a, b) => self.equal(a, b),
+            Command::Disjoint(a, b) => self.disjoint(a, b),
+            Command::Evaluate(a, environment, extras) => self.evaluate(a, environment, extras),
+            Command::EvaluateExtras(a, extras) => self.evaluate_extras(a, extras),
+            Command::Text(a) => self.text(a),
+        }
+    }
+}
+
+// The commands, one by one.
+impl Session {
+    ghost use Rattle.std.specs.Prelude.{◌≤◌, ◌⊎◌, length};
+    ghost use Rattle.version_ranges.specs.Clamp.{bound_of};
+    ghost use Rattle.marker_environment.specs.Environment.{values_of};
+    ghost use Rattle.marker_parts.specs.Expression.{test_of};
+    ghost use Rattle.marker_graph.specs.Contents.{IsHeld};
+    ghost use Rattle.marker_grammar.specs.Refused as texts;
+    ghost use Rattle.pep508_markers.specs.Machine;
+    ghost use Rattle.pep508_markers.specs.Machine.{make, ask, print, Cells, IsRefusal, Makes, Making};
+    ghost use Rattle.pep508_markers.specs.Session.{cells_of, reason_of, Answers};
+
+    // Reads a text into a new cell.
+    fn parse(&mut self, text: &str) -> Reply
+        ensures { Answers self.old (make (Machine.parse text.now)) result self.new }
+    {
+        let reading = match read(self.alloc, text) {
+            Ok(reading) => reading,
+            Err(error) => return Reply::Refused(Session::refusal(self.alloc, text, error)),
+        };
+        match tree_of(&mut self.interner, reading.formula) {
+            Ok(tree) => self.add(tree, reading.kinds),
+            Err(Refusal::OutOfMemory) => Reply::Refused(Reason::OutOfMemory),
+            Err(Refusal::SegmentAtEnd) => Reply::Refused(Reason::SegmentAtEnd),
+        }
+    }
+
+    // Why a text was not read, for a reply.
+    fn refusal(alloc: Global, text: &str, error: ComparisonError<'_>) -> Reason
+        requires { texts.IsRefusal text.now error }
+        ensures { (cells : Cells)
+            → IsRefusal cells (make (Machine.parse text.now)) (reason_of result) }
+    {
+        match error {
+            ComparisonError::OutOfMemory => Reason::OutOfMemory,
+            ComparisonError::Fault(fault) => match fault.to_string(alloc) {
+                Ok(message) => Reason::Marker {
+                    start: fault.start(text),
+                    len: fault.len(),
+                    message,
+                },
+                Err(_) => Reason::OutOfMemory,
+            },
+        }
+    }
+
+    // Puts a comparison into a new cell.
+    fn expression(&mut self, expression: &MarkerExpression) -> Reply
+        ensures { Answers self.old
+            (make (Machine.expression (test_of expression.now))) result self.new }
+    {
+        let Ok(expression) = expression.clone() else {
+            return Reply::Refused(Reason::OutOfMemory);
+        };
+        match MarkerTree::expression(&mut self.interner, expression) {
+            Ok(tree) => self.add(tree, Vec::new(self.alloc)),
+            Err(Refusal::OutOfMemory) => Reply::Refused(Reason::OutOfMemory),
+            Err(Refusal::SegmentAtEnd) => Reply::Refused(Reason::SegmentAtEnd),
+            Err(Refusal::Fault(_)) => Reply::Refused(Reason::InvalidExpression),
+        }
+    }
+
+    fn negation(&mut self, a: usize) -> Reply
+        ensures { Answers self.old (make (Machine.negation a)) result self.new }
+    {
+        let Some(tree) = self.cell(a) else {
+            return Reply::Refused(Reason::NoSuchCell);
+        };
+        self.add(tree.negate(), Vec::new(self.alloc))
+    }
+
+    fn conjunction(&mut self, a: usize, b: usize) -> Reply
+        ensures { Answers self.old (make (Machine.conjunction a b)) result self.new }
+    {
+        let Some((left, right)) = self.two_cells(a, b) else {
+            return Reply::Refused(Reason::NoSuchCell);
+        };
+        let mut both = left;
+        match both.and(&mut self.interner, right) {
+            Ok(()) => self.add(both, Vec::new(self.alloc)),
+            Err(_) => Reply::Refused(Reason::OutOfMemory),
+        }
+    }
+
+    fn disjunction(&mut self, a: usize, b: usize) -> Reply
+        ensures { Answers self.old (make (Machine.disjunction a b)) result self.new }
+    {
+        let Some((left, right)) = self.two_cells(a, b) else {
+            return Reply::Refused(Reason::NoSuchCell);
+        };
+        let mut either = left;
+        match either.or(&mut self.interner, right) {
+            Ok(()) => self.add(either, Vec::new(self.alloc)),
+            Err(_) => Reply::Refused(Reason::OutOfMemory),
+        }
+    }
+
+    fn simplify_python(&mut self, a: usize, lower: Bound<&Version>, upper: Bound<&Version>) -> Reply
+        ensures { Answers self.old
+            (make (Machine.simplify_python a (bound_of lower.entry) (bound_of upper.entry)))
+            result self.new }
+    {
+        let Some(tree) = self.cell(a) else {
+            return Reply::Refused(Reason::NoSuchCell);
+        };
+        match tree.simplify_python_versions(&mut self.interner, lower, upper) {
+            Ok(tree) => self.add(tree, Vec::new(self.alloc)),
+            Err(_) => Reply::Refused(Reason::OutOfMemory),
+        }
+    }
+
+    fn complexify_python(
+        &mut self,
+        a: usize,
+        lower: Bound<&Version>,
+        upper: Bound<&Version>,
+    ) -> Reply
+        ensures { Answers self.old
+            (make (Machine.complexify_python a (bound_of lower.entry) (bound_of upper.entry)))
+            result self.new }
+    {
+        let Some(tree) = self.cell(a) else {
+            return Reply::Refused(Reason::NoSuchCell);
+        };
+        match tree.complexify_python_versions(&mut self.interner, lower, upper) {
+            Ok(tree) => self.add(tree, Vec::new(self.alloc)),
+            Err(_) => Reply::Refused(Reason::OutOfMemory),
+        }
+    }
+
+    fn simplify_extras(&mut self, a: usize, extras: &[ExtraName]) -> Reply
+        ensures { Answers self.old (make (Machine.simplify_extras a extras.now)) result self.new }
+    {
+        let Some(tree) = self.cell(a) else {
+            return Reply::Refused(Reason::NoSuchCell);
+        };
+        match tree.simplify_extras(&mut self.interner, extras) {
+            Ok(tree) => self.add(tree, Vec::new(self.alloc)),
+            Err(_) => Reply::Refused(Reason::OutOfMemory),
+        }
+    }
+
+    fn equal(&self, a: usize, b: usize) -> Reply
+        ensures { Answers self.now (ask (Machine.equal a b)) result self.now }
+    {
+        match self.two_cells(a, b) {
+            Some((left, right)) => Reply::Truth(self.interner.equivalent(left, right)),
+            None => Reply::Refused(Reason::NoSuchCell),
+        }
+    }
+
+    fn disjoint(&self, a: usize, b: usize) -> Reply
+        ensures { Answers self.now (ask (Machine.disjoint a b)) result self.now }
+    {
+        match self.two_cells(a, b) {
+            Some((left, right)) => Reply::Truth(left.is_disjoint(&self.interner, right)),
+            None => Reply::Refused(Reason::NoSuchCell),
+        }
+    }
+
+    fn evaluate(&self, a: usize, environment: &MarkerEnvironment, extras: &[ExtraName]) -> Reply
+        ensures { Answers self.now
+            (ask (Machine.evaluate a (values_of environment.now) extras.now)) result self.now }
+    {
+        match self.cell(a) {
+            Some(tree) => Reply::Truth(tree.evaluate(&self.interner, environment, extras)),
+            None => Reply::Refused(Reason::NoSuchCell),
+        }
+    }
+
+    fn evaluate_extras(&self, a: usize, extras: &[ExtraName]) -> Reply
+        ensures { Answers self.now (ask (Machine.evaluate_extras a extras.now)) result self.now }
+    {
+        match self.cell(a) {
+            Some(tree) => Reply::Truth(tree.evaluate_extras(&self.interner, extras)),
+            None => Reply::Refused(Reason::NoSuchCell),
+        }
+    }
+
+    fn text(&self, a: usize) -> Reply
+        ensures { Answers self.now (print a) result self.now }
+    {
+        let Some(tree) = self.cell(a) else {
+            return Reply::Refused(Reason::NoSuchCell);
+        };
+        match tree.try_to_string(&self.interner) {
+            Ok(text) => Reply::Text(text),
+            Err(_) => Reply::Refused(Reason::OutOfMemory),
+        }
+    }
+
+    // The tree of a cell.
+    fn cell(&self, index: usize) -> Option<MarkerTree>
+        ensures found { IfSome result (λ tree. slice_get self.now.cells.items index ≡ Some tree) }
+        ensures held { IfSome result (IsHeld self.now.interner) }
+        ensures missing { IfNone result (length self.now.cells.items ≤ index) }
+    {
+        self.cells.get(index).copied()
+    }
+
+    // The trees of two cells.
+    fn two_cells(&self, a: usize, b: usize) -> Option<(MarkerTree, MarkerTree)>
+        ensures found { IfSome result
+            (λ trees. (slice_get self.now.cells.items a ≡ Some trees.0)
+            × (slice_get self.now.cells.items b ≡ Some trees.1)) }
+        ensures held { IfSome result
+            (λ trees. IsHeld self.now.interner trees.0 × IsHeld self.now.interner trees.1) }
+        ensures missing { IfNone result
+            ((length self.now.cells.items ≤ a) ⊎ (length self.now.cells.items ≤ b)) }
+    {
+        let left = self.cell(a)?;
+        let right = self.cell(b)?;
+        Some((left, right))
+    }
+
+    // Puts a tree into a new cell.
+    fn add(&mut self, tree: MarkerTree, kinds: Vec<MarkerWarningKind>) -> Reply
+        requires { IsHeld self.old.interner tree }
+        ensures { (making : Making)
+            → Makes (cells_of self.old) making (truth self.old.interner tree) kinds.items
+            → Answers self.old (make making) result self.new }
+    {
+        let index = self.cells.len();
+        match self.cells.push(tree) {
+            Ok(()) => Reply::Cell(index, kinds),
+            Err(_) => Reply::Refused(Reason::OutOfMemory),
+        }
+    }
+}

@@ -1,0 +1,7 @@
+pub mod Origin
+pub mod Requirement
+pub mod Text
+pub mod Refused
+pub mod Changed
+pub mod Wanted
+pub mod Unnamed

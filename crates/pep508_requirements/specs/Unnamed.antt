@@ -1,0 +1,108 @@
+-- A requirement without a name as a whole text, over any type of URLs. Texts are bytes, and the
+-- grammar speaks of their characters.
+use Rattle.std.specs.Prelude.{◌≡◌, ℕ, Bool, true, false, List, Option, Some}
+use Rattle.std.specs.Str.{chars}
+use Rattle.refusal.specs.declared.Refusal.{Refusal}
+use Rattle.refusal.specs.declared.Refusal.TheVariants as refusals
+use Rattle.pep508_errors.specs.declared.error.Pep508Error.{Pep508Error}
+use Rattle.pep508_errors.specs.declared.error.Pep508ErrorSource.{Pep508ErrorSource}
+use Rattle.pep508_errors.specs.declared.error.Pep508ErrorSource.TheVariants as sources
+use Rattle.marker_warnings.specs.declared.warning.MarkerWarningKind.{MarkerWarningKind}
+use Rattle.marker_environment.specs.Valuation.{Valuation}
+use Rattle.marker_parts.specs.Expression.{Overflows}
+use Rattle.marker_graph.specs.declared.tree.MarkerTree.{MarkerTree}
+use Rattle.marker_graph.specs.Contents.{Contents, truth}
+use Rattle.marker_grammar.specs.Formula.{Formula}
+use Rattle.marker_grammar.specs.Formula as formulas
+use Rattle.marker_grammar.specs.HasTest.{Says}
+use Rattle.requirement_words.specs.Unnamed.{IsUnnamedHead}
+use Rattle.pep508_requirements.specs.Requirement.{EndsWith}
+use Rattle.pep508_requirements.specs.Refused.{IsErrorIn, IsSource, IsUrlFault}
+
+abbrev Kinds : Type 0
+Kinds = List MarkerWarningKind
+
+-- no requirement without a name begins there
+abbrev pub IsUnnamedHeadless : List ℕ → Type 0
+IsUnnamedHeadless text = (output whole given : List ℕ) (extras : List (List ℕ))
+    → ¬ IsUnnamedHead (chars text) output whole given extras
+
+module _ {U : Type 0} (names : List ℕ → U → Type 0) where
+  -- The text is a URL with extras, and a marker that says this and warns of these kinds. The URL
+  -- as it is given, without the extras, has this value.
+  pub record IsUnnamedRequirement (text : List ℕ) (url : U) (extras : List (List ℕ))
+      (f : Option Formula) (kinds : Kinds) : Type 0 where
+    pub whole : List ℕ
+    pub given : List ℕ
+    pub rest : List ℕ
+    pub head : IsUnnamedHead (chars text) rest whole given extras
+    pub named : names given url
+    pub end : EndsWith rest f kinds
+
+  -- the text is none
+  abbrev pub IsUnreadUnnamed : List ℕ → Type 0
+  IsUnreadUnnamed text = (url : U) (extras : List (List ℕ)) (f : Option Formula) (kinds : Kinds)
+      → ¬ IsUnnamedRequirement text url extras f kinds
+
+  -- a comparison in its marker would raise the largest number of a version
+  pub record UnnamedOverflows (text : List ℕ) : Type 0 where
+    pub url : U
+    pub extras : List (List ℕ)
+    pub formula : Option Formula
+    pub kinds : Kinds
+    pub requirement : IsUnnamedRequirement text url extras formula kinds
+    pub overflows : Says Overflows formula
+
+  -- the text is one with a marker that says this and warns of these kinds
+  pub record IsUnnamedMarkedBy (text : List ℕ) (f : Option Formula) (kinds : Kinds)
+      : Type 0 where
+    pub url : U
+    pub extras : List (List ℕ)
+    pub requirement : IsUnnamedRequirement text url extras f kinds
+
+  -- The same with a tree for the marker, which raises no largest number. The value keeps the URL
+  -- as it is given.
+  pub record IsUnnamedReadAs (given_text : U → Option (List ℕ)) (c : Contents) (text : List ℕ)
+      (url : U) (extras : List (List ℕ)) (t : MarkerTree) (kinds : Kinds) : Type 0 where
+    pub formula : Option Formula
+    pub requirement : IsUnnamedRequirement text url extras formula kinds
+    pub given_is : given_text url ≡ Some requirement.given
+    pub no_overflow : ¬ Says Overflows formula
+    pub means : (v : Valuation) → truth c t v ≡ formulas.truth formula v
+
+module _ {U E : Type 0} where
+  -- no requirement without a name begins in the text
+  pub record IsUnnamedHeadError (text : List ℕ) (error : Pep508Error U E) : Type 0 where
+    pub told : IsErrorIn text error
+    pub source : IsSource false error.message
+    pub headless : IsUnnamedHeadless text
+
+  -- over the type of URLs: which values a text has, which faults are of size alone, and which texts
+  -- may be too large
+  module _ (names : List ℕ → U → Type 0) (tells_size : E → Bool)
+      (may_overflow : List ℕ → Type 0) where
+    -- a URL stands in the text, and this is a fault of it
+    pub record HasUnnamedFault (text : List ℕ) (fault : E) : Type 0 where
+      pub rest : List ℕ
+      pub whole : List ℕ
+      pub given : List ℕ
+      pub extras : List (List ℕ)
+      pub head : IsUnnamedHead (chars text) rest whole given extras
+      pub fault_is : IsUrlFault names tells_size may_overflow given fault
+
+    -- what the error says is so: the text is no such requirement, unless its URL may be too large
+    abbrev pub IsTrueOfUnnamed : List ℕ → Pep508ErrorSource U E → Type 0
+    IsTrueOfUnnamed text (sources.String message) = IsUnreadUnnamed names text
+    IsTrueOfUnnamed text (sources.UrlError fault) = HasUnnamedFault text fault
+        × (tells_size fault ≡ false → IsUnreadUnnamed names text)
+    IsTrueOfUnnamed text (sources.UnsupportedRequirement message) = ⊥
+
+    pub record IsUnnamedError (text : List ℕ) (error : Pep508Error U E) : Type 0 where
+      pub told : IsErrorIn text error
+      pub source : IsTrueOfUnnamed text error.message
+
+    -- why a text is not read as a requirement without a name
+    abbrev pub IsUnnamedRefusal : List ℕ → Refusal (Pep508Error U E) → Type 0
+    IsUnnamedRefusal text refusals.OutOfMemory = Unit {0}
+    IsUnnamedRefusal text refusals.SegmentAtEnd = UnnamedOverflows names text
+    IsUnnamedRefusal text (refusals.Fault error) = IsUnnamedError text error

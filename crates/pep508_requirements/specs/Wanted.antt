@@ -1,0 +1,10 @@
+-- What a requirement asks of the versions, as it prints.
+use Rattle.std.specs.Prelude.{ℕ, List, Option, Some}
+use Rattle.pep440_specifier.specs.Set.{set_text}
+use Rattle.pep508_requirements.specs.declared.version_or_url.VersionOrUrl.{VersionOrUrl}
+use Rattle.pep508_requirements.specs.declared.version_or_url.VersionOrUrl.TheVariants.{VersionSpecifier, Url}
+
+-- the set, or the URL as far as its text is known: `url_text` is what URLs print
+abbrev pub wanted_text : {T E : Type 0} → (T → Option (List ℕ)) → VersionOrUrl T E → Option (List ℕ)
+wanted_text url_text (VersionSpecifier set) = Some (set_text set)
+wanted_text url_text (Url url) = url_text url

@@ -1,0 +1,76 @@
+//! A requirement up to its marker, with a value for its URL.
+
+ghost use Rattle.std.specs.Prelude.{◌≡◌, ◌++◌, IfErr, IfOk, List, ℕ};
+ghost use Rattle.std.specs.Str.{chars};
+ghost use Rattle.pep508_text.specs.Suffix.{IsSuffix};
+ghost use Rattle.pep508_urls.specs.Variables.{value_of};
+ghost use Rattle.requirement_words.specs.Head.{asked_of, IsHead, url};
+ghost use Rattle.pep508_requirements.specs.Requirement.{IsWanted};
+ghost use Rattle.pep508_requirements.specs.Refused.{IsHeadError, IsUrlError, OnError, url_text};
+
+use crate::error::{refusal_of_fault, refusal_of_url};
+use crate::version_or_url::VersionOrUrl;
+use pep508_errors::{Pep508Error, Pep508Url, Surroundings};
+use refusal::Refusal;
+use requirement_words::{Body, Head, read_head};
+use std::alloc::Global;
+
+// A requirement up to its marker, and what follows it.
+#[tactic(auto, using(crate::proofs::ErrorLaws::head_error))]
+pub(crate) fn read_named<'a, T: Pep508Url>(
+    alloc: Global,
+    text: &'a str,
+    surroundings: &Surroundings<'_>,
+) -> Result<(Head<'a>, &'a str), Refusal<Pep508Error<T>>>
+    ensures found { IfOk result (λ x. IsHead (chars text.now) (chars x.1.now) x.0.name
+        x.0.extras.items (asked_of x.0.body)) }
+    ensures refused { IfErr result
+        (OnError (IsHeadError (value_of surroundings.now) text.now)) }
+    ensures suffix { IfOk result (λ x. IsSuffix text.now x.1.now) }
+
+    // A URL stands right before what follows it.
+    ensures placed { IfOk result (λ x. IsSuffix text.now
+        (url_text (asked_of x.0.body) ++ x.1.now)) }
+{
+    match read_head(alloc, text, surroundings) {
+        Ok((head, rest)) => Ok((head, rest)),
+        Err(Refusal::Fault(fault)) => Err(refusal_of_fault(alloc, text, fault)),
+        Err(_) => Err(Refusal::OutOfMemory),
+    }
+}
+
+// The text of the URL that is asked, or none.
+pub(crate) fn written_url<'a>(body: &Body<'a>) -> &'a str
+    ensures { result.now ≡ url_text (asked_of body.now) }
+{
+    match body {
+        Body::Url(url) => *url,
+        _ => "",
+    }
+}
+
+// The value that the type of URLs has for the text of a URL, in front of `rest`.
+pub(crate) fn wanted<T: Pep508Url>(
+    alloc: Global,
+    text: &str,
+    body: Body<'_>,
+    rest: &str,
+    surroundings: &Surroundings<'_>,
+) -> Result<Option<VersionOrUrl<T>>, Refusal<Pep508Error<T>>>
+    requires { IsSuffix text.now (url_text (asked_of body) ++ rest.now) }
+    ensures found { IfOk result
+        (IsWanted (λ piece url. T.names piece surroundings.now url) (asked_of body.entry)) }
+    ensures refused { IfErr result (OnError (IsUrlError
+        (λ piece url. T.names piece surroundings.now url) T.tells_size
+        (λ piece. T.may_overflow piece surroundings.now) text.now (asked_of body.entry))) }
+{
+    match body {
+        Body::Nothing => Ok(None),
+        Body::Specifiers(set) => Ok(Some(VersionOrUrl::VersionSpecifier(set))),
+        Body::Url(piece) => match T::parse_url(alloc, piece, surroundings) {
+            Ok(url) => Ok(Some(VersionOrUrl::Url(url))),
+            Err(Refusal::Fault(fault)) => Err(refusal_of_url(alloc, text, piece, rest, fault)),
+            Err(_) => Err(Refusal::OutOfMemory),
+        },
+    }
+}

@@ -1,0 +1,111 @@
+//! What requirements are asked, and how they are changed.
+
+ghost use Rattle.std.specs.Prelude.{◌≡◌, ◌&&◌, All, false, true, IfOk, OnErr, OnOk, Some};
+ghost use Rattle.marker_environment.specs.Environment.{valuation_of, values_of};
+ghost use Rattle.marker_environment.specs.Valuation.{Valuation};
+ghost use Rattle.marker_graph.specs.Contents.{IsHeld, IsKept, truth};
+ghost use Rattle.marker_warnings.specs.declared.warning.MarkerWarningKind.TheVariants.{LexicographicComparison};
+ghost use Rattle.marker_walks.specs.Possible.{IsImpossibleAt, IsPossibleAt};
+ghost use Rattle.pep508_requirements.specs.Changed.{without_url};
+
+use crate::origin::RequirementOrigin;
+use crate::requirement::Requirement;
+use crate::version_or_url::VersionOrUrl;
+use marker_environment::MarkerEnvironment;
+use marker_graph::{Interner, MarkerTree, TruthVariable};
+use marker_warnings::MarkerWarningKind;
+use pep440_version::Version;
+use pep508_errors::Pep508Url;
+use pep508_names::ExtraName;
+use std::alloc::AllocError;
+
+impl<T: Pep508Url> Requirement<T> {
+    /// Drops the URL that is asked for, if one is. Specifiers stay.
+    pub fn clear_url(&mut self)
+        ensures { self.new
+            ≡ record self.old { version_or_url = without_url self.old.version_or_url } }
+    {
+        if let Some(VersionOrUrl::Url(_)) = &self.version_or_url {
+            self.version_or_url = None;
+        }
+    }
+
+    /// The same requirement, which comes from there.
+    pub fn with_origin(mut self, origin: RequirementOrigin) -> Requirement<T>
+        ensures { result ≡ record self { origin = Some origin } }
+    {
+        self.origin = Some(origin);
+        self
+    }
+
+    /// Asks for the extra too: the marker holds where it did and the extra is asked for. Refused
+    /// for want of memory alone, and then the requirement stays as it was.
+    pub fn with_extra_marker(
+        &mut self,
+        extra: &ExtraName,
+        interner: &mut Interner,
+    ) -> Result<(), AllocError>
+        requires { IsHeld interner.old self.old.marker }
+        ensures kept { IsKept interner.old interner.new }
+        ensures held { IsHeld interner.new self.new.marker }
+        ensures means { OnOk result ((v : Valuation) → truth interner.new self.new.marker v
+            ≡ (truth interner.old self.old.marker v && v.extra extra.now)) }
+        ensures others { self.new ≡ record self.old { marker = self.new.marker } }
+        ensures refused { OnErr result (self.new ≡ self.old) }
+    {
+        let asked = MarkerTree::asks(interner, TruthVariable::Extra(extra.clone()?))?;
+        self.marker.and(interner, asked)?;
+        Ok(())
+    }
+
+    /// Whether the marker is true in the environment with these extras. This takes no memory.
+    pub fn evaluate_markers(
+        &self,
+        interner: &Interner,
+        environment: &MarkerEnvironment,
+        extras: &[ExtraName],
+    ) -> bool
+        requires { IsHeld interner.now self.now.marker }
+        ensures { result ≡ truth interner.now self.now.marker
+            (valuation_of (values_of environment.now) extras.now) }
+    {
+        self.marker.evaluate(interner, environment, extras)
+    }
+
+    /// Whether some valuation with exactly these extras, no arbitrary one, and the Python version
+    /// at one of these versions satisfies the marker. Without a version none does. This takes no
+    /// memory.
+    pub fn evaluate_extras_and_python_version(
+        &self,
+        interner: &Interner,
+        extras: &[ExtraName],
+        python_versions: &[Version],
+    ) -> bool
+        requires { IsHeld interner.now self.now.marker }
+        ensures possible { result ≡ true → IsPossibleAt extras.now python_versions.now
+            (truth interner.now self.now.marker) }
+        ensures impossible { result ≡ false → IsImpossibleAt extras.now python_versions.now
+            (truth interner.now self.now.marker) }
+    {
+        self.marker
+            .evaluate_extras_and_python_version(interner, extras, python_versions)
+    }
+
+    /// Answers as [`Requirement::evaluate_markers`] does, with a list of the warnings of texts that
+    /// were compared by their order. Only memory can run out.
+    pub fn evaluate_markers_and_report(
+        &self,
+        interner: &Interner,
+        environment: &MarkerEnvironment,
+        extras: &[ExtraName],
+    ) -> Result<(bool, Vec<(MarkerWarningKind, String)>), AllocError>
+        requires { IsHeld interner.now self.now.marker }
+        ensures answer { IfOk result (λ r. r.0 ≡ truth interner.now self.now.marker
+            (valuation_of (values_of environment.now) extras.now)) }
+        ensures warnings { IfOk result (λ r. All
+            (λ warning. warning.0 ≡ LexicographicComparison) r.1.items) }
+    {
+        self.marker
+            .evaluate_collect_warnings(interner, environment, extras)
+    }
+}

@@ -1,0 +1,173 @@
+//! Requirements with a name.
+
+ghost use Rattle.std.specs.Prelude.{◌≡◌, ◌≤◌, ℕ, IfErr, IfOk, List, None};
+ghost use Rattle.marker_warnings.specs.declared.warning.MarkerWarningKind.{MarkerWarningKind};
+ghost use Rattle.marker_warnings.specs.Kinds.{Adds, Keeps};
+ghost use Rattle.marker_parts.specs.Reporting.{HasBegun};
+ghost use Rattle.marker_graph.specs.Contents.{IsHeld, IsKept};
+ghost use Rattle.pep508_markers.specs.Json.{IsStringOf};
+ghost use Rattle.pep508_markers.specs.Text.{OnRefusedText};
+ghost use Rattle.pep508_urls.specs.Variables.{value_of};
+ghost use Rattle.pep508_requirements.specs.Requirement.{IsMarkedBy, IsReadAs};
+ghost use Rattle.pep508_requirements.specs.Refused.{IsJsonRefusal, IsRefusal};
+
+use crate::end::read_end;
+use crate::head::{read_named, wanted, written_url};
+use crate::origin::RequirementOrigin;
+use crate::version_or_url::VersionOrUrl;
+use marker_graph::{Interner, MarkerTree};
+use marker_warnings::{MarkerWarningKind, Reporter};
+use pep508_errors::{Pep508Error, Pep508Url, Surroundings};
+use pep508_markers::json::{no_string, read_string};
+use pep508_names::{ExtraName, PackageName};
+use refusal::Refusal;
+use requirement_words::Head;
+use std::alloc::AllocError;
+
+/// A requirement: the name of a package, extras of it, what is asked of its versions, and the
+/// marker that says where it is required.
+///
+/// ```
+/// let requirement = Requirement::<VerbatimUrl>::parse(text, &surroundings, &mut interner)?;
+/// let linux = MarkerEnvironment::try_from(alloc, LINUX)?;
+/// let dev = [ExtraName::parse(alloc, "dev")?];
+/// let with_dev = requirement.evaluate_markers(&interner, &linux, &dev);
+/// let without = requirement.evaluate_markers(&interner, &linux, &[]);
+/// println!(rt; "required with dev: {with_dev}, without: {without}")?;
+/// println!(rt; "{}", requirement.try_to_string(&interner)?)?;
+/// ```
+#[derive(Clone, Debug, PartialEq, Eq, Hash, Drop)]
+pub struct Requirement<T: Pep508Url> {
+    /// The name of the package.
+    pub name: PackageName,
+    /// The extras of the package that are required, as `security` and `tests` in
+    /// `requests[security,tests]`.
+    pub extras: Vec<ExtraName>,
+    /// The versions or the URL that are asked for, if any are.
+    pub version_or_url: Option<VersionOrUrl<T>>,
+    /// Where the requirement holds.
+    pub marker: MarkerTree,
+    /// Where the requirement comes from, if that is known.
+    pub origin: Option<RequirementOrigin>,
+}
+
+// Keeps no warning.
+#[derive(Drop)]
+struct Silent;
+
+impl Reporter for Silent {
+    ghost kinds = { λ _. None };
+
+    fn report(&mut self, _kind: MarkerWarningKind, _warning: String) -> Result<(), AllocError> {
+        Ok(())
+    }
+}
+
+impl<T: Pep508Url> Requirement<T> {
+    /// Reads a requirement (PEP 508), which reports nothing. It is refused as
+    /// [`Requirement::parse_reporter`] says.
+    pub fn parse(
+        text: &str,
+        surroundings: &Surroundings<'_>,
+        interner: &mut Interner,
+    ) -> Result<Requirement<T>, Refusal<Pep508Error<T>>>
+        ensures kept { IsKept interner.old interner.new }
+        ensures counts { interner.old.expansions ≤ interner.new.expansions }
+        ensures held { IfOk result (λ r. IsHeld interner.new r.marker) }
+        ensures means { IfOk result (λ r. (kinds : List MarkerWarningKind)
+            × IsReadAs (λ piece url. T.names piece surroundings.now url) interner.new text.now
+            r.name r.extras.items r.version_or_url r.marker kinds) }
+        ensures unknown { IfOk result (λ r. r.origin ≡ None) }
+        ensures refused { IfErr result (IsRefusal
+            (λ piece url. T.names piece surroundings.now url) T.tells_size
+            (λ piece. T.may_overflow piece surroundings.now) (value_of surroundings.now) text.now) }
+    {
+        match Requirement::parse_reporter(text, surroundings, &mut Silent, interner) {
+            Ok(requirement) => Ok(requirement),
+            Err(refusal) => Err(refusal),
+        }
+    }
+
+    /// Reads a requirement (PEP 508), and tells the reporter of the warnings of its marker, in
+    /// their order.
+    ///
+    /// A text that is no requirement is refused as a fault, with its message, its place and the
+    /// text, and so is one whose URL its type refuses. `SegmentAtEnd` comes where the marker has a
+    /// comparison for which 18446744073709551615 would be raised. A text that is refused so has
+    /// reported nothing; where memory runs out the first of the warnings, or none, have been
+    /// reported. What the trees of the interner mean stays, also then.
+    pub fn parse_reporter<R: Reporter>(
+        text: &str,
+        surroundings: &Surroundings<'_>,
+        reporter: &mut R,
+        interner: &mut Interner,
+    ) -> Result<Requirement<T>, Refusal<Pep508Error<T>>>
+        requires { R.can_report reporter.old }
+        ensures kept { IsKept interner.old interner.new }
+        ensures counts { interner.old.expansions ≤ interner.new.expansions }
+        ensures held { IfOk result (λ r. IsHeld interner.new r.marker) }
+        ensures means { IfOk result (λ r. (kinds : List MarkerWarningKind)
+            × IsReadAs (λ piece url. T.names piece surroundings.now url) interner.new text.now
+            r.name r.extras.items r.version_or_url r.marker kinds
+            × Adds (R.kinds reporter.old) (R.kinds reporter.new) kinds) }
+        ensures unknown { IfOk result (λ r. r.origin ≡ None) }
+        ensures refused { IfErr result (IsRefusal
+            (λ piece url. T.names piece surroundings.now url) T.tells_size
+            (λ piece. T.may_overflow piece surroundings.now) (value_of surroundings.now) text.now) }
+        ensures unreported { IfErr result (λ refusal. OnRefusedText refusal
+            (Keeps (R.kinds reporter.old) (R.kinds reporter.new))) }
+        ensures begun { IfErr result (λ _. HasBegun
+            (IsMarkedBy T.Err (λ piece url. T.names piece surroundings.now url))
+            text.now (R.kinds reporter.old) (R.kinds reporter.new)) }
+        ensures again { R.can_report reporter.new }
+    {
+        let alloc = interner.allocator();
+        let (Head { name, extras, body }, rest) = match read_named(alloc, text, surroundings) {
+            Ok(read) => read,
+            Err(refusal) => return Err(refusal),
+        };
+        let url = written_url(&body);
+        let version_or_url = match wanted(alloc, text, body, rest, surroundings) {
+            Ok(version_or_url) => version_or_url,
+            Err(refusal) => return Err(refusal),
+        };
+        match read_end(text, url, rest, reporter, interner) {
+            Ok(marker) => Ok(Requirement {
+                name,
+                extras,
+                version_or_url,
+                marker,
+                origin: None,
+            }),
+            Err(refusal) => Err(refusal),
+        }
+    }
+
+    /// Reads a requirement out of a JSON string, as [`Requirement::parse`] reads the string's text.
+    ///
+    /// JSON that is no string is a fault at its start, with no length, or 1 at the end of no text.
+    /// A fault of the string's text has its place there, and keeps that text.
+    pub fn from_json(
+        json: &str,
+        surroundings: &Surroundings<'_>,
+        interner: &mut Interner,
+    ) -> Result<Requirement<T>, Refusal<Pep508Error<T>>>
+        ensures kept { IsKept interner.old interner.new }
+        ensures counts { interner.old.expansions ≤ interner.new.expansions }
+        ensures held { IfOk result (λ r. IsHeld interner.new r.marker) }
+        ensures means { IfOk result (λ r. (text : List ℕ) × (kinds : List MarkerWarningKind)
+            × IsStringOf json.now text
+            × IsReadAs (λ piece url. T.names piece surroundings.now url) interner.new text
+            r.name r.extras.items r.version_or_url r.marker kinds) }
+        ensures unknown { IfOk result (λ r. r.origin ≡ None) }
+        ensures refused { IfErr result (IsJsonRefusal
+            (λ piece url. T.names piece surroundings.now url) T.tells_size
+            (λ piece. T.may_overflow piece surroundings.now) (value_of surroundings.now) json.now) }
+    {
+        let alloc = interner.allocator();
+        match read_string(alloc, json)? {
+            Some(text) => Requirement::parse(&text, surroundings, interner),
+            None => Err(no_string(alloc, json)),
+        }
+    }
+}

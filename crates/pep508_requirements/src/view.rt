@@ -1,0 +1,88 @@
+//! Requirements with a name, with the interners that their markers stand in.
+
+ghost use Rattle.std.specs.Prelude.{◌≡◌, None};
+ghost use Rattle.marker_graph.specs.Contents.{IsHeld};
+
+use crate::origin::RequirementOrigin;
+use crate::requirement::Requirement;
+use crate::text::RequirementText;
+use crate::version_or_url::VersionOrUrl;
+use marker_graph::Interner;
+use marker_view::MarkerTreeView;
+use pep508_errors::Pep508Url;
+use pep508_markers::MarkerText;
+use pep508_names::{ExtraName, PackageName};
+use std::alloc::AllocError;
+use std::fmt;
+use std::fmt::Display;
+
+/// A requirement with the interner that its marker stands in.
+///
+/// Views are compared field by field: name, extras, version or URL, marker and origin, where
+/// markers are compared as [`MarkerTreeView`] says, in one interner or in two. To compare takes no
+/// memory. A view prints as the text of its requirement; where memory for the text of the marker is
+/// refused, writing it is a fault.
+#[derive(PartialEq, Eq, PartialOrd, Ord)]
+pub struct RequirementView<'a, T: Pep508Url> {
+    name: &'a PackageName,
+    extras: &'a [ExtraName],
+    version_or_url: &'a Option<VersionOrUrl<T>>,
+    marker: MarkerTreeView<'a>,
+    origin: &'a Option<RequirementOrigin>,
+}
+
+impl<T: Pep508Url> Clone for RequirementView<'_, T> {
+    ghost is_clone = { λ view copy. copy ≡ view };
+
+    fn clone(&self) -> Result<Self, AllocError> {
+        Ok(*self)
+    }
+}
+
+impl<T: Pep508Url> Copy for RequirementView<'_, T> {}
+
+impl<T: Pep508Url> Requirement<T> {
+    /// The requirement with the interner that its marker stands in, which can be compared and
+    /// printed. This takes no memory.
+    pub fn view<'a>(&'a self, interner: &'a Interner) -> RequirementView<'a, T>
+        requires { IsHeld interner.now self.now.marker }
+        ensures name { result.name.now ≡ self.now.name }
+        ensures extras { result.extras.now ≡ self.now.extras.items }
+        ensures wanted { result.version_or_url.now ≡ self.now.version_or_url }
+        ensures marker { result.marker.tree ≡ self.now.marker }
+        ensures interner { result.marker.interner.now ≡ interner.now }
+        ensures origin { result.origin.now ≡ self.now.origin }
+    {
+        RequirementView {
+            name: &self.name,
+            extras: &self.extras,
+            version_or_url: &self.version_or_url,
+            marker: self.marker.view(interner),
+            origin: &self.origin,
+        }
+    }
+}
+
+// The text of a marker, where there is memory for it.
+pub(crate) fn marker_text(marker: &MarkerTreeView<'_>) -> Result<Option<String>, fmt::Error> {
+    match marker.tree().try_to_string(marker.interner()) {
+        Ok(text) => Ok(text),
+        Err(_) => Err(fmt::Error),
+    }
+}
+
+impl<T: Pep508Url> Display for RequirementView<'_, T> {
+    // Which text is printed is left open: `Requirement::try_to_string` says what it tells.
+    ghost output = { λ _. None };
+
+    fn fmt<W: fmt::Write>(&self, f: &mut fmt::Formatter<W>) -> fmt::Result {
+        let marker = marker_text(&self.marker)?;
+        let text = RequirementText {
+            name: self.name,
+            extras: self.extras,
+            version_or_url: self.version_or_url,
+            marker: &marker,
+        };
+        write!(f, "{text}")
+    }
+}
