@@ -11,7 +11,7 @@ from pathlib import Path
 from checks import edits
 from checks.edits import BadEdit, Edit
 from checks.kit import Repository
-from checks.unproved import quick_kit
+from checks.unproved import quick_kit, workspace
 
 # What an edit names in place of a test: the lines of the program `markers`, with their replies.
 STORED_RUN = "stored run"
@@ -39,20 +39,9 @@ class Trial:
 
     def run(self) -> bool:
         """Tries every edit. Answers whether all were caught. That nothing fails without an edit is
-        shown by `rt ci`."""
-        self.make_copy()
+        shown by `rt ci` and `.ci/tests`."""
+        workspace(self.repository, [self.tester], self.copy)
         return all([self.is_caught(edit) for edit in self.edits])
-
-    def make_copy(self) -> None:
-        """Copies the sources of the crate that is run, and of all below it."""
-        for crate in [*self.repository.below(self.tester), self.tester]:
-            unread = shutil.ignore_patterns("out", "must-fail*")
-            made = self.copy / "crates" / crate
-            shutil.copytree(self.repository.folder(crate), made, ignore=unread)
-        lines = (self.repository.root / "crates.txt").read_text().splitlines(keepends=True)
-        kept = [line for line in lines if (self.copy / "crates" / line.partition(":")[0]).is_dir()]
-        (self.copy / "crates.txt").write_text("".join(kept))
-        shutil.copy(self.repository.root / "HANDLES", self.copy)
 
     def is_caught(self, edit: Edit) -> bool:
         """Makes an edit, runs what must catch it, and puts the files back."""

@@ -13,7 +13,7 @@ from pathlib import Path
 from checks.kit import Repository
 
 WIDTH = 100
-FILES = ("src/**/*.rt", "specs/**/*.antt")
+FILES = ("src/**/*.rt", "specs/**/*.antt", "*.rt.txt")
 
 IMPORT = re.compile(r"\s*(pub\s+|ghost\s+)?use\b")
 COMMENT = re.compile(r"\s*(//|--)")

@@ -43,20 +43,29 @@ def side_by_side(items: Iterable[Item], task: Callable[[Item], Answer]) -> list[
         return list(pool.map(task, items))
 
 
+def listed(file: Path) -> dict[str, list[str]]:
+    """The crates that a list has, each with what it uses."""
+    found: dict[str, list[str]] = {}
+    for line in file.read_text().splitlines() if file.is_file() else []:
+        line = line.partition("#")[0].strip()
+        if line:
+            name, _, used = line.partition(":")
+            found[name.split()[0]] = used.split()
+    return found
+
+
 class Repository:
-    """The crates that crates.txt lists, and which stand on which."""
+    """The crates that crates.txt lists, which are proved, those of tests/crates.txt, which are
+    compiled and run without a proof, and which stand on which."""
 
     def __init__(self, root: Path) -> None:
         self.root = root
-        self.uses: dict[str, list[str]] = {}
-        for line in (root / "crates.txt").read_text().splitlines():
-            line = line.partition("#")[0].strip()
-            if line:
-                name, _, used = line.partition(":")
-                self.uses[name.split()[0]] = used.split()
+        self.proved = listed(root / "crates.txt")
+        self.tried = listed(root / "tests" / "crates.txt")
+        self.uses = self.proved | self.tried
 
     def folder(self, crate: str) -> Path:
-        return self.root / "crates" / crate
+        return self.root / ("tests" if crate in self.tried else "crates") / crate
 
     def below(self, crate: str) -> list[str]:
         """The repository's libraries below a crate, each after those that it stands on."""
@@ -69,6 +78,8 @@ class Repository:
     def files(self, crate: str) -> list[Path]:
         """The files that a check of the crate reads, in order."""
         folder = self.folder(crate)
+        if crate in self.tried:
+            return sorted(folder.glob("*.rt.txt"))
         found = [file for part in PARTS for file in sorted((folder / part).rglob("*"))]
         return [file for file in found if file.is_file()]
 

@@ -1,6 +1,6 @@
-"""Folders of crates that `crates.txt` does not list, which nothing would prove.
+"""Folders of crates that no list has, which nothing would prove or run.
 
-`rt ci` refuses them too, but only where it begins, which is long after they were made.
+`rt ci` refuses those of `crates/` too, but only where it begins, which is long after they were made.
 """
 
 from __future__ import annotations
@@ -10,5 +10,7 @@ from checks.kit import Repository
 
 def in_repository(repository: Repository) -> list[str]:
     """The crates that have sources and are not listed."""
-    folders = sorted((repository.root / "crates").iterdir())
-    return [it.name for it in folders if (it / "src").is_dir() and it.name not in repository.uses]
+    proved = [it for it in (repository.root / "crates").glob("*") if (it / "src").is_dir()]
+    tried = [it for it in (repository.root / "tests").glob("*") if it.is_dir()]
+    missed = [it.name for it in proved if it.name not in repository.proved]
+    return sorted(missed + [it.name for it in tried if it.name not in repository.tried])

@@ -11,8 +11,6 @@ from collections.abc import Iterator
 
 from checks.kit import Repository
 
-# Crates with tests and programs that try refusals make them up with good reason.
-TRYING = re.compile(r"(test_|starved)")
 MADE = re.compile(r"\bErr\(\s*AllocError\s*\)")
 PASSED_ON = re.compile(r"^\s*\|?\s*Err\(.*=>\s*(return\s+)?Err\(\s*AllocError\s*\),?\s*$")
 MATCHED = re.compile(r"\bErr\(\s*AllocError\s*\)\s*(\||if\b|=>|=[^=])")
@@ -39,9 +37,9 @@ def in_text(text: str) -> Iterator[int]:
 def in_repository(repository: Repository) -> list[str]:
     """Where the libraries make up such an answer."""
     found = []
-    for crate in repository.uses:
+    for crate in repository.proved:
         folder = repository.folder(crate) / "src"
-        if TRYING.match(crate) or not (folder / "lib.rt").is_file():
+        if not (folder / "lib.rt").is_file():
             continue
         for file in sorted(folder.rglob("*.rt")):
             at = str(file.relative_to(repository.root))

@@ -9,7 +9,7 @@ from dataclasses import dataclass
 from pathlib import Path
 
 from checks.kit import Repository
-from checks.unproved import quick_kit
+from checks.unproved import quick_kit, workspace
 
 NOTHING = "nothing was refused"
 
@@ -38,11 +38,13 @@ class Family:
 class Starved:
     """Runs of programs with one growth refused, and what was wrong with them."""
 
-    def __init__(self, repository: Repository, room: Path, tell: Callable[[str], None]) -> None:
-        self.repository = repository
+    def __init__(
+        self, repository: Repository, programs: list[str], room: Path, tell: Callable[[str], None]
+    ) -> None:
         self.room = room
         self.tell = tell
         self.rt = quick_kit(room / "kit")
+        workspace(repository, programs, room / "copy")
 
     def run(self, program: str, growth: int, cases: dict[str, str]) -> tuple[int, str]:
         """Builds a program, runs it on each input with this growth refused, and answers the status
@@ -53,7 +55,7 @@ class Starved:
             (folder / name).write_text(given)
         said = subprocess.run(
             [self.rt, "try", "--fail-alloc", str(growth), "--cases", str(folder)],
-            cwd=self.repository.folder(program),
+            cwd=self.room / "copy" / "crates" / program,
             stdout=subprocess.PIPE,
             stderr=subprocess.STDOUT,
             text=True,
