@@ -16,9 +16,10 @@ fn from_version(rt: &HostRuntime, version: &Version, interner: &mut Interner) ->
 }
 
 // What is left of it with an extra.
-fn with_extra(rt: &HostRuntime, extras: &[ExtraName], interner: &mut Interner) -> Result<()> {
+fn with_extra(rt: &HostRuntime, interner: &mut Interner) -> Result<()> {
+    let dev = [ExtraName::parse(rt.alloc(), "dev")?];
     let marker = MarkerTree::parse_str::<VerbatimUrl>(TEXT, interner)?;
-    let left = marker.simplify_extras(interner, extras)?;
+    let left = marker.simplify_extras(interner, &dev)?;
     println!(rt; "with dev: {}", left.view(interner))?;
     Ok(())
 }
@@ -26,8 +27,7 @@ fn with_extra(rt: &HostRuntime, extras: &[ExtraName], interner: &mut Interner) -
 pub fn run(rt: &HostRuntime) -> Result<()> {
     let alloc = rt.alloc();
     let version = Version::parse(alloc, "3.9")?;
-    let dev = [ExtraName::parse(alloc, "dev")?];
     let mut interner = Interner::new(alloc);
     from_version(rt, &version, &mut interner)?;
-    with_extra(rt, &dev, &mut interner)
+    with_extra(rt, &mut interner)
 }
