@@ -1,7 +1,7 @@
 """Examples in documents and in doc comments, which stand in programs that the gate runs.
 
 Each fenced block of Rust of the README and of `docs/`, and each fenced block of a doc comment, is a
-stretch of lines of a program of `examples/`, indentation aside. So is the last cell of each row of the
+stretch of lines of a file of `PROGRAMS`, indentation aside. So is the last cell of each row of the
 tables of `COMPARED`, where each piece of code is a line.
 """
 
@@ -13,6 +13,8 @@ from pathlib import Path
 
 from checks.kit import Repository
 
+# The crates whose programs are quoted.
+PROGRAMS = ("first_use", "uses")
 COMPARED = "docs/COMING_FROM.md"
 FENCED = re.compile(r"^```rust\n(?P<block>.*?)^```$", re.MULTILINE | re.DOTALL)
 COMMENTS = re.compile(r"(?:^[ \t]*//[/!].*\n)+", re.MULTILINE)
@@ -59,7 +61,8 @@ def in_repository(repository: Repository) -> list[str]:
     root = repository.root
     programs = [
         lines_of(file.read_text(encoding="utf-8"))
-        for file in sorted((root / "examples").glob("*/*.rt.txt"))
+        for name in PROGRAMS
+        for file in sorted((repository.folder(name) / "src").rglob("*.rt"))
     ]
     quoting: list[tuple[Path, Iterator[list[str]]]] = []
     for file in [root / "README.md", *sorted((root / "docs").glob("*.md"))]:

@@ -32,7 +32,8 @@ pub trait Sink {
         ensures failed { OnErr result (IsTrue (has_failed self.new)) };
 }
 
-/// Writes all the bytes. After a fault a beginning of them is written.
+/// Writes all the bytes, in as many writes as the sink takes for them. A fault of a write is that
+/// of this call, and then a beginning of the bytes is written.
 pub fn write_all<W: Sink>(sink: &mut W, bytes: &[u8]) -> Result<(), WriteFault>
     ensures all { OnOk result (Appends (W.contents sink.old) (W.contents sink.new) bytes.now) }
     ensures sound { OnOk result (W.has_failed sink.new ≡ W.has_failed sink.old) }

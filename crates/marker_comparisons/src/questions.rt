@@ -15,7 +15,8 @@ use pep440_version::Version;
 use std::alloc::AllocError;
 use version_ranges::{Cuts, Ranges};
 
-/// The id that is true where it is so.
+/// The id that is true where it is so. Only memory can run out. What the ids of the table mean
+/// stays, also then.
 pub fn asks(nodes: &mut NodeTable, variable: TruthVariable) -> Result<NodeId, AllocError>
     ensures kept { Keeps markers nodes.old nodes.new }
     ensures rules { IsStore markers nodes.old → IsStore markers nodes.new }
@@ -24,7 +25,8 @@ pub fn asks(nodes: &mut NodeTable, variable: TruthVariable) -> Result<NodeId, Al
     nodes.place_node(Branches::Truth(variable, NodeId::TRUE, NodeId::FALSE))
 }
 
-/// The id that is true where the variable's version is in the set.
+/// The id that is true where the variable's version is in the set. Only memory can run out. What
+/// the ids of the table mean stays, also then.
 pub fn asks_version(
     nodes: &mut NodeTable,
     variable: VersionVariable,
@@ -39,7 +41,8 @@ pub fn asks_version(
     nodes.place_node(Branches::Version(variable, edges))
 }
 
-/// The id that is true where the variable's text is in the set.
+/// The id that is true where the variable's text is in the set. Only memory can run out. What the
+/// ids of the table mean stays, also then.
 pub fn asks_text(
     nodes: &mut NodeTable,
     variable: TextVariable,

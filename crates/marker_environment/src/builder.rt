@@ -6,22 +6,49 @@ use pep440_version::VersionParseError;
 use refusal::Refusal;
 use std::alloc::Global;
 
-/// The texts from which an environment is made, one for each modern key.
+/// The texts from which an environment is made, one for each modern key (PEP 508, "Environment
+/// Markers"). They are lent. Those of the three version keys have to be texts of versions, and
+/// [`MarkerEnvironment::try_from`](crate::MarkerEnvironment::try_from) refuses one that is none.
+///
+/// ```
+/// const LINUX: MarkerEnvironmentBuilder<'static> = MarkerEnvironmentBuilder {
+///     implementation_name: "cpython",
+///     implementation_version: "3.12.1",
+///     os_name: "posix",
+///     platform_machine: "x86_64",
+///     platform_python_implementation: "CPython",
+///     platform_release: "6.1",
+///     platform_system: "Linux",
+///     platform_version: "#1",
+///     python_full_version: "3.12.1",
+///     python_version: "3.12",
+///     sys_platform: "linux",
+/// };
+/// ```
 #[derive(Clone, Copy, Debug, PartialEq, Eq, Hash)]
 pub struct MarkerEnvironmentBuilder<'a> {
+    /// Python's `sys.implementation.name`, as `cpython`.
     pub implementation_name: &'a str,
-    /// The text of a version.
+    /// Python's `sys.implementation.version`, the text of a version.
     pub implementation_version: &'a str,
+    /// Python's `os.name`, as `posix`.
     pub os_name: &'a str,
+    /// Python's `platform.machine()`, as `x86_64`.
     pub platform_machine: &'a str,
+    /// Python's `platform.python_implementation()`, as `CPython`.
     pub platform_python_implementation: &'a str,
+    /// Python's `platform.release()`, as `6.1`.
     pub platform_release: &'a str,
+    /// Python's `platform.system()`, as `Linux`.
     pub platform_system: &'a str,
+    /// Python's `platform.version()`.
     pub platform_version: &'a str,
-    /// The text of a version.
+    /// Python's `platform.python_version()`, the text of a version.
     pub python_full_version: &'a str,
-    /// The text of a version.
+    /// The first two numbers of Python's version, the text of a version. Markers do not ask for it:
+    /// their comparisons of `python_version` ask for `python_full_version`.
     pub python_version: &'a str,
+    /// Python's `sys.platform`, as `linux`.
     pub sys_platform: &'a str,
 }
 

@@ -8,14 +8,22 @@ use refusal::Refusal;
 use serde::{Deserialize, Serialize};
 use std::alloc::{AllocError, Global};
 
-/// The values of an interpreter and its platform, one for each modern key.
+/// The values of an interpreter and its platform, one for each modern key (PEP 508, "Environment
+/// Markers").
 ///
 /// ```
+/// let win32 = String::from_str(alloc, "win32")?;
 /// let linux = MarkerEnvironment::try_from(alloc, LINUX)?;
-/// let dev = [ExtraName::parse(alloc, "dev")?];
-/// let with_dev = marker.evaluate(&interner, &linux, &dev);
-/// let without = marker.evaluate(&interner, &linux, &[]);
-/// println!(rt; "on Linux with dev: {with_dev}, without: {without}")?;
+/// in_environment(rt, &linux, dev, interner)?;
+/// let windows = linux.with_sys_platform(win32);
+/// in_environment(rt, &windows, dev, interner)
+/// ```
+///
+/// where `in_environment` evaluates a marker:
+///
+/// ```
+/// let with_dev = marker.evaluate(interner, environment, dev);
+/// let without = marker.evaluate(interner, environment, &[]);
 /// ```
 #[derive(Debug, PartialEq, Eq, Hash, Drop, Serialize, Deserialize)]
 pub struct MarkerEnvironment {

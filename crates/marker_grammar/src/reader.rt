@@ -172,11 +172,13 @@ impl<'a> Reader<'a> {
     }
 }
 
-/// What a marker text is read as: its formula, which is empty where all of it is dropped, and the
-/// kinds of its warnings in the order of the text.
+/// What a marker text is read as.
 #[derive(Debug, Drop)]
 pub struct Reading {
+    /// Its comparisons, joined as the text joins them, without those that are dropped. Where all of
+    /// them are, the formula is empty.
     pub formula: FlatFormula,
+    /// The kinds of its warnings, in the order of the text.
     pub kinds: Vec<MarkerWarningKind>,
 }
 
@@ -184,8 +186,9 @@ ghost use Rattle.marker_grammar.specs.Grammar.{Reads, IsOnlyReading};
 ghost use Rattle.marker_grammar.specs.Flat.{formula_of};
 ghost use Rattle.marker_grammar.specs.Refused.{IsRefusal};
 
-/// Reads a whole marker text: exactly those of the grammar, each as its formula with the kinds of
-/// its warnings. Every other text is refused with its fault.
+/// Reads a whole marker text (PEP 508, "Grammar"): exactly those of the grammar, each as its
+/// formula with the kinds of its warnings. Every other text is refused with its fault, and any text
+/// may be refused for want of memory.
 pub fn read(alloc: Global, text: &str) -> Result<Reading, ComparisonError<'_>>
     ensures found { IfOk result (λ r. Reads text.now (formula_of r.formula) r.kinds.items) }
     ensures only { IfOk result (λ r.

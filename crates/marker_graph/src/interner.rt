@@ -41,8 +41,8 @@ use std::ops::Bound;
 ///
 /// ```
 /// let mut interner = Interner::new(alloc);
-/// let text = "sys_platform == 'linux' and extra == 'dev'";
 /// let marker = MarkerTree::parse_str::<VerbatimUrl>(text, &mut interner)?;
+/// Ok(marker.is_true())
 /// ```
 #[derive(Drop)]
 pub struct Interner {

@@ -101,7 +101,8 @@ impl NodeTable {
     /// there is one, and else that of a new node.
     ///
     /// Where all children are the same, it is that child. Where the first child is a negation, it
-    /// is the negation of the node with the other signs.
+    /// is the negation of the node with the other signs. Only memory can run out, and then the
+    /// table is as it was.
     pub fn place<V: Drop>(
         &mut self,
         branches: Branches<V>,
@@ -128,7 +129,8 @@ impl NodeTable {
         Ok(id.negate(first))
     }
 
-    /// The id that means what the node does, as `place` of the node's own children.
+    /// The id that means what the node does, as `place` of the node's own children. Only memory can
+    /// run out, and then the table is as it was.
     pub fn place_node(&mut self, node: Node) -> Result<NodeId, AllocError>
         requires { AreChildren markers self.old (variable node) (value_at node) }
         ensures id { IfOk result (IsChoice markers self.new (variable node) (value_at node)) }

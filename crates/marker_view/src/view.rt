@@ -24,11 +24,9 @@ use std::fmt::Display;
 /// `TRUE`; where memory for the text is refused, writing it is a fault.
 ///
 /// ```
-/// let mut here = Interner::new(rt.alloc());
-/// let mut there = Interner::new(rt.alloc());
-/// let left = MarkerTree::parse_str::<VerbatimUrl>("os_name == 'nt'", &mut here)?;
-/// let right = MarkerTree::parse_str::<VerbatimUrl>("'nt' == os_name", &mut there)?;
-/// println!(rt; "equal: {}", left.view(&here) == right.view(&there))?;
+/// let left = MarkerTree::parse_str::<VerbatimUrl>("os_name == 'nt'", here)?;
+/// let right = MarkerTree::parse_str::<VerbatimUrl>("'nt' == os_name", there)?;
+/// println!(rt; "equal: {}", left.view(here) == right.view(there))?;
 /// ```
 #[derive(Clone, Copy)]
 pub struct MarkerTreeView<'a> {

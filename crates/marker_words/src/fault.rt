@@ -36,6 +36,7 @@ pub enum FaultKind {
 /// What is wrong with a marker text, and where. It prints as its message.
 #[derive(Clone, Copy, Debug, PartialEq, Eq)]
 pub struct Fault<'a> {
+    /// What is wrong there.
     pub kind: FaultKind,
     /// What stands at the place.
     pub piece: &'a str,

@@ -63,16 +63,25 @@ pub enum MarkerValueString {
     SysPlatformDeprecated,
 }
 
-/// What a text key asks about. Each deprecated spelling asks about the variable of its modern key.
+/// What a text key asks about, named as the modern key. Each deprecated spelling asks about the
+/// variable of its modern key.
 #[derive(Clone, Copy, Debug, PartialEq, Eq, PartialOrd, Ord, Hash)]
 pub enum TextVariable {
+    /// What `implementation_name` asks about
     ImplementationName,
+    /// What `os_name` asks about
     OsName,
+    /// What `platform_machine` asks about
     PlatformMachine,
+    /// What `platform_python_implementation` asks about
     PlatformPythonImplementation,
+    /// What `platform_release` asks about
     PlatformRelease,
+    /// What `platform_system` asks about
     PlatformSystem,
+    /// What `platform_version` asks about
     PlatformVersion,
+    /// What `sys_platform` asks about
     SysPlatform,
 }
 
@@ -80,7 +89,9 @@ pub enum TextVariable {
 /// comparisons of `python_full_version`.
 #[derive(Clone, Copy, Debug, PartialEq, Eq, PartialOrd, Ord, Hash)]
 pub enum VersionVariable {
+    /// What `implementation_version` asks about
     ImplementationVersion,
+    /// What `python_full_version` asks about, and `python_version` of its first two numbers
     PythonFullVersion,
 }
 

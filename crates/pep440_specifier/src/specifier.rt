@@ -16,6 +16,14 @@ use std::marker::Model;
 ///
 /// Only what PEP 440 allows is one: a star stands behind a release alone, `~=` has two release
 /// numbers at least, and a local part stands with `==`, `!=` and `===` alone.
+///
+/// ```
+/// let specifier = VersionSpecifier::parse(alloc, "~= 2.8")?;
+/// let versions = release_specifier_to_range(alloc, &specifier)?;
+/// let version = Version::parse(alloc, "2.31.0")?;
+/// let found = versions.contains(&version);
+/// println!(rt; "{specifier} has {version}: {found}")?;
+/// ```
 #[derive(Debug, Drop)]
 pub struct VersionSpecifier {
     pub(crate) operator: Operator,

@@ -33,7 +33,7 @@ pub trait Pep508Url: Display + Debug + Drop {
     ghost may_overflow: { List ℕ → Surroundings → Type 0 };
 
     /// Reads a URL. Refused where there is no memory for it, by [`Refusal::OutOfMemory`], and where
-    /// the text is at fault, by [`Refusal::Fault`].
+    /// the text is at fault, by [`Refusal::Fault`]; `SegmentAtEnd` never comes.
     fn parse_url(
         alloc: Global,
         text: &str,

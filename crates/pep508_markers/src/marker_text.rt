@@ -30,11 +30,11 @@ use std::alloc::AllocError;
 /// What is read of texts, as a marker of an interner, and how it is shown and written.
 ///
 /// ```
-/// let text = "'nt' == os.name and (extra == 'Dev' or python_version >= '3.8')";
-/// let marker = MarkerTree::parse_str::<VerbatimUrl>(text, &mut interner)?;
-/// if let Some(text) = marker.try_to_string(&interner)? {
+/// let marker = MarkerTree::parse_str::<VerbatimUrl>(TEXT, interner)?;
+/// if let Some(text) = marker.try_to_string(interner)? {
 ///     println!(rt; "{text}")?;
 /// }
+/// println!(rt; "{}", marker.negate().view(interner))?;
 /// ```
 pub trait MarkerText: Sized {
     // The marker that it is.

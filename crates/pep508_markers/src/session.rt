@@ -120,7 +120,7 @@ impl Session {
         Ok(replies)
     }
 
-    /// Runs one command.
+    /// Runs one command. The reply says why where it is refused, and then no cell has changed.
     pub fn execute(&mut self, command: Command<'_>) -> Reply
         ensures { Answers self.old (request_of command.entry) result self.new }
     {

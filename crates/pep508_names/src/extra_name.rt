@@ -22,9 +22,10 @@ use std::marker::Model;
 /// Names are compared, ordered and hashed by the bytes of their normal forms.
 ///
 /// ```
-/// let dev = [ExtraName::parse(alloc, "dev")?];
-/// let left = left.simplify_extras(&mut interner, &dev)?;
-/// println!(rt; "with dev: {}", left.view(&interner))?;
+/// let dev = [ExtraName::parse(rt.alloc(), "dev")?];
+/// let marker = MarkerTree::parse_str::<VerbatimUrl>(TEXT, interner)?;
+/// let left = marker.simplify_extras(interner, &dev)?;
+/// println!(rt; "with dev: {}", left.view(interner))?;
 /// ```
 #[derive(Debug, Drop)]
 pub struct ExtraName(String);

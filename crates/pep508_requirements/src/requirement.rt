@@ -28,13 +28,12 @@ use std::alloc::AllocError;
 /// marker that says where it is required.
 ///
 /// ```
-/// let requirement = Requirement::<VerbatimUrl>::parse(text, &surroundings, &mut interner)?;
-/// let linux = MarkerEnvironment::try_from(alloc, LINUX)?;
-/// let dev = [ExtraName::parse(alloc, "dev")?];
-/// let with_dev = requirement.evaluate_markers(&interner, &linux, &dev);
-/// let without = requirement.evaluate_markers(&interner, &linux, &[]);
+/// let dev = [ExtraName::parse(rt.alloc(), "dev")?];
+/// let requirement = Requirement::<VerbatimUrl>::parse(text, surroundings, interner)?;
+/// let with_dev = requirement.evaluate_markers(interner, linux, &dev);
+/// let without = requirement.evaluate_markers(interner, linux, &[]);
 /// println!(rt; "required with dev: {with_dev}, without: {without}")?;
-/// println!(rt; "{}", requirement.try_to_string(&interner)?)?;
+/// println!(rt; "{}", requirement.try_to_string(interner)?)?;
 /// ```
 #[derive(Clone, Debug, PartialEq, Eq, Hash, Drop)]
 pub struct Requirement<T: Pep508Url> {

@@ -26,14 +26,14 @@ use requirement_words::UnnamedHead;
 /// required. PEP 508 has none; files of requirements do.
 ///
 /// ```
-/// let text = "./a.whl[dev] ; os_name == 'nt'";
+/// let mut warnings = Vec::new(rt.alloc());
 /// let requirement = UnnamedRequirement::<VerbatimUrl>::parse(
-///     text,
+///     "./a.whl[dev] ; os_name == 'nt'",
 ///     surroundings,
 ///     &mut warnings,
-///     &mut interner,
+///     interner,
 /// )?;
-/// println!(rt; "{}", requirement.try_to_string(&interner)?)?;
+/// println!(rt; "{}", requirement.try_to_string(interner)?)?;
 /// ```
 #[derive(Clone, Debug, PartialEq, Eq, Hash, Drop)]
 pub struct UnnamedRequirement<Url: UnnamedRequirementUrl> {

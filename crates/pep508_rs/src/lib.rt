@@ -4,10 +4,10 @@
 //! This crate hands on the public items of the crates that it stands on.
 //!
 //! ```
-//! let requirement = Requirement::<VerbatimUrl>::parse(text, &surroundings, &mut interner)?;
-//! let linux = MarkerEnvironment::try_from(alloc, LINUX)?;
-//! let dev = [ExtraName::parse(alloc, "dev")?];
-//! let with_dev = requirement.evaluate_markers(&interner, &linux, &dev);
+//! let dev = [ExtraName::parse(rt.alloc(), "dev")?];
+//! let requirement = Requirement::<VerbatimUrl>::parse(text, surroundings, interner)?;
+//! let with_dev = requirement.evaluate_markers(interner, linux, &dev);
+//! let without = requirement.evaluate_markers(interner, linux, &[]);
 //! ```
 #![tactic(auto)]
 

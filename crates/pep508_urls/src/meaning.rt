@@ -18,7 +18,7 @@ pub enum Target<'a> {
 }
 
 impl<'a> Target<'a> {
-    /// Tells URLs from paths. The text has no variables any more.
+    /// Tells URLs from paths, of a text that has no variables any more. Only memory can run out.
     pub fn of(alloc: Global, text: &'a str) -> Result<Target<'a>, AllocError>
         ensures { IfOk result (λ target. StandsFor text.now (meaning_of target)) }
     {

@@ -19,7 +19,8 @@ pub trait UnnamedRequirementUrl: Pep508Url + PartialEq {
     /// The text that a value was given as, if it was.
     ghost given_text: { Self → Option (List ℕ) };
 
-    /// The value of a path from a folder.
+    /// The value of a path that starts from a folder where it is not absolute. A path that has a
+    /// value is refused only for want of memory, or by a fault of size; `SegmentAtEnd` never comes.
     fn parse_path(alloc: Global, path: &str, working_dir: &str) -> Result<Self, Refusal<Self::Err>>
         ensures value { IfOk result (λ url.
             MakesNamed Self.names gives (Some working_dir.now) (is_path path.now) url) }
@@ -31,7 +32,8 @@ pub trait UnnamedRequirementUrl: Pep508Url + PartialEq {
             → EachMayOverflow Self.may_overflow (Some working_dir.now) (is_path path.now))) }
         ensures no_end { IfErr result (λ refusal. refusal ≢ SegmentAtEnd) };
 
-    /// The value of a path that stands alone.
+    /// The value of a path without a folder. A path that has a value is refused only for want of
+    /// memory, or by a fault of size; `SegmentAtEnd` never comes.
     fn parse_absolute_path(alloc: Global, path: &str) -> Result<Self, Refusal<Self::Err>>
         ensures value { IfOk result (λ url.
             MakesNamed Self.names gives None (is_path path.now) url) }
@@ -42,7 +44,8 @@ pub trait UnnamedRequirementUrl: Pep508Url + PartialEq {
             → EachMayOverflow Self.may_overflow None (is_path path.now))) }
         ensures no_end { IfErr result (λ refusal. refusal ≢ SegmentAtEnd) };
 
-    /// The value of a URL as it is written.
+    /// The value of a URL as it is written. A URL that has a value is refused only for want of
+    /// memory, or by a fault of size; `SegmentAtEnd` never comes.
     fn parse_unnamed_url(alloc: Global, text: &str) -> Result<Self, Refusal<Self::Err>>
         ensures value { IfOk result (λ url. (folder : Option (List ℕ))
             → MakesNamed Self.names gives folder (is_url text.now) url) }
@@ -54,7 +57,7 @@ pub trait UnnamedRequirementUrl: Pep508Url + PartialEq {
             → EachMayOverflow Self.may_overflow folder (is_url text.now))) }
         ensures no_end { IfErr result (λ refusal. refusal ≢ SegmentAtEnd) };
 
-    /// The same value, given as a text.
+    /// The same value, given as a text: what it prints and is equal to stays.
     fn with_given(self, given: String) -> Self
         ensures gives { gives self (string_bytes given) result }
         ensures given { given_text result ≡ Some (string_bytes given) }

@@ -41,10 +41,8 @@ use url::{ParseError, ParseResult, Url};
 ///
 /// ```
 /// let url = VerbatimUrl::parse(rt.alloc(), "https://Example.org/a b")?;
-/// println!(rt; "{url}")?;
-/// if let Some(given) = url.given() {
-///     println!(rt; "given as {given}")?;
-/// }
+/// let given = url.given().unwrap_or("no text");
+/// println!(rt; "{url}, given as {given}")?;
 /// ```
 #[derive(Debug, Drop)]
 pub struct VerbatimUrl {
@@ -72,7 +70,10 @@ impl VerbatimUrl {
         VerbatimUrl { url, given: None }
     }
 
-    /// Reads a URL as it is, with no variables, and does not keep the text.
+    /// Reads a URL (the URL Standard) as it is, with no variables, and does not keep the text.
+    ///
+    /// A text that is no URL, and one whose URL is too large, is refused as a fault,
+    /// [`VerbatimUrlError::Url`]. `SegmentAtEnd` never comes.
     pub fn parse_url(alloc: Global, given: &str) -> Result<VerbatimUrl, Refusal<VerbatimUrlError>>
         ensures value { IfOk result (λ url. parse_url None given.now ≡ Ok url.url) }
         ensures given { IfOk result (λ url. url.given ≡ None) }
@@ -86,7 +87,10 @@ impl VerbatimUrl {
         }
     }
 
-    /// Reads a URL as it is, with no variables, and keeps the text.
+    /// Reads a URL (the URL Standard) as it is, with no variables, and keeps a copy of the text.
+    ///
+    /// A text that is no URL, and one whose URL is too large, is refused as a fault,
+    /// [`VerbatimUrlError::Url`]. `SegmentAtEnd` never comes.
     pub fn parse(alloc: Global, given: &str) -> Result<VerbatimUrl, Refusal<VerbatimUrlError>>
         ensures value { IfOk result (λ url. parse_url None given.now ≡ Ok url.url) }
         ensures given { IfOk result (λ url. url.given ≡ Some given.now) }
@@ -97,7 +101,13 @@ impl VerbatimUrl {
         Ok(url.with_given(String::from_str(alloc, given)?))
     }
 
-    /// The URL of a path. One that is not absolute starts from the folder `base`, which has to be.
+    /// The `file` URL of a path, given as no text. A path that is not absolute starts from the
+    /// folder `base`, which has to be, also where the path is absolute.
+    ///
+    /// The fault is [`VerbatimUrlError::WorkingDirectory`] with the base where that is not
+    /// absolute, [`VerbatimUrlError::Normalization`] with the path behind its base where a `..`
+    /// finds no folder to leave, and [`VerbatimUrlError::UrlConversion`] with that path, or
+    /// [`VerbatimUrlError::Url`], where the URL is too large. `SegmentAtEnd` never comes.
     pub fn from_path(
         alloc: Global,
         path: &str,
@@ -123,7 +133,10 @@ impl VerbatimUrl {
         from_whole_path(alloc, whole.as_str())
     }
 
-    /// The URL of an absolute path.
+    /// The `file` URL of an absolute path, given as no text.
+    ///
+    /// The fault is [`VerbatimUrlError::WorkingDirectory`] with the path where that is not
+    /// absolute, and else as [`VerbatimUrl::from_path`] says. `SegmentAtEnd` never comes.
     pub fn from_absolute_path(
         alloc: Global,
         path: &str,
@@ -141,7 +154,10 @@ impl VerbatimUrl {
         from_whole_path(alloc, path)
     }
 
-    /// The path of a `file` URL that names no host.
+    /// The path of a `file` URL that names no host, with its percent-escapes read.
+    ///
+    /// Of any other URL, and where the escapes give no text, the fault is
+    /// [`VerbatimUrlError::UrlConversion`] with the URL's text. `SegmentAtEnd` never comes.
     pub fn as_path(&self, alloc: Global) -> Result<String, Refusal<VerbatimUrlError>>
         ensures value { IfOk result (λ path. IsPathOf self.now.url (string_bytes path)) }
         ensures none { IfErr result (λ refusal. IfFault refusal (λ fault.
@@ -194,7 +210,7 @@ impl VerbatimUrl {
         &self.url
     }
 
-    /// A clone of the URL.
+    /// A clone of the URL. Only memory can run out.
     pub fn to_url(&self) -> Result<Url, AllocError>
         ensures { IfOk result (λ url. url ≡ self.now.url) }
     {

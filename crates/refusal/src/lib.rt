@@ -8,7 +8,8 @@ use std::alloc::{AllocError, AllocFailed};
 use std::fmt::{Debug, Display};
 use thiserror::Error;
 
-/// Why a call was refused. A refusal leaves every value that the call was lent as it was.
+/// Why a call was refused. The call says when each refusal comes, and what it leaves of what the
+/// call was lent.
 #[derive(Clone, Copy, Debug, Drop, PartialEq, Eq, Error)]
 #[error_bound(E: Display)]
 pub enum Refusal<E> {
@@ -42,7 +43,7 @@ impl<T: Drop, E> From<AllocFailed<T>> for Refusal<E> {
 }
 
 /// What a reader read, or nothing where what it was given is at fault. Any other refusal of it is
-/// want of memory, since it raises no number.
+/// want of memory, since it raises no number, and that alone is refused here too.
 pub fn unless_fault<T, E: Drop>(answer: Result<T, Refusal<E>>) -> Result<Option<T>, AllocError>
     requires { IfErr answer (λ refusal. refusal ≢ SegmentAtEnd) }
     ensures read { IfOk result (λ read. IfSome read (λ value. answer ≡ Ok value)) }

@@ -52,6 +52,7 @@ pub enum FaultKind {
 /// What is wrong with a requirement, and where. It prints as its message.
 #[derive(Debug, Drop, PartialEq, Eq)]
 pub struct Fault<'a> {
+    /// What is wrong there.
     pub kind: FaultKind,
     /// What stands at the place.
     pub piece: &'a str,

@@ -37,11 +37,15 @@ pub enum Body<'a> {
     Url(&'a str),
 }
 
-/// A requirement up to its marker.
+/// A requirement up to its marker (PEP 508, "Grammar"): what stands before `;`, or before the end
+/// of the text.
 #[derive(Debug, Drop)]
 pub struct Head<'a> {
+    /// The name of the package.
     pub name: PackageName,
+    /// The extras in brackets behind the name, in the order of the text.
     pub extras: Vec<ExtraName>,
+    /// What is asked of the versions.
     pub body: Body<'a>,
 }
 

@@ -15,13 +15,14 @@ use pep508_urls::split_extras;
 use refusal::Refusal;
 use std::alloc::Global;
 
-/// A requirement without a name, up to its marker.
+/// A requirement without a name, up to its marker: what stands before the end of its URL.
 #[derive(Debug, Drop)]
 pub struct UnnamedHead<'a> {
     /// The URL as it is written, with its extras.
     pub given: &'a str,
     /// The URL without its extras.
     pub url: &'a str,
+    /// The extras in brackets at the end of the URL, in the order of the text.
     pub extras: Vec<ExtraName>,
 }
 

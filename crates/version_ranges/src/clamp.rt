@@ -70,7 +70,7 @@ impl<T: Ord> Cut<T> {
 impl<T: Ord + Clone, V: Eq + Clone> Cuts<T, V> {
     /// The function with its points moved into a range: below the range it has the value of the
     /// first point, and above it the value that it has at every point of the range from some point
-    /// on. The range has a point.
+    /// on. The range has a point. Only memory can run out.
     pub fn clamped(
         &self,
         alloc: Global,
@@ -102,7 +102,7 @@ impl<T: Ord + Clone, V: Eq + Clone> Cuts<T, V> {
 }
 
 impl<T: Ord, V> Piece<'_, T, V> {
-    /// Whether a value lies in the piece.
+    /// Whether a value lies in the piece. This takes no memory.
     pub fn contains(&self, value: &T) -> bool
         ensures { result ≡ is_in_bounds T.cmp
             (bound_of self.now.lower) (bound_of self.now.upper) (at value.now) }

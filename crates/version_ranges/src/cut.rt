@@ -7,15 +7,19 @@ ghost use Rattle.version_ranges.specs.Point.{at};
 
 use std::cmp::Ordering;
 
-/// Where a piece begins: at a value, or right above it.
+/// The place where a piece of a function begins: at a value, or right above it. Cuts are ordered by
+/// their values, and at one value the place at it comes first.
 #[derive(Clone, PartialEq, Eq, PartialOrd, Ord, Hash, Drop)]
 pub struct Cut<T> {
+    /// The value that it stands at or above.
     pub value: T,
+    /// Whether it stands right above the value, and so the value is not in the piece.
     pub above: bool,
 }
 
 impl<T: Ord> Cut<T> {
-    // Whether the point of a value lies before this cut.
+    /// Whether the point of a value lies before this cut: where the value comes before that of the
+    /// cut, or ties with it and the cut stands above. This takes one comparison and no memory.
     pub fn is_after(&self, value: &T) -> bool
         ensures { result ≡ stands_before (λ v. v) T.cmp (at value.now) self.now }
     {

@@ -82,7 +82,7 @@ impl<T: Ord + Drop, V: Drop> Cuts<T, V> {
     ghost use Rattle.version_ranges.specs.Cuts.{piece_count, HasValuesInOrder, IsMerged};
 
     /// The pieces with these values in order, where neighbors with equal values are joined. There
-    /// is a value for each piece.
+    /// is a value for each piece. Only memory can run out.
     pub fn with_values<W: Eq + Drop>(self, values: Vec<W>) -> Result<Cuts<T, W>, AllocError>
         requires { vec_len values ≡ piece_count self }
         ensures value { IfOk result (λ r. HasValuesInOrder T.cmp W.eq self values.items r) }

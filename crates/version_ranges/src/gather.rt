@@ -18,7 +18,7 @@ use std::hash::Hash;
 
 impl<T: Ord + Drop, V: Eq + Clone> Cuts<T, V> {
     /// One value at the points of a set, and another at all other points. The cuts of the set move
-    /// into the function.
+    /// into the function. Only memory can run out.
     pub fn from_ranges(ranges: Ranges<T>, inside: V, outside: V) -> Result<Self, AllocError>
         requires value_clones { ClonesAreEqual V.eq V.is_clone }
         ensures value { IfOk result (λ r. (p : Point T) → V.eq (value_of T.cmp r p)
@@ -55,7 +55,7 @@ fn either<'a, V>(flag: bool, inside: &'a V, outside: &'a V) -> &'a V
 
 impl<T: Ord + Clone, V: Eq + Hash> Cuts<T, V> {
     /// Each value of the function with the set of the points that have it, in the order of their
-    /// first points. The bounds of the sets are those of the function.
+    /// first points. The bounds of the sets are those of the function. Only memory can run out.
     pub fn gather(&self, alloc: Global) -> Result<Vec<(&V, Ranges<T>)>, AllocError>
         requires clones { ClonesAreEqual T.eq T.is_clone }
         ensures gathered { IfOk result (λ r. IsGathered T.cmp V.eq self.now r.items) }

@@ -89,7 +89,9 @@ impl<T: Ord + Clone, V: Eq + Clone> Cuts<T, V> {
     ghost use Rattle.std.specs.Prelude.{◌≡◌, ◌+◌, ◌≤◌, true, IfOk};
     ghost use Rattle.version_ranges.specs.Bounds.{KeepsCutsOfBoth};
 
-    /// Both functions side by side, and how many pairs of cuts were compared to make this.
+    /// Both functions side by side, as one whose value at each point is the pair of theirs, and how
+    /// many pairs of cuts were compared to make it. Of functions of a and b pieces it has at most
+    /// a + b - 1, and at most a + b - 2 pairs were compared. Only memory can run out.
     pub fn overlay<W: Eq + Clone>(
         &self,
         alloc: Global,

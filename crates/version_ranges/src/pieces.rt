@@ -31,11 +31,15 @@ impl<T> Cut<T> {
     }
 }
 
-/// A piece of a function: the bounds that it lies between, and its value.
+/// A piece of a function: the points between two bounds, at each of which the function has one
+/// value. A piece is lent, and has a point.
 #[derive(Clone, Copy)]
 pub struct Piece<'a, T, V> {
+    /// Where the piece begins: at a value, right above one, or `Unbounded` for the first piece.
     pub lower: Bound<&'a T>,
+    /// Where it ends: with a value, right before one, or `Unbounded` for the last piece.
     pub upper: Bound<&'a T>,
+    /// The value of the function at each of its points.
     pub value: &'a V,
 }
 
@@ -86,7 +90,8 @@ impl<'a, T, V> Iterator for Pieces<'a, T, V> {
 impl<T: Ord, V> Cuts<T, V> {
     ghost use Rattle.version_ranges.specs.Parts.{parts_of, parts_left, ArePieces};
 
-    /// The pieces, in ascending order.
+    /// The pieces, in ascending order: the first begins below all values, each other one where the
+    /// one before it ends, and the last has no end. This takes no memory.
     pub fn pieces(&self) -> Pieces<'_, T, V>
         ensures items { parts_left result ≡ parts_of self.now }
         ensures pieces { ArePieces T.cmp self.now (parts_of self.now) }

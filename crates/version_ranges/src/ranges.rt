@@ -88,7 +88,8 @@ impl<T: Ord + Drop> Ranges<T> {
     ghost use Rattle.version_ranges.specs.Cut.{cut_cmp, stands_before};
     ghost use Rattle.version_ranges.specs.Ranges.{IsInterval, IsSet};
 
-    /// The set between two bounds, which is empty where they leave no point.
+    /// The set between two bounds, which is empty where they leave no point. Only memory can run
+    /// out.
     pub fn from_range_bounds(
         alloc: Global,
         bounds: (Bound<T>, Bound<T>),
@@ -111,7 +112,7 @@ impl<T: Ord + Drop> Ranges<T> {
         }
     }
 
-    /// The set of a value and all after it.
+    /// The set of a value and all after it. Only memory can run out.
     pub fn higher_than(alloc: Global, value: T) -> Result<Self, AllocError>
         ensures set { IfOk result (λ r. IsInterval T.cmp (Included value) Unbounded r) }
         ensures bounds { IfOk result (λ r. IsBoundedBy value r) }
@@ -119,7 +120,7 @@ impl<T: Ord + Drop> Ranges<T> {
         Ranges::from_range_bounds(alloc, (Bound::Included(value), Bound::Unbounded))
     }
 
-    /// The set of all after a value.
+    /// The set of all after a value. Only memory can run out.
     pub fn strictly_higher_than(alloc: Global, value: T) -> Result<Self, AllocError>
         ensures set { IfOk result (λ r. IsInterval T.cmp (Excluded value) Unbounded r) }
         ensures bounds { IfOk result (λ r. IsBoundedBy value r) }
@@ -127,7 +128,7 @@ impl<T: Ord + Drop> Ranges<T> {
         Ranges::from_range_bounds(alloc, (Bound::Excluded(value), Bound::Unbounded))
     }
 
-    /// The set of a value and all before it.
+    /// The set of a value and all before it. Only memory can run out.
     pub fn lower_than(alloc: Global, value: T) -> Result<Self, AllocError>
         ensures set { IfOk result (λ r. IsInterval T.cmp Unbounded (Included value) r) }
         ensures bounds { IfOk result (λ r. IsBoundedBy value r) }
@@ -135,7 +136,7 @@ impl<T: Ord + Drop> Ranges<T> {
         Ranges::from_range_bounds(alloc, (Bound::Unbounded, Bound::Included(value)))
     }
 
-    /// The set of all before a value.
+    /// The set of all before a value. Only memory can run out.
     pub fn strictly_lower_than(alloc: Global, value: T) -> Result<Self, AllocError>
         ensures set { IfOk result (λ r. IsInterval T.cmp Unbounded (Excluded value) r) }
         ensures bounds { IfOk result (λ r. IsBoundedBy value r) }
@@ -181,7 +182,7 @@ impl<T: Ord + Clone> Ranges<T> {
     ghost use Rattle.version_ranges.specs.Point.{is_one_of, is_value};
     ghost use Rattle.version_ranges.specs.Ranges.{contains_point, IsComplement, IsSet};
 
-    /// The set of one value.
+    /// The set of one value, which is cloned for its other bound. Only memory can run out.
     pub fn singleton(alloc: Global, value: T) -> Result<Self, AllocError>
         requires clones { ClonesAreEqual T.eq T.is_clone }
         ensures set { IfOk result (λ r. IsSet T.cmp r (is_value T.cmp value)) }
@@ -192,7 +193,8 @@ impl<T: Ord + Clone> Ranges<T> {
         Ranges::from_range_bounds(alloc, (Bound::Included(lower), Bound::Included(value)))
     }
 
-    /// The set of these values.
+    /// The set of these values, which may come in any order and more than once. Only memory can run
+    /// out.
     pub fn from_points(points: Vec<T>) -> Result<Self, AllocError>
         requires clones { ClonesAreEqual T.eq T.is_clone }
         ensures set { IfOk result (λ r. IsSet T.cmp r (is_one_of T.cmp points.items)) }
@@ -227,7 +229,7 @@ impl<T: Ord + Clone> Ranges<T> {
         })
     }
 
-    /// The points that are in one of two sets.
+    /// The points that are in one of two sets or in both. Only memory can run out.
     pub fn union(&self, alloc: Global, other: &Self) -> Result<Self, AllocError>
         requires clones { ClonesAreEqual T.eq T.is_clone }
         ensures set { IfOk result (λ r. IsSet T.cmp r
@@ -237,7 +239,7 @@ impl<T: Ord + Clone> Ranges<T> {
         self.taken_points(alloc, other, Taken::InEither)
     }
 
-    /// The points that are in both of two sets.
+    /// The points that are in both of two sets. Only memory can run out.
     pub fn intersection(&self, alloc: Global, other: &Self) -> Result<Self, AllocError>
         requires clones { ClonesAreEqual T.eq T.is_clone }
         ensures set { IfOk result (λ r. IsSet T.cmp r
@@ -247,7 +249,7 @@ impl<T: Ord + Clone> Ranges<T> {
         self.taken_points(alloc, other, Taken::InBoth)
     }
 
-    /// The points that are not in the set.
+    /// The points that are not in the set. Only memory can run out.
     pub fn complement(&self, alloc: Global) -> Result<Self, AllocError>
         requires clones { ClonesAreEqual T.eq T.is_clone }
         ensures set { IfOk result (λ r. IsComplement T.cmp self.now r) }

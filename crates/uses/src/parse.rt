@@ -2,20 +2,22 @@
 
 use anyhow::Result;
 use pep508_rs::{Interner, MarkerText, MarkerTree, Refusal, VerbatimUrl};
+use std::alloc::Global;
 
-// A marker, and the warnings of one.
-fn read(rt: &HostRuntime, interner: &mut Interner) -> Result<()> {
-    let marker = MarkerTree::parse_str::<VerbatimUrl>("os_name == 'nt'", interner)?;
-    println!(rt; "true everywhere: {}", marker.is_true())?;
+// Whether a marker is true everywhere, in an interner of its own.
+fn is_true_everywhere(alloc: Global, text: &str) -> Result<bool> {
+    let mut interner = Interner::new(alloc);
+    let marker = MarkerTree::parse_str::<VerbatimUrl>(text, &mut interner)?;
+    Ok(marker.is_true())
+}
 
+// A marker, and how many warnings there are of it.
+fn warned(rt: &HostRuntime, interner: &mut Interner) -> Result<()> {
     let mut warnings = Vec::new(rt.alloc());
     let text = "'posix' == 'nt'";
     let marker = MarkerTree::parse_reporter::<VerbatimUrl, _>(text, &mut warnings, interner)?;
-    println!(rt;
-        "true everywhere: {}, warnings: {}",
-        marker.is_true(),
-        warnings.len()
-    )?;
+    let is_true = marker.is_true();
+    println!(rt; "true everywhere: {is_true}, warnings: {}", warnings.len())?;
     Ok(())
 }
 
@@ -30,7 +32,10 @@ fn refused(rt: &HostRuntime, interner: &mut Interner) -> Result<()> {
 }
 
 pub fn run(rt: &HostRuntime) -> Result<()> {
-    let mut interner = Interner::new(rt.alloc());
-    read(rt, &mut interner)?;
+    let alloc = rt.alloc();
+    let is_true = is_true_everywhere(alloc, "os_name == 'nt' or os_name != 'nt'")?;
+    println!(rt; "true everywhere: {is_true}")?;
+    let mut interner = Interner::new(alloc);
+    warned(rt, &mut interner)?;
     refused(rt, &mut interner)
 }

@@ -1,0 +1,77 @@
+//! Requirements with a name and without one, their URLs, and their JSON.
+
+use anyhow::Result;
+use pep508_rs::{Interner, Requirement, Surroundings, UnnamedRequirement, VerbatimUrl};
+use std::collections::BTreeMap;
+
+const TEXT: &str = "Flask_Login[Dev] >= 2.0, < 3 ; os_name == 'nt'";
+
+// A requirement with a name.
+fn named(rt: &HostRuntime, surroundings: &Surroundings<'_>, interner: &mut Interner) -> Result<()> {
+    let requirement = Requirement::<VerbatimUrl>::parse(TEXT, surroundings, interner)?;
+    let count = requirement.extras.len();
+    println!(rt; "{} with {count} extra", requirement.name)?;
+    Ok(())
+}
+
+// A requirement as JSON, and read of it.
+fn written(
+    rt: &HostRuntime,
+    surroundings: &Surroundings<'_>,
+    interner: &mut Interner,
+) -> Result<()> {
+    let requirement = Requirement::<VerbatimUrl>::parse(TEXT, surroundings, interner)?;
+    let json = requirement.to_json(interner)?;
+    println!(rt; "{json}")?;
+    let again = Requirement::<VerbatimUrl>::from_json(&json, surroundings, interner)?;
+    println!(rt; "the same: {}", again == requirement)?;
+    Ok(())
+}
+
+// A requirement without a name.
+fn unnamed(
+    rt: &HostRuntime,
+    surroundings: &Surroundings<'_>,
+    interner: &mut Interner,
+) -> Result<()> {
+    let mut warnings = Vec::new(rt.alloc());
+    let requirement = UnnamedRequirement::<VerbatimUrl>::parse(
+        "./a.whl[dev] ; os_name == 'nt'",
+        surroundings,
+        &mut warnings,
+        interner,
+    )?;
+    println!(rt; "{}", requirement.try_to_string(interner)?)?;
+    Ok(())
+}
+
+// A URL that keeps the text that it was given as.
+fn url(rt: &HostRuntime) -> Result<()> {
+    let url = VerbatimUrl::parse(rt.alloc(), "https://Example.org/a b")?;
+    let given = url.given().unwrap_or("no text");
+    println!(rt; "{url}, given as {given}")?;
+    Ok(())
+}
+
+// All requirements in one interner.
+fn in_interner(
+    rt: &HostRuntime,
+    surroundings: &Surroundings<'_>,
+    interner: &mut Interner,
+) -> Result<()> {
+    named(rt, surroundings, interner)?;
+    written(rt, surroundings, interner)?;
+    unnamed(rt, surroundings, interner)
+}
+
+pub fn run(rt: &HostRuntime) -> Result<()> {
+    url(rt)?;
+    let vars = BTreeMap::new(rt.alloc());
+    let surroundings = Surroundings {
+        vars: &vars,
+        project_root: "/srv",
+        working_dir: Some("/srv"),
+    };
+    let mut interner = Interner::new(rt.alloc());
+    in_interner(rt, &surroundings, &mut interner)
+}
