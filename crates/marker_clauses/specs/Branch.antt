@@ -37,8 +37,8 @@ abbrev pub reaches : Valuation → (MarkerTree → Bool) → Branch → Bool
 reaches v test b = clauses_hold (clauses_of b.clauses.items) v && test b.child
 
 -- Each branch leads to one of these children, and where the premise holds, the clauses that hold at
--- a valuation lead to the child there, whatever is asked of it that `FALSE` does not pass: no branch
--- need lead to `FALSE`.
+-- a valuation lead to the child there, whatever is asked of it that `FALSE` does not pass, so that
+-- none need lead to `FALSE`.
 pub record LeadTo (Premise : Type 0) (child : Valuation → MarkerTree) (branches : List Branch)
     : Type 0 where
   pub each : (i : ℕ) (b : Branch) → slice_get branches i ≡ Some b
