@@ -26,6 +26,9 @@ use Rattle.marker_words.specs.declared.operator.MarkerOperator.{MarkerOperator}
 use Rattle.marker_words.specs.Compare.{text_cmp}
 use Rattle.marker_words.specs.Key.{variable_of}
 use Rattle.marker_parts.specs.Expression as asked
+use Rattle.marker_terms.proofs.PlainLaws.{each_pushed}
+use Rattle.std.proofs.lemmas.List.Folds.{list_any-append}
+use Rattle.marker_terms.specs.Clauses.{clauses_of}
 use Rattle.marker_parts.specs.Expression.{Overflows, holds, holds_extra, holds_text, test_of}
 use Rattle.std.specs.List.{list_any}
 use Rattle.version_ranges.specs.Bounds.{all_cuts}
@@ -62,7 +65,7 @@ use Rattle.marker_graph.specs.declared.tree.TheConstants.MarkerTree.{FALSE, TRUE
 use Rattle.marker_clauses.proofs.JoinLaws.{gathered_part, get_last, joined_leads, text_found, text_sets}
 use Rattle.marker_clauses.specs.declared.branch.Branch.{Branch}
 use Rattle.marker_clauses.specs.Readable.{IsPlainNode, IsPlainVariable}
-use Rattle.marker_clauses.specs.Branch.{extra_of_ref, reaches, AreBranches, AreTwo, HasReleases, HavePrintableBranches, IsBelow, IsOne, IsReleaseNode, LeadTo}
+use Rattle.marker_clauses.specs.Branch.{extra_of_ref, reaches, AreAnswers, AreBranches, HasReleases, HavePrintableBranches, IsAnswered, IsBelow, IsOne, IsReleaseNode, LeadTo}
 
 module _ (c : Contents) (store : IsStore markers c.nodes) (t : MarkerTree) (held : IsHeld c t) (n : Node) (node : node_of c t ≡ Some n) where
   child_below : (v : Valuation) → IsBelow c t (child_of t (value_at n v))
@@ -73,7 +76,7 @@ module _ (c : Contents) (store : IsStore markers c.nodes) (t : MarkerTree) (held
   pub lead_branches : (branches : List Branch) (Premise : Type 0) → (HasReleases c t → Premise) → (IsPlainNode n → HavePrintableBranches branches) → LeadTo Premise (λ v. child_of t (value_at n v)) branches → AreBranches c t branches
   lead_branches branches Premise premise plain h = record {
     each = λ i b e. let q = h.each i b e in subst (λ s. IsBelow c t s) (sym q.1) (child_below q.0);
-    mean = λ r ne v. h.leads (premise r) v (λ s. truth c s v) ∙ sym (truth_child markers c.nodes t.id n v (descends markers lawful c.nodes store) node);
+    mean = λ r ne v. h.leads (premise r) v (λ s. truth c s v) (false_is c.nodes v) ∙ sym (truth_child markers c.nodes t.id n v (descends markers lawful c.nodes store) node);
     printable = λ r. plain (r t n residue.itself node);
   }
 
@@ -83,19 +86,47 @@ module _ (c : Contents) (store : IsStore markers c.nodes) (t : MarkerTree) (held
 
 -- ---- truths
 
-module _ (first second : Branch) (positive negative : MarkerExpression) (high low : MarkerTree) (a : IsOne first positive high) (b : IsOne second negative low) where
-  ends : (x y : Bool) → ((((x && true) || false) && y) ≡ (x && y))
-  ends true y = refl
-  ends false y = refl
+ends : (x y : Bool) → ((((x && true) || false) && y) ≡ (x && y))
+ends true y = refl
+ends false y = refl
 
-  or_end : (x : Bool) → (x || false) ≡ x
-  or_end true = refl
-  or_end false = refl
+or_end : (x : Bool) → (x || false) ≡ x
+or_end true = refl
+or_end false = refl
 
-  two_reach : (v : Valuation) (test : MarkerTree → Bool) → list_any (λ b. reaches v test b) (first ∷ second ∷ []) ≡ ((term_holds positive v && test high) || (term_holds negative v && test low))
-  two_reach v test =
-      ap (λ x. x || (reaches v test second || false)) (ap (λ cs. clauses_hold cs v && test first.child) a.0 ∙ ends (term_holds positive v) (test first.child) ∙ ap (λ s. term_holds positive v && test s) a.1)
-      ∙ ap (λ x. (term_holds positive v && test high) || x) (or_end (reaches v test second) ∙ ap (λ cs. clauses_hold cs v && test second.child) b.0 ∙ ends (term_holds negative v) (test second.child) ∙ ap (λ s. term_holds negative v && test s) b.1)
+and_no : (x : Bool) → (x && false) ≡ false
+and_no true = refl
+and_no false = refl
+
+-- nothing that `FALSE` does not pass is reached through it
+pub skipped : (x : Bool) (test : MarkerTree → Bool) (t : MarkerTree) → t ≡ FALSE → test FALSE ≡ false → (x && test t) ≡ false
+skipped x test t f z = ap (λ s. x && test s) f ∙ ap (λ b. x && b) z ∙ and_no x
+
+module _ (q : asked.Test) (t : MarkerTree) (old new : List Branch) where
+  -- what the branches reach with one more
+  answered_reach : IsAnswered q t old new → (v : Valuation) (test : MarkerTree → Bool) → test FALSE ≡ false → list_any (λ b. reaches v test b) new ≡ (list_any (λ b. reaches v test b) old || (holds q v && test t))
+  answered_reach (inl (f, e)) v test z =
+      ap (list_any (λ b. reaches v test b)) e
+      ∙ sym (ap (λ x. list_any (λ b. reaches v test b) old || x) (ap (λ s. holds q v && test s) f ∙ ap (λ x. holds q v && x) z ∙ and_no (holds q v)) ∙ or_end (list_any (λ b. reaches v test b) old))
+  answered_reach (inr r) v test z =
+      ap (list_any (λ b. reaches v test b)) r.2 ∙ list_any-append (λ b. reaches v test b) old (r.0 ∷ [])
+      ∙ ap (λ x. list_any (λ b. reaches v test b) old || x)
+      (or_end (reaches v test r.0) ∙ ap (λ cs. clauses_hold cs v && test r.0.child) r.4.0 ∙ ends (term_holds r.1 v) (test r.0.child) ∙ ap (λ s. term_holds r.1 v && test s) r.4.1 ∙ ap (λ x. holds x v && test t) r.3)
+
+  -- where they lead
+  answered_each : IsAnswered q t old new → (i : ℕ) (b : Branch) → slice_get new i ≡ Some b → (slice_get old i ≡ Some b) ⊎ (b.child ≡ t)
+  answered_each (inl (f, e)) i b g = inl (ap (λ xs. slice_get xs i) (sym e) ∙ g)
+  answered_each (inr r) i b g = by_place (get_last old r.0 i b (ap (λ xs. slice_get xs i) (sym r.2) ∙ g))
+    where
+      by_place : (slice_get old i ≡ Some b) ⊎ (r.0 ≡ b) → (slice_get old i ≡ Some b) ⊎ (b.child ≡ t)
+      by_place (inl h) = inl h
+      by_place (inr h) = inr (ap (λ (y : Branch). y.child) (sym h) ∙ r.4.1)
+
+  -- what can be printed
+  answered_printable : IsAnswered q t old new → ((term : MarkerExpression) → test_of term ≡ q → IsPrintable term) → HavePrintableBranches old → HavePrintableBranches new
+  answered_printable (inl (f, e)) p h = subst HavePrintableBranches (sym e) h
+  answered_printable (inr r) p h =
+      each_pushed (λ (x : Branch). HavePrintableTerms (clauses_of x.clauses.items)) old new r.0 r.2 h (subst HavePrintableTerms (sym r.4.0) ((p r.1 r.3, tt), tt))
 
 so_lowest : (x : TruthVariable) → answer x lowest ≡ true
 so_lowest (In x s) = refl
@@ -117,29 +148,26 @@ chosen true f p q = by_own (f p)
     by_own false = refl
 chosen false f p q = refl
 
-pub two_lead : (x : TruthVariable) (t : MarkerTree) (so other : NodeId) (branches : List Branch) (positive negative : MarkerExpression) (high low : MarkerTree) →
-    AreTwo branches positive high negative low → high ≡ child_of t so → low ≡ child_of t other →
-    ((v : Valuation) → term_holds positive v ≡ answer x v) → ((v : Valuation) → term_holds negative v ≡ not (answer x v)) →
-    LeadTo (Unit {0}) (λ v. child_of t (value_at (Truth x so other) v)) branches
-two_lead x t so other branches positive negative high low two h l p n =
-    subst (LeadTo (Unit {0}) (λ v. child_of t (value_at (Truth x so other) v))) (sym two.2) record {
-      each = by_place;
-      leads = λ u v test.
-          two_reach two.0 two.1 positive negative high low two.3 two.4 v test
-          ∙ ap (λ b. (b && test high) || (term_holds negative v && test low)) (p v) ∙ ap (λ b. (answer x v && test high) || (b && test low)) (n v)
-          ∙ ap (λ s. (answer x v && test s) || (not (answer x v) && test low)) h ∙ ap (λ s. (answer x v && test (child_of t so)) || (not (answer x v) && test s)) l
-          ∙ chosen (answer x v) (λ i. test (child_of t i)) so other;
-    }
+two_lead : (x : TruthVariable) (t : MarkerTree) (so other : NodeId) (none one two : List Branch) (p n : asked.Test) (high low : MarkerTree) →
+    none ≡ [] → IsAnswered p high none one → IsAnswered n low one two → high ≡ child_of t so → low ≡ child_of t other →
+    ((v : Valuation) → holds p v ≡ answer x v) → ((v : Valuation) → holds n v ≡ not (answer x v)) →
+    LeadTo (Unit {0}) (λ v. child_of t (value_at (Truth x so other) v)) two
+two_lead x t so other none one two p n high low z a b h l ph nh = record {
+  each = λ i d e. by_second i d (answered_each n low one two b i d e);
+  leads = λ u v test f.
+      answered_reach n low one two b v test f ∙ ap (λ y. y || (holds n v && test low)) (answered_reach p high none one a v test f ∙ ap (λ bs. list_any (λ b. reaches v test b) bs || (holds p v && test high)) z)
+      ∙ ap (λ b. (b && test high) || (holds n v && test low)) (ph v) ∙ ap (λ b. (answer x v && test high) || (b && test low)) (nh v)
+      ∙ ap (λ s. (answer x v && test s) || (not (answer x v) && test low)) h ∙ ap (λ s. (answer x v && test (child_of t so)) || (not (answer x v) && test s)) l
+      ∙ chosen (answer x v) (λ i. test (child_of t i)) so other;
+}
   where
-    by_place : (i : ℕ) (b : Branch) → slice_get (two.0 ∷ two.1 ∷ []) i ≡ Some b → (v : Valuation) × (b.child ≡ child_of t (value_at (Truth x so other) v))
-    by_place zero b e = (lowest, ap (λ (y : Branch). y.child) (sym (same_some two.0 b e)) ∙ two.3.1 ∙ h ∙ ap (λ y. child_of t (cond y so other)) (sym (so_lowest x)))
-    by_place (suc zero) b e = (denied, ap (λ (y : Branch). y.child) (sym (same_some two.1 b e)) ∙ two.4.1 ∙ l ∙ ap (λ y. child_of t (cond y so other)) (sym (not_denied x)))
-    by_place (suc (suc i)) b e = none_some b e
+    by_first : (i : ℕ) (d : Branch) → (slice_get none i ≡ Some d) ⊎ (d.child ≡ high) → (v : Valuation) × (d.child ≡ child_of t (value_at (Truth x so other) v))
+    by_first i d (inl e) = none_some d (ap (λ bs. slice_get bs i) (sym z) ∙ e)
+    by_first i d (inr e) = (lowest, e ∙ h ∙ ap (λ y. child_of t (cond y so other)) (sym (so_lowest x)))
 
--- two branches of printable terms
-two_printable : (branches : List Branch) (positive negative : MarkerExpression) (high low : MarkerTree) → AreTwo branches positive high negative low → IsPrintable positive → IsPrintable negative → HavePrintableBranches branches
-two_printable branches positive negative high low two p n =
-    subst HavePrintableBranches (sym two.2) (subst HavePrintableTerms (sym two.3.0) ((p, tt), tt), (subst HavePrintableTerms (sym two.4.0) ((n, tt), tt), tt))
+    by_second : (i : ℕ) (d : Branch) → (slice_get one i ≡ Some d) ⊎ (d.child ≡ low) → (v : Valuation) × (d.child ≡ child_of t (value_at (Truth x so other) v))
+    by_second i d (inl e) = by_first i d (answered_each p high none one a i d e)
+    by_second i d (inr e) = (denied, e ∙ l ∙ ap (λ y. child_of t (cond y so other)) (sym (not_denied x)))
 
 module _ (c : Contents) (store : IsStore markers c.nodes) (t : MarkerTree) (held : IsHeld c t) where
   -- the branches of a marker that asks about a version, or about a text
@@ -159,21 +187,15 @@ module _ (c : Contents) (store : IsStore markers c.nodes) (t : MarkerTree) (held
       (subst (λ s. LeadTo ⊤ (λ v. child_of s (value_by string_bytes text_cmp view.cuts.now (v.text view.variable))) bs.items) k.1 h)
 
   -- the branches of a marker that asks for a truth
-  pub truth_branches : (x : TruthVariable) (high low : MarkerTree) → AsksForTruth c t x high low → (positive negative : MarkerExpression) →
-      ((v : Valuation) → term_holds positive v ≡ answer x v) → ((v : Valuation) → term_holds negative v ≡ not (answer x v)) →
-      (IsPlainVariable (truth_variable x) → IsPrintable positive) → (IsPlainVariable (truth_variable x) → IsPrintable negative) →
-      (branches : List Branch) → AreTwo branches positive high negative low → AreBranches c t branches
-  truth_branches x high low asks positive negative p n so other branches two =
-      lead_branches c store t held (Truth x asks.0 asks.1) asks.2 branches (Unit {0}) (λ r. tt) (λ h. two_printable branches positive negative high low two (so h) (other h))
-      (two_lead x t asks.0 asks.1 branches positive negative high low two asks.3 asks.4 p n)
-
-  pub truth_result : {A : Type 0} (x : TruthVariable) (high low so other : MarkerTree) → AsksForTruth c t x so other → high ≡ so → low ≡ other → (positive negative : MarkerExpression) →
-      ((v : Valuation) → term_holds positive v ≡ answer x v) → ((v : Valuation) → term_holds negative v ≡ not (answer x v)) →
-      (IsPlainVariable (truth_variable x) → IsPrintable positive) → (IsPlainVariable (truth_variable x) → IsPrintable negative) →
-      (r : Result (Vec Branch A) AllocError) → IfOk r (λ bs. AreTwo bs.items positive high negative low) → IfOk r (λ bs. AreBranches c t bs.items)
-  truth_result x high low so other asks e f positive negative p n i j (Err z) h = h
-  truth_result x high low so other asks e f positive negative p n i j (Ok bs) h =
-      truth_branches x high low (asks.0, asks.1, asks.2, e ∙ asks.3, f ∙ asks.4) positive negative p n i j bs.items h
+  pub truth_result : {A : Type 0} (x : TruthVariable) (high low so other : MarkerTree) → AsksForTruth c t x so other → high ≡ so → low ≡ other → (p n : asked.Test) →
+      ((v : Valuation) → holds p v ≡ answer x v) → ((v : Valuation) → holds n v ≡ not (answer x v)) →
+      (IsPlainVariable (truth_variable x) → (term : MarkerExpression) → test_of term ≡ p → IsPrintable term) → (IsPlainVariable (truth_variable x) → (term : MarkerExpression) → test_of term ≡ n → IsPrintable term) →
+      (r : Result (Vec Branch A) AllocError) → IfOk r (λ bs. AreAnswers p high n low bs.items) → IfOk r (λ bs. AreBranches c t bs.items)
+  truth_result x high low so other asks e f p n ph nh pp np (Err z) h = h
+  truth_result x high low so other asks e f p n ph nh pp np (Ok bs) h =
+      lead_branches c store t held (Truth x asks.0 asks.1) asks.2 bs.items (Unit {0}) (λ r. tt)
+      (λ plain. answered_printable n low h.0 bs.items h.2 (np plain) (answered_printable p high [] h.0 h.1 (pp plain) tt))
+      (two_lead x t asks.0 asks.1 [] h.0 bs.items p n high low refl h.1 h.2 (e ∙ asks.3) (f ∙ asks.4) ph nh)
 
 -- a marker without branches
 pub no_branches : (c : Contents) (t : MarkerTree) (branches : List Branch) → branches ≡ [] → (t ≢ TRUE → (v : Valuation) → truth c t v ≡ false) → AreBranches c t branches
@@ -198,9 +220,8 @@ modern_is texts.PlatformSystem = refl
 modern_is texts.PlatformVersion = refl
 modern_is texts.SysPlatform = refl
 
-module _ (o : MarkerOperator) (term : MarkerExpression) (key : MarkerValueString) (x : TextVariable) (value bytes : List ℕ) (t : test_of term ≡ asked.text key o value) (k : key ≡ modern_key x) (b : value ≡ bytes) (v : Valuation) where
-  pub test_holds : term_holds term v ≡ holds_text o (modern_key x) bytes v
-  test_holds = ap (λ z. holds z v) t ∙ ap (λ z. holds_text o z value v) k ∙ ap (λ z. holds_text o (modern_key x) z v) b
+pub test_holds : (o : MarkerOperator) (key : MarkerValueString) (x : TextVariable) (value bytes : List ℕ) → key ≡ modern_key x → value ≡ bytes → (v : Valuation) → holds (asked.text key o value) v ≡ holds_text o (modern_key x) bytes v
+test_holds o key x value bytes k b v = ap (λ z. holds_text o z value v) k ∙ ap (λ z. holds_text o (modern_key x) z v) b
 
 pub inside_is : (x : TextVariable) (bytes : List ℕ) (v : Valuation) → v.inside (variable_of (modern_key x)) bytes ≡ v.inside x bytes
 inside_is x bytes v = ap (λ y. v.inside y bytes) (modern_is x)
@@ -237,7 +258,7 @@ module _ (tree : MarkerTree) (branches : List Branch) {a : _} {b : _} {c : _} {a
   pub version_lead : (x : VersionVariable) (cuts : Cuts Parts NodeId a b c) (pairs : List (Bor NodeId × Ranges Parts a' b' c')) → IsGathered version_cmp same_id cuts pairs →
       ((i : ℕ) (part : Part Parts NodeId) → slice_get (parts_of cuts) i ≡ Some part → (p : Point Parts) × IsIn version_cmp part p × (value_of version_cmp cuts p ≡ part.value)) →
       ((i : ℕ) (d : Branch) → slice_get branches i ≡ Some d → (j : ℕ) × (q : Bor NodeId × Ranges Parts a' b' c') × (slice_get pairs j ≡ Some q) × (d.child ≡ child_of tree q.0.now)) →
-      (all_cuts is_release cuts ≡ true → (v : Valuation) (test : MarkerTree → Bool) →
+      (all_cuts is_release cuts ≡ true → (v : Valuation) (test : MarkerTree → Bool) → test FALSE ≡ false →
       list_any (λ b. reaches v test b) branches ≡ list_any (λ q. contains_point version_cmp q.1 (v.version x) && test (child_of tree q.0.now)) pairs) →
       LeadTo (all_cuts is_release cuts ≡ true) (λ v. child_of tree (value_of version_cmp cuts (v.version x))) branches
   version_lead x cuts pairs h inhabited each leads = record {
@@ -246,15 +267,15 @@ module _ (tree : MarkerTree) (branches : List Branch) {a : _} {b : _} {c : _} {a
         let m = gathered_part version_cmp cuts pairs h r.0 r.1 r.2 in
         let p = inhabited m.0 m.1 m.2 in
         (at_version p.0, r.3 ∙ ap (child_of tree) (sym m.3 ∙ sym p.2));
-    leads = λ r v test.
+    leads = λ r v test z.
         let k = h.covers (v.version x) in
-        leads r v test ∙ joined_leads pairs (λ q. contains_point version_cmp q.1 (v.version x)) (λ q. q.0.now) (value_of version_cmp cuts (v.version x)) (λ i q e. h.sets i q e (v.version x)) k.0 k.1 k.2 k.3 (λ w. test (child_of tree w));
+        leads r v test z ∙ joined_leads pairs (λ q. contains_point version_cmp q.1 (v.version x)) (λ q. q.0.now) (value_of version_cmp cuts (v.version x)) (λ i q e. h.sets i q e (v.version x)) k.0 k.1 k.2 k.3 (λ w. test (child_of tree w));
   }
 
   pub text_lead : (x : TextVariable) (cuts : Cuts (String Global) NodeId a b c) (pairs : List (Bor NodeId × Ranges (String Global) a' b' c')) → IsGathered string_cmp same_id cuts pairs →
       ((i : ℕ) (part : Part (String Global) NodeId) → slice_get (parts_of cuts) i ≡ Some part → (p : Point (String Global)) × IsIn string_cmp part p × (value_of string_cmp cuts p ≡ part.value)) →
       ((i : ℕ) (d : Branch) → slice_get branches i ≡ Some d → (j : ℕ) × (q : Bor NodeId × Ranges (String Global) a' b' c') × (slice_get pairs j ≡ Some q) × (d.child ≡ child_of tree q.0.now)) →
-      ((v : Valuation) (test : MarkerTree → Bool) →
+      ((v : Valuation) (test : MarkerTree → Bool) → test FALSE ≡ false →
       list_any (λ b. reaches v test b) branches ≡ list_any (λ q. contains_by string_bytes text_cmp q.1 (v.text x) && test (child_of tree q.0.now)) pairs) →
       LeadTo ⊤ (λ v. child_of tree (value_by string_bytes text_cmp cuts (v.text x))) branches
   text_lead x cuts pairs h inhabited each leads = record {
@@ -265,7 +286,7 @@ module _ (tree : MarkerTree) (branches : List Branch) {a : _} {b : _} {c : _} {a
           at_text (point_map string_bytes p.0),
           r.3 ∙ ap (child_of tree) (sym m.3 ∙ sym p.2 ∙ sym (value_by_name string_bytes string_cmp text_cmp string_cmp_total nat_list_cmp_total (λ y z. refl) cuts p.0)),
         );
-    leads = λ r v test.
+    leads = λ r v test z.
         let k = text_found cuts pairs h (v.text x) in
-        leads v test ∙ joined_leads pairs (λ q. contains_by string_bytes text_cmp q.1 (v.text x)) (λ q. q.0.now) (value_by string_bytes text_cmp cuts (v.text x)) (λ i q e. text_sets cuts pairs h (v.text x) i q e) k.0 k.1 k.2 k.3 (λ w. test (child_of tree w));
+        leads v test z ∙ joined_leads pairs (λ q. contains_by string_bytes text_cmp q.1 (v.text x)) (λ q. q.0.now) (value_by string_bytes text_cmp cuts (v.text x)) (λ i q e. text_sets cuts pairs h (v.text x) i q e) k.0 k.1 k.2 k.3 (λ w. test (child_of tree w));
   }

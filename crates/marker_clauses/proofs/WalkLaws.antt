@@ -25,7 +25,7 @@ and_assoc : (a b c : Bool) → ((a && b) && c) ≡ (a && (b && c))
 and_assoc true b c = refl
 and_assoc false b c = refl
 
-and_end : (a : Bool) → (a && true) ≡ a
+pub and_end : (a : Bool) → (a && true) ≡ a
 and_end true = refl
 and_end false = refl
 

@@ -1,10 +1,11 @@
 -- What a marker asks first, as clauses for each subtree.
-use Rattle.std.specs.Prelude.{◌≡◌, ◌≢◌, ◌<◌, ◌&&◌, ℕ, ⊤, Bool, true, List, [], ◌∷◌, Some, slice_get, string_bytes}
+use Rattle.std.specs.Prelude.{◌≡◌, ◌≢◌, ◌⊎◌, ◌<◌, ◌&&◌, ◌++◌, ℕ, ⊤, Bool, true, false, List, [], ◌∷◌, Some, slice_get, string_bytes}
 use Rattle.std.specs.List.{AllByRecursion, list_any}
 use Rattle.version_ranges.specs.Bounds.{all_cuts}
 use Rattle.pep440_rs.specs.Bounds.{is_release}
 use Rattle.marker_environment.specs.Valuation.{Valuation}
 use Rattle.marker_parts.specs.Expression as asked
+use Rattle.marker_parts.specs.Expression.{test_of}
 use Rattle.marker_parts.specs.declared.expression.MarkerExpression.{MarkerExpression}
 use Rattle.marker_terms.specs.Clauses.{clauses_hold, clauses_of}
 use Rattle.marker_terms.specs.Plain.{HavePrintableTerms}
@@ -14,7 +15,7 @@ use Rattle.marker_nodes.specs.declared.node.Branches.TheVariants.{Version, Text,
 use Rattle.marker_graph.specs.declared.kind.MarkerValueExtraRef.{MarkerValueExtraRef}
 use Rattle.marker_graph.specs.declared.kind.MarkerValueExtraRef.TheVariants as extras
 use Rattle.marker_graph.specs.declared.tree.MarkerTree.{MarkerTree}
-use Rattle.marker_graph.specs.declared.tree.TheConstants.MarkerTree.{TRUE}
+use Rattle.marker_graph.specs.declared.tree.TheConstants.MarkerTree.{FALSE, TRUE}
 use Rattle.marker_graph.specs.Contents.{Contents, IsHeld, truth}
 use Rattle.marker_graph.specs.Tree.{node_of, IsSubtree}
 use Rattle.marker_clauses.specs.declared.branch.Branch.{Branch}
@@ -36,12 +37,13 @@ abbrev pub reaches : Valuation → (MarkerTree → Bool) → Branch → Bool
 reaches v test b = clauses_hold (clauses_of b.clauses.items) v && test b.child
 
 -- Each branch leads to one of these children, and where the premise holds, the clauses that hold at
--- a valuation lead to the child there, whatever is asked of it.
+-- a valuation lead to the child there, whatever is asked of it that `FALSE` does not pass, so that
+-- none need lead to `FALSE`.
 pub record LeadTo (Premise : Type 0) (child : Valuation → MarkerTree) (branches : List Branch)
     : Type 0 where
   pub each : (i : ℕ) (b : Branch) → slice_get branches i ≡ Some b
       → (v : Valuation) × (b.child ≡ child v)
-  pub leads : Premise → (v : Valuation) (test : MarkerTree → Bool)
+  pub leads : Premise → (v : Valuation) (test : MarkerTree → Bool) → test FALSE ≡ false
       → list_any (λ b. reaches v test b) branches ≡ test (child v)
 
 -- each term of each clause of the branches is read back as it is printed
@@ -65,11 +67,16 @@ pub record AreBranches (c : Contents) (t : MarkerTree) (branches : List Branch) 
 abbrev pub IsOne : Branch → MarkerExpression → MarkerTree → Type 0
 IsOne b term t = (clauses_of b.clauses.items ≡ (term ∷ []) ∷ []) × (b.child ≡ t)
 
--- two branches of one term each
-abbrev pub AreTwo : List Branch → MarkerExpression → MarkerTree → MarkerExpression → MarkerTree
-    → Type 0
-AreTwo branches positive high negative low = (first : Branch) × (second : Branch)
-    × (branches ≡ first ∷ second ∷ []) × IsOne first positive high × IsOne second negative low
+-- a branch more, of one comparison, where it does not lead to `FALSE`
+abbrev pub IsAnswered : asked.Test → MarkerTree → List Branch → List Branch → Type 0
+IsAnswered test t old new = ((t ≡ FALSE) × (new ≡ old))
+    ⊎ ((b : Branch) × (term : MarkerExpression) × (new ≡ old ++ b ∷ [])
+    × (test_of term ≡ test) × IsOne b term t)
+
+-- the branches of two comparisons
+abbrev pub AreAnswers : asked.Test → MarkerTree → asked.Test → MarkerTree → List Branch → Type 0
+AreAnswers positive high negative low branches = (first : List Branch)
+    × IsAnswered positive high [] first × IsAnswered negative low first branches
 
 -- what stands beside `extra`, lent
 abbrev pub extra_of_ref : MarkerValueExtraRef → asked.Extra

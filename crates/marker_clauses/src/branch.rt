@@ -1,11 +1,12 @@
 //! What a marker asks first, as clauses for each subtree.
 
-ghost use Rattle.std.specs.Prelude.{◌≡◌, IfOk, string_bytes, true, ⊤};
+ghost use Rattle.std.specs.Prelude.{◌≡◌, IfOk, OnOk, string_bytes, true, ⊤};
 ghost use Rattle.version_ranges.specs.Bounds.{all_cuts};
 ghost use Rattle.version_ranges.specs.Cuts.{value_by, value_of};
 ghost use Rattle.pep440_version.specs.Order.{version_cmp};
 ghost use Rattle.pep440_rs.specs.Bounds.{is_release};
 ghost use Rattle.marker_words.specs.Compare.{text_cmp};
+ghost use Rattle.marker_words.specs.declared.operator.ExtraOperator.TheVariants as operators;
 ghost use Rattle.marker_parts.specs.Expression as asked;
 ghost use Rattle.marker_parts.specs.Expression.{test_of};
 ghost use Rattle.marker_nodes.specs.Variable.{truth_variable};
@@ -13,7 +14,7 @@ ghost use Rattle.marker_terms.specs.Plain.{IsPlainExtra, is_plain};
 ghost use Rattle.marker_graph.specs.Contents.{IsHeld};
 ghost use Rattle.marker_graph.specs.Edges.{child_of};
 ghost use Rattle.marker_graph.specs.Kind.{extra_question};
-ghost use Rattle.marker_clauses.specs.Branch.{AreBranches, AreTwo, HavePrintableBranches, IsOne, LeadTo, extra_of_ref};
+ghost use Rattle.marker_clauses.specs.Branch.{AreAnswers, AreBranches, HavePrintableBranches, IsAnswered, IsOne, LeadTo, extra_of_ref};
 ghost use Rattle.marker_clauses.specs.Readable.{IsPlainVariable};
 
 use marker_graph::{
@@ -34,9 +35,9 @@ pub(crate) struct Branch {
     pub(crate) child: MarkerTree,
 }
 
-/// The subtrees of a marker with the clauses that lead to them, in the order of their first edges;
-/// `TRUE` and `FALSE` have none. Edges with one subtree are joined, and where a truth is asked for
-/// the subtree where it is so comes first.
+/// The subtrees of a marker but for `FALSE`, with the clauses that lead to them, in the order of
+/// their first edges; `TRUE` and `FALSE` have none. Edges with one subtree are joined, and where a
+/// truth is asked for the subtree where it is so comes first.
 pub(crate) fn branches(interner: &Interner, tree: MarkerTree) -> Result<Vec<Branch>, AllocError>
     requires { IsHeld interner.now tree }
     ensures { IfOk result (λ branches. AreBranches interner.now tree branches.items) }
@@ -48,21 +49,23 @@ pub(crate) fn branches(interner: &Interner, tree: MarkerTree) -> Result<Vec<Bran
         MarkerTreeKind::False => Ok(Vec::new(alloc)),
         MarkerTreeKind::Version(view) => version_branches(alloc, view),
         MarkerTreeKind::String(view) => text_branches(alloc, view),
-        MarkerTreeKind::In(view) => {
-            let positive = text_test(alloc, view.key(), MarkerOperator::In, view.value())?;
-            let negative = text_test(alloc, view.key(), MarkerOperator::NotIn, view.value())?;
-            two(alloc, positive, view.edge(true), negative, view.edge(false))
-        }
-        MarkerTreeKind::Contains(view) => {
-            let positive = text_test(alloc, view.key(), MarkerOperator::Contains, view.value())?;
-            let negative = text_test(alloc, view.key(), MarkerOperator::NotContains, view.value())?;
-            two(alloc, positive, view.edge(true), negative, view.edge(false))
-        }
+        MarkerTreeKind::In(view) => text_answers(
+            alloc,
+            view.key(),
+            view.value(),
+            (MarkerOperator::In, view.edge(true)),
+            (MarkerOperator::NotIn, view.edge(false)),
+        ),
+        MarkerTreeKind::Contains(view) => text_answers(
+            alloc,
+            view.key(),
+            view.value(),
+            (MarkerOperator::Contains, view.edge(true)),
+            (MarkerOperator::NotContains, view.edge(false)),
+        ),
         MarkerTreeKind::Extra(view) => {
-            let positive = extra_test(ExtraOperator::Equal, view.name())?;
-            let negative = extra_test(ExtraOperator::NotEqual, view.name())?;
             names_are_normal(view.name());
-            two(alloc, positive, view.edge(true), negative, view.edge(false))
+            extra_answers(alloc, view.name(), view.edge(true), view.edge(false))
         }
     }
 }
@@ -81,8 +84,11 @@ fn version_branches(alloc: Global, view: VersionMarkerTree<'_>) -> Result<Vec<Br
     pieces_have_the_values_of_points(cuts);
     let joined = cuts.gather(alloc)?;
     for (child, set) in &joined {
-        let clauses = version_clauses(alloc, view.variable(), set)?;
         let child = view.subtree(**child);
+        if child.is_false() {
+            continue;
+        }
+        let clauses = version_clauses(alloc, view.variable(), set)?;
         branches.push(Branch { clauses, child })?;
     }
     Ok(branches)
@@ -103,29 +109,88 @@ fn text_branches(alloc: Global, view: StringMarkerTree<'_>) -> Result<Vec<Branch
     pieces_have_the_values_of_points(cuts);
     let joined = cuts.gather(alloc)?;
     for (child, set) in &joined {
-        let clauses = text_clauses(alloc, view.key(), set)?;
         let child = view.subtree(**child);
+        if child.is_false() {
+            continue;
+        }
+        let clauses = text_clauses(alloc, view.key(), set)?;
         branches.push(Branch { clauses, child })?;
     }
     Ok(branches)
 }
 
-// Two branches of one term each.
-fn two(
+// The branches of a comparison with a text and of its negation.
+fn text_answers(
     alloc: Global,
-    positive: MarkerExpression,
+    key: MarkerValueString,
+    text: &str,
+    positive: (MarkerOperator, MarkerTree),
+    negative: (MarkerOperator, MarkerTree),
+) -> Result<Vec<Branch>, AllocError>
+    ensures { IfOk result (λ branches. AreAnswers (asked.text key positive.0 text.now) positive.1
+        (asked.text key negative.0 text.now) negative.1 branches.items) }
+{
+    let mut branches = Vec::with_capacity(alloc, 2)?;
+    add_text_test(&mut branches, key, positive.0, text, positive.1)?;
+    add_text_test(&mut branches, key, negative.0, text, negative.1)?;
+    Ok(branches)
+}
+
+// The branches of a comparison with an extra and of its negation.
+fn extra_answers(
+    alloc: Global,
+    extra: MarkerValueExtraRef<'_>,
     high: MarkerTree,
-    negative: MarkerExpression,
     low: MarkerTree,
 ) -> Result<Vec<Branch>, AllocError>
-    ensures { IfOk result (λ branches. AreTwo branches.items positive high negative low) }
+    ensures { IfOk result (λ branches. AreAnswers
+        (asked.extra operators.Equal (extra_of_ref extra.entry)) high
+        (asked.extra operators.NotEqual (extra_of_ref extra.entry)) low branches.items) }
 {
-    let first = one(alloc, positive, high)?;
-    let second = one(alloc, negative, low)?;
     let mut branches = Vec::with_capacity(alloc, 2)?;
-    branches.push(first)?;
-    branches.push(second)?;
+    add_extra_test(&mut branches, ExtraOperator::Equal, extra, high)?;
+    add_extra_test(&mut branches, ExtraOperator::NotEqual, extra, low)?;
     Ok(branches)
+}
+
+// Adds the branch of a comparison with a text, unless it leads to `FALSE`.
+fn add_text_test(
+    branches: &mut Vec<Branch>,
+    key: MarkerValueString,
+    operator: MarkerOperator,
+    text: &str,
+    child: MarkerTree,
+) -> Result<(), AllocError>
+    ensures { OnOk result (IsAnswered (asked.text key operator text.now) child
+        branches.old.items branches.new.items) }
+{
+    if child.is_false() {
+        return Ok(());
+    }
+    let alloc = *branches.allocator();
+    let term = text_test(alloc, key, operator, text)?;
+    let branch = one(alloc, term, child)?;
+    branches.push(branch)?;
+    Ok(())
+}
+
+// Adds the branch of a comparison with an extra, unless it leads to `FALSE`.
+fn add_extra_test(
+    branches: &mut Vec<Branch>,
+    operator: ExtraOperator,
+    extra: MarkerValueExtraRef<'_>,
+    child: MarkerTree,
+) -> Result<(), AllocError>
+    ensures { OnOk result (IsAnswered (asked.extra operator (extra_of_ref extra.entry)) child
+        branches.old.items branches.new.items) }
+{
+    if child.is_false() {
+        return Ok(());
+    }
+    let term = extra_test(operator, extra)?;
+    let branch = one(*branches.allocator(), term, child)?;
+    branches.push(branch)?;
+    Ok(())
 }
 
 fn one(alloc: Global, term: MarkerExpression, child: MarkerTree) -> Result<Branch, AllocError>

@@ -38,7 +38,8 @@ pub fn to_dnf(
         return Ok(Vec::new(interner.allocator()));
     }
     let mut clauses = Vec::new(interner.allocator());
-    collect(interner, tree, &[], &mut clauses)?;
+    let path = Vec::new(interner.allocator());
+    collect(interner, tree, path, &mut clauses)?;
     reduce(&mut clauses);
     // Without a clause the marker would be `FALSE`, and without a term in one `TRUE`.
     interner.keeps_the_rules();

@@ -14,31 +14,31 @@ use marker_parts::MarkerExpression;
 use std::alloc::{AllocError, Global};
 
 /// Adds the clauses of the paths from a marker to `TRUE`, each behind the terms of a path to it.
+/// That of a path which ends here is the clause.
 pub(crate) fn collect(
     interner: &Interner,
     tree: MarkerTree,
-    path: &[MarkerExpression],
+    path: Vec<MarkerExpression>,
     clauses: &mut Vec<Vec<MarkerExpression>>,
 ) -> Result<(), AllocError>
     requires { IsHeld interner.now tree }
     ensures means { OnOk result (HasReleases interner.now tree → (v : Valuation)
         → clauses_hold (clauses_of clauses.new.items) v
         ≡ (clauses_hold (clauses_of clauses.old.items) v
-        || (clause_holds path.now v && truth interner.now tree v))) }
-    ensures printable { OnOk result (IsReadable interner.now tree → AllPrintable path.now
+        || (clause_holds path.items v && truth interner.now tree v))) }
+    ensures printable { OnOk result (IsReadable interner.now tree → AllPrintable path.items
         → HavePrintableTerms (clauses_of clauses.old.items)
         → HavePrintableTerms (clauses_of clauses.new.items)) }
 {
     if tree.is_true() {
-        let clause = longer(interner.allocator(), path, &[])?;
-        clauses.push(clause)?;
+        clauses.push(path)?;
         return Ok(());
     }
     let found = branches(interner, tree)?;
     for branch in &found {
         for terms in &branch.clauses {
-            let all = longer(interner.allocator(), path, terms)?;
-            collect(interner, branch.child, &all, clauses)?;
+            let all = longer(interner.allocator(), &path, terms)?;
+            collect(interner, branch.child, all, clauses)?;
         }
     }
     Ok(())

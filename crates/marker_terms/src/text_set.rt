@@ -37,11 +37,22 @@ pub fn text_clauses(
         all_bounds (λ t. is_plain (string_bytes t)) set.now ≡ true
         → HavePrintableTerms (clauses_of clauses.items)) }
 {
+    if !is_unbounded(set) {
+        return interval_clauses(alloc, key, set);
+    }
     let outside = set.complement(alloc)?;
     match exclusions(alloc, key, &outside)? {
         Some(terms) => one_clause(alloc, terms),
         None => interval_clauses(alloc, key, set),
     }
+}
+
+// Whether a set has no end in either direction, as each has that leaves out single values alone.
+fn is_unbounded(set: &Ranges<String>) -> bool {
+    matches!(
+        set.bounding_range(),
+        Some((Bound::Unbounded, Bound::Unbounded))
+    )
 }
 
 // A clause for each interval.

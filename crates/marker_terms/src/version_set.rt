@@ -48,11 +48,22 @@ pub fn version_clauses(
     ensures printable { IfOk result (λ clauses. HavePrintableTerms (clauses_of clauses.items)) }
 {
     version_clones_are_equal();
+    if !is_unbounded(set) {
+        return interval_clauses(alloc, variable, set);
+    }
     let outside = set.complement(alloc)?;
     match exclusions(alloc, variable, &outside)? {
         Some(terms) => one_clause(alloc, terms),
         None => interval_clauses(alloc, variable, set),
     }
+}
+
+// Whether a set has no end in either direction, as each has that leaves out single values alone.
+fn is_unbounded(set: &Ranges<Version>) -> bool {
+    matches!(
+        set.bounding_range(),
+        Some((Bound::Unbounded, Bound::Unbounded))
+    )
 }
 
 // A clause for each interval.

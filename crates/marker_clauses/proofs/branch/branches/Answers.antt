@@ -1,11 +1,12 @@
 use Rattle.std.proofs.Common.{string_bytes, not, refl, ap, ◌∙◌}
 use Rattle.marker_words.specs.declared.operator.ExtraOperator.TheVariants.{Equal, NotEqual}
 use Rattle.marker_words.specs.declared.operator.MarkerOperator.TheVariants.{In, NotIn, Contains, NotContains}
-use Rattle.marker_parts.specs.Expression.{holds}
+use Rattle.marker_parts.specs.Expression as asked
 use Rattle.marker_nodes.specs.declared.variable.TruthVariable.TheVariants as questions
 use Rattle.marker_graph.specs.Kind.{extra_question}
 use Rattle.marker_terms.specs.Plain.{is_plain}
 use Rattle.marker_terms.proofs.PlainLaws.{text_printable}
+use Rattle.marker_clauses.specs.Branch.{extra_of_ref}
 use Rattle.marker_clauses.proofs.BranchLaws.{contains_is, extra_is, extra_printable, false_means, inside_is, no_branches, test_holds, text_result, truth_result, version_result}
 use Rattle.marker_clauses.proofs.branch.branches.Goals as goal
 
@@ -21,34 +22,38 @@ returns-in-Version c = version_result c.args.interner.now c.keeps_the_rules.ensu
 pub returns-in-String : goal.returns-in-String
 returns-in-String c = text_result c.args.interner.now c.keeps_the_rules.ensures.nodes c.args.tree c.requires c.in-String.view c.in-String.ensures.shows c.text_branches.result c.text_branches.ensures.lead c.text_branches.ensures.printable
 
-pub returns-in_ok-negative-in-In : goal.returns-in_ok-negative-in-In
-returns-in_ok-negative-in-In c =
+pub returns-in-In : goal.returns-in-In
+returns-in-In c =
     let x = c.in-In.view.variable in
+    let bytes = string_bytes c.in-In.view.text.now in
     truth_result c.args.interner.now c.keeps_the_rules.ensures.nodes c.args.tree c.requires (questions.In x c.in-In.view.text.now) c.edge.result c.edge-in-In.result c.in-In.view.high c.in-In.view.low c.in-In.ensures.shows c.edge.ensures c.edge-in-In.ensures
-    c.in_ok-positive-in-In.positive c.in_ok-negative-in-In.negative
-    (λ v. test_holds In c.in_ok-positive-in-In.positive c.key.result x c.value.result.now (string_bytes c.in-In.view.text.now) c.in_ok-positive-in-In.ensures c.key.ensures c.value.ensures v ∙ inside_is x (string_bytes c.in-In.view.text.now) v)
-    (λ v. test_holds NotIn c.in_ok-negative-in-In.negative c.key-in-In.result x c.value-in-In.result.now (string_bytes c.in-In.view.text.now) c.in_ok-negative-in-In.ensures c.key-in-In.ensures c.value-in-In.ensures v ∙ ap not (inside_is x (string_bytes c.in-In.view.text.now) v))
-    (λ h. text_printable c.in_ok-positive-in-In.positive In c.key.result c.value.result.now c.in_ok-positive-in-In.ensures refl (ap is_plain c.value.ensures ∙ h))
-    (λ h. text_printable c.in_ok-negative-in-In.negative NotIn c.key-in-In.result c.value-in-In.result.now c.in_ok-negative-in-In.ensures refl (ap is_plain c.value-in-In.ensures ∙ h))
-    c.two.result c.two.ensures
+    (asked.text c.key.result In c.value.result.now) (asked.text c.key.result NotIn c.value.result.now)
+    (λ v. test_holds In c.key.result x c.value.result.now bytes c.key.ensures c.value.ensures v ∙ inside_is x bytes v)
+    (λ v. test_holds NotIn c.key.result x c.value.result.now bytes c.key.ensures c.value.ensures v ∙ ap not (inside_is x bytes v))
+    (λ h term e. text_printable term In c.key.result c.value.result.now e refl (ap is_plain c.value.ensures ∙ h))
+    (λ h term e. text_printable term NotIn c.key.result c.value.result.now e refl (ap is_plain c.value.ensures ∙ h))
+    c.text_answers.result c.text_answers.ensures
 
-pub returns-in_ok-negative-in-Contains : goal.returns-in_ok-negative-in-Contains
-returns-in_ok-negative-in-Contains c =
+pub returns-in-Contains : goal.returns-in-Contains
+returns-in-Contains c =
     let x = c.in-Contains.view.variable in
+    let bytes = string_bytes c.in-Contains.view.text.now in
     truth_result c.args.interner.now c.keeps_the_rules.ensures.nodes c.args.tree c.requires (questions.Contains x c.in-Contains.view.text.now) c.edge-in-Contains.result c.edge-in-Contains-2.result c.in-Contains.view.high c.in-Contains.view.low c.in-Contains.ensures.shows c.edge-in-Contains.ensures c.edge-in-Contains-2.ensures
-    c.in_ok-positive-in-Contains.positive c.in_ok-negative-in-Contains.negative
-    (λ v. test_holds Contains c.in_ok-positive-in-Contains.positive c.key-in-Contains.result x c.value-in-Contains.result.now (string_bytes c.in-Contains.view.text.now) c.in_ok-positive-in-Contains.ensures c.key-in-Contains.ensures c.value-in-Contains.ensures v ∙ contains_is x (string_bytes c.in-Contains.view.text.now) v)
-    (λ v. test_holds NotContains c.in_ok-negative-in-Contains.negative c.key-in-Contains-2.result x c.value-in-Contains-2.result.now (string_bytes c.in-Contains.view.text.now) c.in_ok-negative-in-Contains.ensures c.key-in-Contains-2.ensures c.value-in-Contains-2.ensures v ∙ ap not (contains_is x (string_bytes c.in-Contains.view.text.now) v))
-    (λ h. text_printable c.in_ok-positive-in-Contains.positive Contains c.key-in-Contains.result c.value-in-Contains.result.now c.in_ok-positive-in-Contains.ensures refl (ap is_plain c.value-in-Contains.ensures ∙ h))
-    (λ h. text_printable c.in_ok-negative-in-Contains.negative NotContains c.key-in-Contains-2.result c.value-in-Contains-2.result.now c.in_ok-negative-in-Contains.ensures refl (ap is_plain c.value-in-Contains-2.ensures ∙ h))
-    c.two-in-Contains.result c.two-in-Contains.ensures
+    (asked.text c.key-in-Contains.result Contains c.value-in-Contains.result.now) (asked.text c.key-in-Contains.result NotContains c.value-in-Contains.result.now)
+    (λ v. test_holds Contains c.key-in-Contains.result x c.value-in-Contains.result.now bytes c.key-in-Contains.ensures c.value-in-Contains.ensures v ∙ contains_is x bytes v)
+    (λ v. test_holds NotContains c.key-in-Contains.result x c.value-in-Contains.result.now bytes c.key-in-Contains.ensures c.value-in-Contains.ensures v ∙ ap not (contains_is x bytes v))
+    (λ h term e. text_printable term Contains c.key-in-Contains.result c.value-in-Contains.result.now e refl (ap is_plain c.value-in-Contains.ensures ∙ h))
+    (λ h term e. text_printable term NotContains c.key-in-Contains.result c.value-in-Contains.result.now e refl (ap is_plain c.value-in-Contains.ensures ∙ h))
+    c.text_answers-in-Contains.result c.text_answers-in-Contains.ensures
 
-pub returns-in_ok-negative-in-Extra : goal.returns-in_ok-negative-in-Extra
-returns-in_ok-negative-in-Extra c =
-    truth_result c.args.interner.now c.keeps_the_rules.ensures.nodes c.args.tree c.requires (extra_question c.in-Extra.view.name) c.edge-in-Extra.result c.edge-in-Extra-2.result c.in-Extra.view.high c.in-Extra.view.low c.in-Extra.ensures.shows c.edge-in-Extra.ensures c.edge-in-Extra-2.ensures
-    c.in_ok-positive-in-Extra.positive c.in_ok-negative-in-Extra.negative
-    (λ v. ap (λ t. holds t v) c.in_ok-positive-in-Extra.ensures ∙ extra_is c.name.result c.in-Extra.view.name v c.name.ensures)
-    (λ v. ap (λ t. holds t v) c.in_ok-negative-in-Extra.ensures ∙ ap not (extra_is c.name-in-Extra.result c.in-Extra.view.name v c.name-in-Extra.ensures))
-    (extra_printable c.in_ok-positive-in-Extra.positive Equal c.name.result c.name-in-Extra-2.result c.in-Extra.view.name c.in_ok-positive-in-Extra.ensures c.name.ensures c.name-in-Extra-2.ensures c.names_are_normal.ensures)
-    (extra_printable c.in_ok-negative-in-Extra.negative NotEqual c.name-in-Extra.result c.name-in-Extra-2.result c.in-Extra.view.name c.in_ok-negative-in-Extra.ensures c.name-in-Extra.ensures c.name-in-Extra-2.ensures c.names_are_normal.ensures)
-    c.two-in-Extra.result c.two-in-Extra.ensures
+pub returns-in-Extra : goal.returns-in-Extra
+returns-in-Extra c =
+    let ref = c.in-Extra.view.name in
+    let name = c.name-in-Extra.result in
+    truth_result c.args.interner.now c.keeps_the_rules.ensures.nodes c.args.tree c.requires (extra_question ref) c.edge-in-Extra.result c.edge-in-Extra-2.result c.in-Extra.view.high c.in-Extra.view.low c.in-Extra.ensures.shows c.edge-in-Extra.ensures c.edge-in-Extra-2.ensures
+    (asked.extra Equal (extra_of_ref name)) (asked.extra NotEqual (extra_of_ref name))
+    (λ v. extra_is name ref v c.name-in-Extra.ensures)
+    (λ v. ap not (extra_is name ref v c.name-in-Extra.ensures))
+    (λ h term e. extra_printable term Equal name c.name.result ref e c.name-in-Extra.ensures c.name.ensures c.names_are_normal.ensures h)
+    (λ h term e. extra_printable term NotEqual name c.name.result ref e c.name-in-Extra.ensures c.name.ensures c.names_are_normal.ensures h)
+    c.extra_answers.result c.extra_answers.ensures
