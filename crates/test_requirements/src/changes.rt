@@ -1,11 +1,12 @@
 //! What requirements are asked, and how they are changed.
 
+use crate::origins::file;
 use crate::readers::{is_read_as, read};
 use marker_environment::MarkerEnvironment;
 use marker_graph::Interner;
 use marker_warnings::MarkerWarningKind;
 use pep440_specifier::Version;
-use pep508_names::{ExtraName, PackageName};
+use pep508_names::ExtraName;
 use pep508_requirements::{Requirement, RequirementOrigin, VersionOrUrl, VersionOrUrlRef};
 use std::alloc::Global;
 use std::test::Fail;
@@ -162,28 +163,6 @@ fn requirements_are_asked_for_versions(rt: HostRuntime) -> Result<(), Fail> {
     Ok(())
 }
 
-// The origin of a file of this path.
-fn file(alloc: Global, path: &str) -> Result<RequirementOrigin, Fail> {
-    Ok(RequirementOrigin::File(String::from_str(alloc, path)?))
-}
-
-// The origin of a project of this path and name.
-fn project(alloc: Global, path: &str, name: &str) -> Result<RequirementOrigin, Fail> {
-    let path = String::from_str(alloc, path)?;
-    Ok(RequirementOrigin::Project(path, PackageName::parse(alloc, name)?))
-}
-
-#[test]
-fn origins_have_paths_and_an_order(rt: HostRuntime) -> Result<(), Fail> {
-    let file = file(rt.alloc(), "a/requirements.txt")?;
-    let project = project(rt.alloc(), "b/pyproject.toml", "b")?;
-    assert_eq!(rt; file.path(), "a/requirements.txt");
-    assert_eq!(rt; project.path(), "b/pyproject.toml");
-    assert_eq!(rt; RequirementOrigin::Workspace.path(), "(workspace)");
-    assert!(rt; file < project && project < RequirementOrigin::Workspace);
-    Ok(())
-}
-
 // Whether a copy is equal, and another requirement once it has an origin, which it keeps.
 fn keeps_its_origin(
     requirement: &Requirement<Url>,
@@ -214,21 +193,29 @@ fn origins_and_copies(rt: HostRuntime) -> Result<(), Fail> {
     Ok(())
 }
 
-// What is asked prints as this text, and is equal to a copy of itself and as it is lent.
+// Whether what is lent is what is asked.
+fn is_lent(lent: VersionOrUrlRef<'_, Url>, asked: &VersionOrUrl<Url>) -> bool {
+    match (lent, asked) {
+        (VersionOrUrlRef::VersionSpecifier(set), VersionOrUrl::VersionSpecifier(asked)) => {
+            set == asked
+        }
+        (VersionOrUrlRef::Url(url), VersionOrUrl::Url(asked)) => url == asked,
+        _ => false,
+    }
+}
+
+// What is asked prints as this text, also as it is lent, and is equal to a copy of itself.
 fn prints_and_is_lent(
     alloc: Global,
     asked: &VersionOrUrl<Url>,
     expected: &str,
 ) -> Result<bool, Fail> {
-    let lent = match asked {
-        VersionOrUrl::VersionSpecifier(set) => VersionOrUrlRef::VersionSpecifier(set),
-        VersionOrUrl::Url(url) => VersionOrUrlRef::Url(url),
-    };
+    let lent = VersionOrUrlRef::from(asked);
     let again = lent;
-    if lent != again || asked.clone()? != *asked {
+    if !is_lent(lent, asked) || lent != again || asked.clone()? != *asked {
         return Ok(false);
     }
-    Ok(asked.to_string(alloc)?.as_str() == expected)
+    Ok(asked.to_string(alloc)?.as_str() == expected && again.to_string(alloc)?.as_str() == expected)
 }
 
 // Whether what two requirements ask is in order, and prints as these texts.

@@ -2,6 +2,8 @@
 #![tactic(auto)]
 
 #[cfg(test)]
+mod alike;
+#[cfg(test)]
 mod any_url;
 #[cfg(test)]
 mod changes;
@@ -9,6 +11,10 @@ mod changes;
 mod cut_texts;
 #[cfg(test)]
 mod extras;
+#[cfg(test)]
+mod orders;
+#[cfg(test)]
+mod origins;
 #[cfg(test)]
 mod own_types;
 #[cfg(test)]

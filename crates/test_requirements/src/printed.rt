@@ -9,13 +9,12 @@ use pep508_requirements::{Requirement, UnnamedRequirement};
 use pep508_urls::VerbatimUrl;
 use refusal::Refusal;
 use std::alloc::Global;
-use std::cmp::Ordering;
 use std::string::ToString;
 use std::test::Fail;
 use url::Url;
 
 // A text, and that of its requirement.
-const TEXTS: [(&str, &str); 12] = [
+const TEXTS: [(&str, &str); 18] = [
     ("flask", "flask"),
     (" Flask_Login [ Dev , a.b ] ", "flask-login[dev,a-b]"),
     ("flask >= 2.0.2, <3", "flask>=2.0.2,<3"),
@@ -24,6 +23,27 @@ const TEXTS: [(&str, &str); 12] = [
     (
         "requests [security,tests] >= 2.8.1, == 2.8.* ; python_version < \"2.7\"",
         "requests[security,tests]==2.8.*,>=2.8.1 ; python_full_version < '2.7'",
+    ),
+    (
+        "requests [security,tests] >= 2.8.1, == 2.8.* ; python_version > \"3.8\"",
+        "requests[security,tests]==2.8.*,>=2.8.1 ; python_full_version >= '3.9'",
+    ),
+    ("foo (>=1,<2)", "foo>=1,<2"),
+    (
+        "importlib-metadata ; python_version < \"3.8\"",
+        "importlib-metadata ; python_full_version < '3.8'",
+    ),
+    (
+        "itsdangerous (>=1.1.0) ; extra == 'security'",
+        "itsdangerous>=1.1.0 ; extra == 'security'",
+    ),
+    (
+        "pytest;python_version<='4.0'",
+        "pytest ; python_full_version < '4.1'",
+    ),
+    (
+        "pytest;'4.0'>=python_version",
+        "pytest ; python_full_version < '4.1'",
     ),
     (
         "pip @ https://github.com/pypa/pip/archive/1.3.1.zip#sha1=da9234ee ; os.name=='nt'",
@@ -83,9 +103,22 @@ fn texts_are_as_they_should_be(rt: HostRuntime) -> Result<(), Fail> {
     Ok(())
 }
 
+#[test]
+fn texts_over_urls_are_the_same(rt: HostRuntime) -> Result<(), Fail> {
+    let mut interner = Interner::new(rt.alloc());
+    for (text, expected) in &TEXTS {
+        assert!(rt; is_printed::<Url>(text, expected, &mut interner)?, "{text}");
+    }
+    Ok(())
+}
+
 // Whether two texts have one requirement.
-fn are_one(text: &str, other: &str, interner: &mut Interner) -> Result<bool, Fail> {
-    let requirement = read::<Url>(text, interner)?;
+fn are_one<T: Pep508Url + PartialEq>(
+    text: &str,
+    other: &str,
+    interner: &mut Interner,
+) -> Result<bool, Fail> {
+    let requirement = read::<T>(text, interner)?;
     is_read_as(&requirement, other, interner)
 }
 
@@ -94,7 +127,11 @@ fn texts_are_read_back(rt: HostRuntime) -> Result<(), Fail> {
     let mut interner = Interner::new(rt.alloc());
     for (text, printed) in &TEXTS {
         if !printed.ends_with("< '0'") {
-            assert!(rt; are_one(text, printed, &mut interner)?, "{text}");
+            assert!(rt; are_one::<Url>(text, printed, &mut interner)?, "{text}");
+            assert!(rt;
+                are_one::<VerbatimUrl>(text, printed, &mut interner)?,
+                "{text}"
+            );
         }
     }
     Ok(())
@@ -122,7 +159,15 @@ fn extras_that_are_asked_for_are_printed(rt: HostRuntime) -> Result<(), Fail> {
 }
 
 // A text without a name, and that of its requirement.
-const UNNAMED: [(&str, &str); 3] = [
+const UNNAMED: [(&str, &str); 5] = [
+    (
+        "https://x.org/a.whl[dev,test] ; python_version < '3.8'",
+        "https://x.org/a.whl[dev,test] ; python_full_version < '3.8'",
+    ),
+    (
+        "file:///home/ferris/a%20b.whl[dev] ; os_name == 'nt'",
+        "file:///home/ferris/a%20b.whl[dev] ; os_name == 'nt'",
+    ),
     (
         "https://x.org/a[dev,Test] ; os_name=='nt'",
         "https://x.org/a[dev,test] ; os_name == 'nt'",
@@ -169,31 +214,44 @@ fn texts_without_a_name_are_as_they_should_be(rt: HostRuntime) -> Result<(), Fai
 }
 
 // A text, and the JSON of its requirement.
-const JSON: [(&str, &str); 2] = [
+const JSON: [(&str, &str); 3] = [
     (
         "foo ; os_name == \"it's\"",
         "\"foo ; os_name == \\\"it's\\\"\"",
     ),
     ("foo[a]", "\"foo[a]\""),
+    ("foo @ https://x.org/a", "\"foo @ https://x.org/a\""),
 ];
 
 // Whether the requirement of a text is written as this JSON.
-fn is_written(text: &str, json: &str, interner: &mut Interner) -> Result<bool, Fail> {
-    let requirement = read::<Url>(text, interner)?;
+fn is_written<T: Pep508Url>(text: &str, json: &str, interner: &mut Interner) -> Result<bool, Fail> {
+    let requirement = read::<T>(text, interner)?;
     Ok(requirement.to_json(interner)?.as_str() == json)
 }
 
 // Whether the requirement that is read of this JSON is that of a text.
-fn is_read_of(
+fn is_read_of<T: Pep508Url + PartialEq>(
     json: &str,
     text: &str,
     surroundings: &Surroundings<'_>,
     interner: &mut Interner,
 ) -> Result<bool, Fail> {
-    match Requirement::<Url>::from_json(json, surroundings, interner) {
+    match Requirement::<T>::from_json(json, surroundings, interner) {
         Ok(again) => is_read_as(&again, text, interner),
         Err(_) => Ok(false),
     }
+}
+
+// Whether a text and JSON are those of one requirement.
+fn is_json_of<T: Pep508Url + PartialEq>(
+    (text, json): (&str, &str),
+    surroundings: &Surroundings<'_>,
+    interner: &mut Interner,
+) -> Result<bool, Fail> {
+    Ok(
+        is_written::<T>(text, json, interner)?
+            && is_read_of::<T>(json, text, surroundings, interner)?,
+    )
 }
 
 #[test]
@@ -201,11 +259,16 @@ fn json_is_the_text_as_a_string(rt: HostRuntime) -> Result<(), Fail> {
     let vars = surrounded(rt.alloc())?;
     let surroundings = surroundings_of(&vars, None);
     let mut interner = Interner::new(rt.alloc());
-    for (text, json) in &JSON {
-        assert!(rt; is_written(text, json, &mut interner)?, "{text}");
+    for row in &JSON {
         assert!(rt;
-            is_read_of(json, text, &surroundings, &mut interner)?,
-            "{text}"
+            is_json_of::<Url>(*row, &surroundings, &mut interner)?,
+            "{}",
+            row.0
+        );
+        assert!(rt;
+            is_json_of::<VerbatimUrl>(*row, &surroundings, &mut interner)?,
+            "{}",
+            row.0
         );
     }
     Ok(())
@@ -260,59 +323,6 @@ fn other_json_is_refused(rt: HostRuntime) -> Result<(), Fail> {
             has_fault(json, expected, &surroundings, &mut interner)?,
             "{json}"
         );
-    }
-    Ok(())
-}
-
-// Two texts, and the order of the views of their requirements.
-const ORDERS: [(&str, &str, Ordering); 9] = [
-    ("a", "b", Ordering::Less),
-    ("a[b]", "a[a]", Ordering::Greater),
-    ("a", "a[a]", Ordering::Less),
-    ("a", "a>=1", Ordering::Less),
-    ("a>=1", "a @ https://x.org", Ordering::Less),
-    ("a>=2", "a>=1", Ordering::Greater),
-    ("a", "a ; os_name == 'nt'", Ordering::Less),
-    (
-        "a ; os_name == 'nt'",
-        "a ; 'nt' == os_name",
-        Ordering::Equal,
-    ),
-    ("a ; extra == 'b'", "a ; os_name == 'nt'", Ordering::Greater),
-];
-
-// Whether the views of two requirements are in this order, and equal where it says so.
-fn are_in_order(
-    first: (&Requirement<Url>, &Interner),
-    second: (&Requirement<Url>, &Interner),
-    expected: Ordering,
-) -> bool {
-    if !first.1.holds(&first.0.marker) || !second.1.holds(&second.0.marker) {
-        return false;
-    }
-    let left = first.0.view(first.1);
-    let right = second.0.view(second.1);
-    left.cmp(&right) == expected && (left == right) == (expected == Ordering::Equal)
-}
-
-// Whether the views of the requirements of two texts are, each over an interner of its own.
-fn are_viewed_in_order(
-    (text, other, expected): (&str, &str, Ordering),
-    left: &mut Interner,
-    right: &mut Interner,
-) -> Result<bool, Fail> {
-    let first = read(text, left)?;
-    let second = read(other, right)?;
-    Ok(are_in_order((&first, left), (&second, right), expected))
-}
-
-#[test]
-fn views_are_ordered_by_their_fields(rt: HostRuntime) -> Result<(), Fail> {
-    let mut left = Interner::new(rt.alloc());
-    let mut right = Interner::new(rt.alloc());
-    for row in &ORDERS {
-        let in_order = are_viewed_in_order(*row, &mut left, &mut right)?;
-        assert!(rt; in_order, "{} {}", row.0, row.1);
     }
     Ok(())
 }

@@ -57,8 +57,9 @@ const ROWS: [(&str, &str); 22] = [
 ];
 
 // What a type of URLs makes of paths.
-const PATHS: [(&str, &str); 6] = [
+const PATHS: [(&str, &str); 7] = [
     ("foo @ file://./foo", "foo @ file:///here/foo yes"),
+    ("foo @ file://foo.whl", "foo @ file:///here/foo.whl yes"),
     ("foo @ file:foo.whl", "foo @ file:///here/foo.whl yes"),
     ("foo @ ./foo.whl", "foo @ file:///here/foo.whl yes"),
     ("foo @ /a/b.whl#c=d", "foo @ file:///a/b.whl#c=d yes"),
