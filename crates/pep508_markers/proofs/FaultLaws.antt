@@ -13,7 +13,7 @@ use Rattle.marker_parts.specs.Error.{Becomes}
 use Rattle.marker_parts.proofs.WholeLaws.{told_fault}
 use Rattle.marker_grammar.specs.Refused.{IsMarker, IsTextFault}
 use Rattle.marker_grammar.specs.Refused as texts
-use Rattle.pep508_markers.specs.Text.{IsRefusal, IsRefusalIn}
+use Rattle.pep508_markers.specs.Text.{IsRefusalIn}
 
 -- what a text ends with and is no marker is refused
 pub refused_behind : {T E : Type 0} (text marker : List ℕ) (error : ComparisonError) (refusal : Refusal (Pep508Error T E)) → IsSuffix text marker → texts.IsRefusal marker error → Becomes text error refusal → IsRefusalIn text marker refusal
@@ -22,14 +22,7 @@ refused_behind text marker error refusals.SegmentAtEnd suffix unread told = absu
 refused_behind text marker errors.OutOfMemory (refusals.Fault e) suffix unread told = absurd told
 refused_behind text marker (errors.Fault fault) (refusals.Fault e) suffix unread told = (unread.1, told_fault (fault_of_suffix suffix unread.0) told)
 
--- a text that is no marker is refused
-pub refused_text : {T E : Type 0} (text : List ℕ) (error : ComparisonError) (refusal : Refusal (Pep508Error T E)) → texts.IsRefusal text error → Becomes text error refusal → IsRefusal text refusal
-refused_text text error refusals.OutOfMemory unread told = tt
-refused_text text error refusals.SegmentAtEnd unread told = absurd told
-refused_text text errors.OutOfMemory (refusals.Fault e) unread told = absurd told
-refused_text text (errors.Fault fault) (refusals.Fault e) unread told = (unread.1, told_fault unread.0 told)
-
--- the same in a reply
+-- a fault of a text, in a reply
 pub told_reply : (text : List ℕ) (fault : Fault) (start len : ℕ) (message : List ℕ) → IsTextFault text fault → start ≡ length text - fault.left → len ≡ span_len fault → message ≡ message_of fault.kind fault.piece.now → IsMarkerFault IsMarker text start len message
 told_reply text fault start len message at start_is len_is said =
     subst (λ (n : ℕ). IsMarkerFault IsMarker text n len message) (sym start_is)

@@ -9,5 +9,5 @@ pub mod ser;
 mod session;
 
 pub use formula_tree::tree_of;
-pub use marker_text::{MarkerText, parse_behind};
+pub use marker_text::{MarkerText, parse_behind, read_behind};
 pub use session::{Command, Reason, Reply, Session};

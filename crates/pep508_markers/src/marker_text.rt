@@ -22,7 +22,7 @@ use marker_grammar::read;
 use marker_graph::{Interner, MarkerTree};
 use marker_parts::{MarkerExpression, report_kinds};
 use marker_view::MarkerTreeView;
-use marker_warnings::Reporter;
+use marker_warnings::{MarkerWarningKind, Reporter};
 use pep508_errors::{Pep508Error, Pep508Url};
 use refusal::Refusal;
 use std::alloc::AllocError;
@@ -128,20 +128,13 @@ impl MarkerText for MarkerTree {
         MarkerTreeView::new(interner, self)
     }
 
-    #[tactic(auto, using(crate::proofs::FaultLaws::refused_text))]
     fn parse_str<T: Pep508Url>(
         text: &str,
         interner: &mut Interner,
     ) -> Result<MarkerTree, Refusal<Pep508Error<T>>> {
-        let alloc = interner.allocator();
-        let reading = match read(alloc, text) {
-            Ok(reading) => reading,
-            Err(error) => return Err(error.refusal(alloc, text)),
-        };
-        match tree_of(interner, reading.formula) {
-            Ok(tree) => Ok(tree),
-            Err(Refusal::OutOfMemory) => Err(Refusal::OutOfMemory),
-            Err(Refusal::SegmentAtEnd) => Err(Refusal::SegmentAtEnd),
+        match read_behind(text, text, interner) {
+            Ok((tree, _)) => Ok(tree),
+            Err(refusal) => Err(refusal),
         }
     }
 
@@ -177,9 +170,36 @@ impl MarkerText for MarkerTree {
     }
 }
 
+/// Reads the marker that a text ends with, as [`MarkerText::parse_str`] reads a whole text, with
+/// the kinds of its warnings in their order, of which nobody is told. A fault has its place in the
+/// text and keeps it.
+#[tactic(auto, using(crate::proofs::FaultLaws::refused_behind))]
+pub fn read_behind<T: Pep508Url>(
+    text: &str,
+    marker: &str,
+    interner: &mut Interner,
+) -> Result<(MarkerTree, Vec<MarkerWarningKind>), Refusal<Pep508Error<T>>>
+    requires { IsSuffix text.now marker.now }
+    ensures kept { IsKept interner.old interner.new }
+    ensures counts { interner.old.expansions ≤ interner.new.expansions }
+    ensures held { IfOk result (λ r. IsHeld interner.new r.0) }
+    ensures means { IfOk result (λ r. IsTreeOf interner.new marker.now r.0 r.1.items) }
+    ensures refused { IfErr result (IsRefusalIn text.now marker.now) }
+{
+    let alloc = interner.allocator();
+    let reading = match read(alloc, marker) {
+        Ok(reading) => reading,
+        Err(error) => return Err(error.refusal(alloc, text)),
+    };
+    match tree_of(interner, reading.formula) {
+        Ok(tree) => Ok((tree, reading.kinds)),
+        Err(Refusal::OutOfMemory) => Err(Refusal::OutOfMemory),
+        Err(Refusal::SegmentAtEnd) => Err(Refusal::SegmentAtEnd),
+    }
+}
+
 /// Reads the marker that a text ends with, as [`MarkerText::parse_reporter`] reads a whole text. A
 /// fault has its place in the text and keeps it.
-#[tactic(auto, using(crate::proofs::FaultLaws::refused_behind))]
 pub fn parse_behind<T: Pep508Url, R: Reporter>(
     text: &str,
     marker: &str,
@@ -200,18 +220,10 @@ pub fn parse_behind<T: Pep508Url, R: Reporter>(
         (λ _. HasBegun Reads marker.now (R.kinds reporter.old) (R.kinds reporter.new)) }
     ensures again { R.can_report reporter.new }
 {
-    let alloc = interner.allocator();
-    let reading = match read(alloc, marker) {
-        Ok(reading) => reading,
-        Err(error) => return Err(error.refusal(alloc, text)),
+    let (tree, kinds) = match read_behind(text, marker, interner) {
+        Ok(marked) => marked,
+        Err(refusal) => return Err(refusal),
     };
-    let kinds = reading.kinds;
-    match tree_of(interner, reading.formula) {
-        Ok(tree) => {
-            report_kinds(alloc, &kinds, reporter)?;
-            Ok(tree)
-        }
-        Err(Refusal::OutOfMemory) => Err(Refusal::OutOfMemory),
-        Err(Refusal::SegmentAtEnd) => Err(Refusal::SegmentAtEnd),
-    }
+    report_kinds(interner.allocator(), &kinds, reporter)?;
+    Ok(tree)
 }

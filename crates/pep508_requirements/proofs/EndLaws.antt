@@ -1,6 +1,5 @@
 -- The end of a requirement: nothing, or the marker that the text ends with.
-use Rattle.std.proofs.Common.{◌≡◌, ℕ, Bool, false, List, [], ◌++◌, Option, Some, None, inl, inr, refl, sym, ap, subst, append-nil, IsUtf8, ◌⊎◌}
-use Rattle.std.specs.Prelude.{encode_utf8_all}
+use Rattle.std.proofs.Common.{ℕ, false, List, [], Option, Some, None, refl, sym, subst, IsUtf8}
 use Rattle.std.specs.Str.{chars}
 use Rattle.std.proofs.lemmas.Str.{encodes-chars}
 use Rattle.refusal.specs.declared.Refusal.{Refusal}
@@ -9,16 +8,14 @@ use Rattle.pep508_errors.specs.declared.error.Pep508Error.{Pep508Error}
 use Rattle.pep508_errors.specs.declared.error.Pep508ErrorSource.{Pep508ErrorSource}
 use Rattle.pep508_errors.specs.declared.error.Pep508ErrorSource.TheVariants as sources
 use Rattle.marker_warnings.specs.declared.warning.MarkerWarningKind.{MarkerWarningKind}
-use Rattle.marker_warnings.specs.Kinds.{Adds, Keeps}
 use Rattle.marker_parts.specs.Error.{IsMessage}
-use Rattle.marker_parts.specs.Reporting.{HasBegun, IsBeginning}
 use Rattle.marker_nodes.proofs.Firsts.{true_is}
 use Rattle.marker_graph.specs.declared.tree.MarkerTree.{MarkerTree}
 use Rattle.marker_graph.specs.declared.tree.TheConstants.MarkerTree.{TRUE}
 use Rattle.marker_graph.specs.Contents.{Contents}
 use Rattle.marker_grammar.specs.Formula.{Formula}
 use Rattle.marker_grammar.specs.Grammar.{Reads}
-use Rattle.pep508_markers.specs.Text.{IsTreeOf, IsRefusalIn, OnRefusedText}
+use Rattle.pep508_markers.specs.Text.{IsTreeOf, IsRefusalIn}
 use Rattle.requirement_words.specs.Tail.{IsTail}
 use Rattle.requirement_words.proofs.Readings.{tail_same}
 use Rattle.pep508_requirements.specs.Requirement.{ReadsMarker, EndsWith, IsNoEnd, IsTreeOfEnd}
@@ -26,26 +23,6 @@ use Rattle.pep508_requirements.specs.Refused.{IsSource, IsEndRefusal}
 
 abbrev Kinds : Type 0
 Kinds = List MarkerWarningKind
-
--- ---- what is reported
-
-pub keeps_itself : (kinds : Option Kinds) → Keeps kinds kinds
-keeps_itself None = tt
-keeps_itself (Some told) = refl
-
-pub adds_nothing : (kinds : Option Kinds) → Adds kinds kinds []
-adds_nothing None = tt
-adds_nothing (Some told) = ap Some (sym (append-nil told))
-
-pub begins_nothing : {Read : Type 0} (Reading : List ℕ → Read → Kinds → Type 0) (text : List ℕ) (kinds : Option Kinds) → HasBegun Reading text kinds kinds
-begins_nothing Reading text kinds = ([], adds_nothing kinds, inl refl)
-
-pub on_refused : {T E : Type 0} (refusal : Refusal (Pep508Error T E)) (P : Type 0) → P → OnRefusedText refusal P
-on_refused refusals.OutOfMemory P p = tt
-on_refused refusals.SegmentAtEnd P p = p
-on_refused (refusals.Fault error) P p = p
-
--- ---- the end
 
 pub no_end_there : (rest : List ℕ) → ((marker : Option (List ℕ)) → ¬ IsTail rest marker) → IsNoEnd rest
 no_end_there rest none f kinds e = none e.marker e.tail
@@ -73,13 +50,6 @@ module _ (rest marker : List ℕ) (utf8 : IsUtf8 marker) (tail : IsTail rest (So
 
   pub marked_end : (c : Contents) (t : MarkerTree) (kinds : Kinds) → IsTreeOf c marker t kinds → IsTreeOfEnd c rest t kinds
   marked_end c t kinds h = record { formula = h.formula; end = ends_with h.reads; no_overflow = h.no_overflow; means = h.means }
-
-  pub begun_end : (before after : Option Kinds) → HasBegun Reads marker before after → HasBegun EndsWith rest before after
-  begun_end before after h = (h.0, h.1, begins h.2)
-    where
-      begins : IsBeginning Reads marker h.0 → IsBeginning EndsWith rest h.0
-      begins (inl e) = inl e
-      begins (inr r) = inr (r.0, r.1, ends_with r.2)
 
   module _ {T E : Type 0} where
     message_source : (m : Pep508ErrorSource T E) (said : List ℕ) → IsMessage m said → IsSource false m

@@ -1,5 +1,5 @@
 -- A requirement is read by its parts: up to the marker, the URL, and the marker.
-use Rattle.std.proofs.Common.{◌≡◌, ℕ, Bool, false, List, [], ◌++◌, Option, Some, None, inl, inr, refl, sym, subst, ◌⊎◌}
+use Rattle.std.proofs.Common.{◌≡◌, ℕ, Bool, false, List, Option, Some, None, sym, subst}
 use Rattle.std.specs.Str.{chars}
 use Rattle.refusal.specs.declared.Refusal.{Refusal}
 use Rattle.refusal.specs.declared.Refusal.TheVariants as refusals
@@ -7,7 +7,6 @@ use Rattle.pep508_errors.specs.declared.error.Pep508Error.{Pep508Error}
 use Rattle.pep508_errors.specs.declared.error.Pep508ErrorSource.{Pep508ErrorSource}
 use Rattle.pep508_errors.specs.declared.error.Pep508ErrorSource.TheVariants as sources
 use Rattle.marker_warnings.specs.declared.warning.MarkerWarningKind.{MarkerWarningKind}
-use Rattle.marker_parts.specs.Reporting.{HasBegun, IsBeginning}
 use Rattle.marker_graph.specs.declared.tree.MarkerTree.{MarkerTree}
 use Rattle.marker_graph.specs.Contents.{Contents}
 use Rattle.marker_grammar.specs.Formula.{Formula}
@@ -15,8 +14,8 @@ use Rattle.requirement_words.specs.Head.{Asked, url, IsHead}
 use Rattle.requirement_words.proofs.Readings.{head_same}
 use Rattle.pep508_requirements.specs.declared.version_or_url.VersionOrUrl.{VersionOrUrl}
 use Rattle.pep508_requirements.specs.declared.version_or_url.VersionOrUrl.TheVariants as wants
-use Rattle.pep508_requirements.specs.Requirement.{EndsWith, IsWanted, IsRequirement, IsReadAs, IsUnread, IsMarkedBy, IsTreeOfEnd, IsNoEnd}
-use Rattle.pep508_requirements.specs.Refused.{IsHeadless, IsSource, OnError, IsHeadSource, IsHeadError, IsEndRefusal, IsUrlFault, IsUrlSource, IsUrlError, HasUrlFault, IsTrueOf, IsRefusal}
+use Rattle.pep508_requirements.specs.Requirement.{EndsWith, IsWanted, IsRequirement, IsReadAs, IsUnread, IsTreeOfEnd, IsNoEnd}
+use Rattle.pep508_requirements.specs.Refused.{IsHeadless, IsSource, OnError, IsHeadSource, IsHeadError, IsEndRefusal, IsUrlSource, IsUrlError, IsTrueOf, IsRefusal}
 
 abbrev Kinds : Type 0
 Kinds = List MarkerWarningKind
@@ -48,13 +47,6 @@ module _ {T E : Type 0} (names : List ℕ → T → Type 0) (text : List ℕ) wh
 
       pub read_as : (c : Contents) (t : MarkerTree) (kinds : Kinds) → IsTreeOfEnd c rest t kinds → IsReadAs names c text name extras wanted t kinds
       read_as c t kinds h = record { formula = h.formula; requirement = whole h.end; no_overflow = h.no_overflow; means = h.means }
-
-      pub begun_requirement : (before after : Option Kinds) → HasBegun EndsWith rest before after → HasBegun (IsMarkedBy E names) text before after
-      begun_requirement before after h = (h.0, h.1, begins h.2)
-        where
-          begins : IsBeginning EndsWith rest h.0 → IsBeginning (IsMarkedBy E names) text h.0
-          begins (inl e) = inl e
-          begins (inr r) = inr (r.0, r.1, record { name = name; extras = extras; wanted = wanted; requirement = whole r.2 })
 
       module _ (tells_size : E → Bool) (may_overflow : List ℕ → Type 0) (value : List ℕ → List ℕ) where
         pub end_refusal : (refusal : Refusal (Pep508Error T E)) → IsEndRefusal text rest refusal → IsRefusal names tells_size may_overflow value text refusal

@@ -1,5 +1,5 @@
 -- A requirement without a name is read by its parts: up to the marker, the URL, and the marker.
-use Rattle.std.proofs.Common.{◌≡◌, ℕ, Bool, false, List, [], Option, Some, inl, inr, sym, ap, subst}
+use Rattle.std.proofs.Common.{◌≡◌, ℕ, Bool, false, List, Option, Some, sym, ap, subst}
 use Rattle.std.specs.Str.{chars}
 use Rattle.refusal.specs.declared.Refusal.{Refusal}
 use Rattle.refusal.specs.declared.Refusal.TheVariants as refusals
@@ -7,16 +7,15 @@ use Rattle.pep508_errors.specs.declared.error.Pep508Error.{Pep508Error}
 use Rattle.pep508_errors.specs.declared.error.Pep508ErrorSource.{Pep508ErrorSource}
 use Rattle.pep508_errors.specs.declared.error.Pep508ErrorSource.TheVariants as sources
 use Rattle.marker_warnings.specs.declared.warning.MarkerWarningKind.{MarkerWarningKind}
-use Rattle.marker_parts.specs.Reporting.{HasBegun, IsBeginning}
 use Rattle.marker_graph.specs.declared.tree.MarkerTree.{MarkerTree}
 use Rattle.marker_graph.specs.Contents.{Contents}
 use Rattle.marker_grammar.specs.Formula.{Formula}
-use Rattle.requirement_words.specs.Head.{Asked, nothing, specifiers, url}
+use Rattle.requirement_words.specs.Head.{url}
 use Rattle.requirement_words.specs.Unnamed.{IsUnnamedHead}
 use Rattle.requirement_words.proofs.Readings.{unnamed_head_same}
 use Rattle.pep508_requirements.specs.Requirement.{EndsWith, IsTreeOfEnd, IsNoEnd}
 use Rattle.pep508_requirements.specs.Refused.{IsSource, OnError, IsEndRefusal, IsUrlFault, IsUrlSource, IsUrlError, url_text}
-use Rattle.pep508_requirements.specs.Unnamed.{IsUnnamedHeadless, IsUnnamedHeadError, IsUnnamedRequirement, IsUnreadUnnamed, IsUnnamedMarkedBy, IsUnnamedReadAs, IsTrueOfUnnamed, IsUnnamedRefusal}
+use Rattle.pep508_requirements.specs.Unnamed.{IsUnnamedHeadless, IsUnnamedHeadError, IsUnnamedRequirement, IsUnreadUnnamed, IsUnnamedReadAs, IsTrueOfUnnamed, IsUnnamedRefusal}
 
 abbrev Kinds : Type 0
 Kinds = List MarkerWarningKind
@@ -44,13 +43,6 @@ module _ {U : Type 0} (names : List ℕ → U → Type 0) (text : List ℕ) wher
       pub unnamed_read_as : (given_text : U → Option (List ℕ)) → given_text u ≡ Some given → (c : Contents) (t : MarkerTree) (kinds : Kinds) → IsTreeOfEnd c rest t kinds → IsUnnamedReadAs names given_text c text u extras t kinds
       unfolding unnamed_whole
       unnamed_read_as given_text given_is c t kinds h = record { formula = h.formula; requirement = unnamed_whole h.end; given_is = given_is; no_overflow = h.no_overflow; means = h.means }
-
-      pub begun_unnamed : (before after : Option Kinds) → HasBegun EndsWith rest before after → HasBegun (IsUnnamedMarkedBy names) text before after
-      begun_unnamed before after h = (h.0, h.1, begins h.2)
-        where
-          begins : IsBeginning EndsWith rest h.0 → IsBeginning (IsUnnamedMarkedBy names) text h.0
-          begins (inl e) = inl e
-          begins (inr r) = inr (r.0, r.1, record { url = u; extras = extras; requirement = unnamed_whole r.2 })
 
       module _ {E : Type 0} (tells_size : E → Bool) (may_overflow : List ℕ → Type 0) where
         pub unnamed_end_refusal : (refusal : Refusal (Pep508Error U E)) → IsEndRefusal text rest refusal → IsUnnamedRefusal names tells_size may_overflow text refusal

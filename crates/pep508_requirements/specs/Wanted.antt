@@ -1,8 +1,15 @@
--- What a requirement asks of the versions, as it prints.
+-- What a requirement asks of the versions, as it is lent and as it prints.
 use Rattle.std.specs.Prelude.{ℕ, List, Option, Some}
 use Rattle.pep440_specifier.specs.Set.{set_text}
 use Rattle.pep508_requirements.specs.declared.version_or_url.VersionOrUrl.{VersionOrUrl}
 use Rattle.pep508_requirements.specs.declared.version_or_url.VersionOrUrl.TheVariants.{VersionSpecifier, Url}
+use Rattle.pep508_requirements.specs.declared.version_or_url.VersionOrUrlRef.{VersionOrUrlRef}
+use Rattle.pep508_requirements.specs.declared.version_or_url.VersionOrUrlRef.TheVariants as references
+
+-- what a reference lends
+abbrev pub lent_wanted : {T E : Type 0} → VersionOrUrlRef T E → VersionOrUrl T E
+lent_wanted (references.VersionSpecifier set) = VersionSpecifier set.now
+lent_wanted (references.Url url) = Url url.now
 
 -- the set, or the URL as far as its text is known: `url_text` is what URLs print
 abbrev pub wanted_text : {T E : Type 0} → (T → Option (List ℕ)) → VersionOrUrl T E → Option (List ℕ)

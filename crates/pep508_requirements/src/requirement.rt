@@ -16,6 +16,7 @@ use crate::head::{read_named, wanted, written_url};
 use crate::origin::RequirementOrigin;
 use crate::version_or_url::VersionOrUrl;
 use marker_graph::{Interner, MarkerTree};
+use marker_parts::report_kinds;
 use marker_warnings::{MarkerWarningKind, Reporter};
 use pep508_errors::{Pep508Error, Pep508Url, Surroundings};
 use pep508_markers::json::{no_string, read_string};
@@ -50,15 +51,45 @@ pub struct Requirement<T: Pep508Url> {
     pub origin: Option<RequirementOrigin>,
 }
 
-// Keeps no warning.
-#[derive(Drop)]
-struct Silent;
-
-impl Reporter for Silent {
-    ghost kinds = { λ _. None };
-
-    fn report(&mut self, _kind: MarkerWarningKind, _warning: String) -> Result<(), AllocError> {
-        Ok(())
+// Reads a requirement, and the kinds of the warnings of its marker, of which nobody is told yet.
+fn read<T: Pep508Url>(
+    text: &str,
+    surroundings: &Surroundings<'_>,
+    interner: &mut Interner,
+) -> Result<(Requirement<T>, Vec<MarkerWarningKind>), Refusal<Pep508Error<T>>>
+    ensures kept { IsKept interner.old interner.new }
+    ensures counts { interner.old.expansions ≤ interner.new.expansions }
+    ensures held { IfOk result (λ r. IsHeld interner.new r.0.marker) }
+    ensures means { IfOk result (λ r. IsReadAs
+        (λ piece url. T.names piece surroundings.now url) interner.new text.now r.0.name
+        r.0.extras.items r.0.version_or_url r.0.marker r.1.items) }
+    ensures unknown { IfOk result (λ r. r.0.origin ≡ None) }
+    ensures refused { IfErr result (IsRefusal
+        (λ piece url. T.names piece surroundings.now url) T.tells_size
+        (λ piece. T.may_overflow piece surroundings.now) (value_of surroundings.now) text.now) }
+{
+    let alloc = interner.allocator();
+    let (Head { name, extras, body }, rest) = match read_named(alloc, text, surroundings) {
+        Ok(read) => read,
+        Err(refusal) => return Err(refusal),
+    };
+    let url = written_url(&body);
+    let version_or_url = match wanted(alloc, text, body, rest, surroundings) {
+        Ok(version_or_url) => version_or_url,
+        Err(refusal) => return Err(refusal),
+    };
+    match read_end(text, url, rest, interner) {
+        Ok((marker, kinds)) => {
+            let requirement = Requirement {
+                name,
+                extras,
+                version_or_url,
+                marker,
+                origin: None,
+            };
+            Ok((requirement, kinds))
+        }
+        Err(refusal) => Err(refusal),
     }
 }
 
@@ -81,8 +112,8 @@ impl<T: Pep508Url> Requirement<T> {
             (λ piece url. T.names piece surroundings.now url) T.tells_size
             (λ piece. T.may_overflow piece surroundings.now) (value_of surroundings.now) text.now) }
     {
-        match Requirement::parse_reporter(text, surroundings, &mut Silent, interner) {
-            Ok(requirement) => Ok(requirement),
+        match read(text, surroundings, interner) {
+            Ok((requirement, _)) => Ok(requirement),
             Err(refusal) => Err(refusal),
         }
     }
@@ -120,26 +151,12 @@ impl<T: Pep508Url> Requirement<T> {
             text.now (R.kinds reporter.old) (R.kinds reporter.new)) }
         ensures again { R.can_report reporter.new }
     {
-        let alloc = interner.allocator();
-        let (Head { name, extras, body }, rest) = match read_named(alloc, text, surroundings) {
-            Ok(read) => read,
+        let (requirement, kinds) = match read(text, surroundings, interner) {
+            Ok(reading) => reading,
             Err(refusal) => return Err(refusal),
         };
-        let url = written_url(&body);
-        let version_or_url = match wanted(alloc, text, body, rest, surroundings) {
-            Ok(version_or_url) => version_or_url,
-            Err(refusal) => return Err(refusal),
-        };
-        match read_end(text, url, rest, reporter, interner) {
-            Ok(marker) => Ok(Requirement {
-                name,
-                extras,
-                version_or_url,
-                marker,
-                origin: None,
-            }),
-            Err(refusal) => Err(refusal),
-        }
+        report_kinds(interner.allocator(), &kinds, reporter)?;
+        Ok(requirement)
     }
 
     /// Reads a requirement out of a JSON string, as [`Requirement::parse`] reads the string's text.

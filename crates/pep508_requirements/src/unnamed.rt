@@ -15,7 +15,8 @@ use crate::origin::RequirementOrigin;
 use crate::url::{read_unnamed, unnamed_url};
 use marker_environment::MarkerEnvironment;
 use marker_graph::{Interner, MarkerTree};
-use marker_warnings::Reporter;
+use marker_parts::report_kinds;
+use marker_warnings::{MarkerWarningKind, Reporter};
 use pep508_errors::{Pep508Error, Surroundings};
 use pep508_names::ExtraName;
 use pep508_urls::UnnamedRequirementUrl;
@@ -45,6 +46,52 @@ pub struct UnnamedRequirement<Url: UnnamedRequirementUrl> {
     pub marker: MarkerTree,
     /// Where the requirement comes from, if that is known.
     pub origin: Option<RequirementOrigin>,
+}
+
+// Reads a requirement without a name, and the kinds of the warnings of its marker, of which nobody
+// is told yet.
+fn read<Url: UnnamedRequirementUrl>(
+    text: &str,
+    surroundings: &Surroundings<'_>,
+    interner: &mut Interner,
+) -> Result<(UnnamedRequirement<Url>, Vec<MarkerWarningKind>), Refusal<Pep508Error<Url>>>
+    ensures kept { IsKept interner.old interner.new }
+    ensures counts { interner.old.expansions ≤ interner.new.expansions }
+    ensures held { IfOk result (λ r. IsHeld interner.new r.0.marker) }
+    ensures means { IfOk result (λ r. IsUnnamedReadAs
+        (λ piece url. Url.names piece surroundings.now url) Url.given_text interner.new text.now
+        r.0.url r.0.extras.items r.0.marker r.1.items) }
+    ensures unknown { IfOk result (λ r. r.0.origin ≡ None) }
+    ensures refused { IfErr result (IsUnnamedRefusal
+        (λ piece url. Url.names piece surroundings.now url) Url.tells_size
+        (λ piece. Url.may_overflow piece surroundings.now) text.now) }
+{
+    let alloc = interner.allocator();
+    let (head, rest) = match read_unnamed(alloc, text) {
+        Ok(read) => read,
+        Err(refusal) => return Err(refusal),
+    };
+    let UnnamedHead {
+        given: whole,
+        url: given,
+        extras,
+    } = head;
+    let url = match unnamed_url(alloc, text, whole, given, rest, surroundings) {
+        Ok(url) => url,
+        Err(refusal) => return Err(refusal),
+    };
+    match read_end(text, whole, rest, interner) {
+        Ok((marker, kinds)) => {
+            let requirement = UnnamedRequirement {
+                url,
+                extras,
+                marker,
+                origin: None,
+            };
+            Ok((requirement, kinds))
+        }
+        Err(refusal) => Err(refusal),
+    }
 }
 
 impl<Url: UnnamedRequirementUrl> UnnamedRequirement<Url> {
@@ -81,29 +128,12 @@ impl<Url: UnnamedRequirementUrl> UnnamedRequirement<Url> {
             text.now (R.kinds reporter.old) (R.kinds reporter.new)) }
         ensures again { R.can_report reporter.new }
     {
-        let alloc = interner.allocator();
-        let (head, rest) = match read_unnamed(alloc, text) {
-            Ok(read) => read,
+        let (requirement, kinds) = match read(text, surroundings, interner) {
+            Ok(reading) => reading,
             Err(refusal) => return Err(refusal),
         };
-        let UnnamedHead {
-            given: whole,
-            url: given,
-            extras,
-        } = head;
-        let url = match unnamed_url(alloc, text, whole, given, rest, surroundings) {
-            Ok(url) => url,
-            Err(refusal) => return Err(refusal),
-        };
-        match read_end(text, whole, rest, reporter, interner) {
-            Ok(marker) => Ok(UnnamedRequirement {
-                url,
-                extras,
-                marker,
-                origin: None,
-            }),
-            Err(refusal) => Err(refusal),
-        }
+        report_kinds(interner.allocator(), &kinds, reporter)?;
+        Ok(requirement)
     }
 
     /// Whether the marker is true in the environment with these extras. This takes no memory.

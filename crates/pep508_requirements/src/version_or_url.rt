@@ -1,7 +1,7 @@
 //! What a requirement asks of the versions.
 
 ghost use Rattle.std.specs.Prelude.{◌≡◌};
-ghost use Rattle.pep508_requirements.specs.Wanted.{wanted_text};
+ghost use Rattle.pep508_requirements.specs.Wanted.{lent_wanted, wanted_text};
 
 use pep440_specifier::VersionSpecifiers;
 use pep508_errors::Pep508Url;
@@ -17,7 +17,7 @@ pub enum VersionOrUrl<T: Pep508Url> {
     Url(T),
 }
 
-/// What a requirement asks of the versions, by reference.
+/// What a requirement asks of the versions, by reference. It prints as what it lends.
 #[derive(Debug, PartialEq, Eq, Hash)]
 pub enum VersionOrUrlRef<'a, T: Pep508Url> {
     /// Specifiers that all have to hold.
@@ -46,3 +46,26 @@ impl<T: Pep508Url> Clone for VersionOrUrlRef<'_, T> {
 }
 
 impl<T: Pep508Url> Copy for VersionOrUrlRef<'_, T> {}
+
+impl<T: Pep508Url> fmt::Display for VersionOrUrlRef<'_, T> {
+    ghost output = { λ reference. wanted_text T.output (lent_wanted reference) };
+
+    fn fmt<W: fmt::Write>(&self, f: &mut fmt::Formatter<W>) -> fmt::Result {
+        match self {
+            VersionOrUrlRef::VersionSpecifier(set) => write!(f, "{set}"),
+            VersionOrUrlRef::Url(url) => write!(f, "{url}"),
+        }
+    }
+}
+
+impl<'a, T: Pep508Url> From<&'a VersionOrUrl<T>> for VersionOrUrlRef<'a, T> {
+    ghost from_gives = { λ wanted reference. lent_wanted reference ≡ wanted.now };
+
+    /// Lends what is asked. This takes no memory.
+    fn from(wanted: &'a VersionOrUrl<T>) -> VersionOrUrlRef<'a, T> {
+        match wanted {
+            VersionOrUrl::VersionSpecifier(set) => VersionOrUrlRef::VersionSpecifier(set),
+            VersionOrUrl::Url(url) => VersionOrUrlRef::Url(url),
+        }
+    }
+}

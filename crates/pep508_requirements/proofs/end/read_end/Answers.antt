@@ -1,7 +1,11 @@
-use Rattle.std.proofs.Common.{[]}
+use Rattle.std.proofs.Common.{List, sym, subst}
+use Rattle.std.specs.Str.{chars}
 use Rattle.pep508_text.proofs.SuffixLaws.{suffix_then}
 use Rattle.requirement_words.proofs.FaultLaws.{part_of_suffix}
-use Rattle.pep508_requirements.proofs.EndLaws.{adds_nothing, unmarked_end}
+use Rattle.marker_warnings.specs.declared.warning.MarkerWarningKind.{MarkerWarningKind}
+use Rattle.marker_graph.specs.declared.tree.TheConstants.MarkerTree.{TRUE}
+use Rattle.pep508_requirements.specs.Requirement.{IsTreeOfEnd}
+use Rattle.pep508_requirements.proofs.EndLaws.{unmarked_end}
 use Rattle.pep508_requirements.proofs.end.read_end.Goals as goal
 
 pub read_marker-requires-clause-suffix : goal.read_marker-requires-clause-suffix
@@ -14,4 +18,6 @@ pub refusal_of_fault-requires : goal.refusal_of_fault-requires
 refusal_of_fault-requires g c = (part_of_suffix c.requires.placed c.in-Err.ensures.fault).place
 
 pub returns-in-Ok-None-clause-means : goal.returns-in-Ok-None-clause-means
-returns-in-Ok-None-clause-means g c = ([], unmarked_end _ _ (rw c.in-Ok-None.field-0-is at c.in-Ok-None.ensures.found), adds_nothing _)
+returns-in-Ok-None-clause-means g c =
+    subst (λ (kinds : List MarkerWarningKind). IsTreeOfEnd c.args.interner.now (chars c.args.rest.now) TRUE kinds) (sym c.new.ensures.items)
+    (unmarked_end _ _ (rw c.in-Ok-None.field-0-is at c.in-Ok-None.ensures.found))

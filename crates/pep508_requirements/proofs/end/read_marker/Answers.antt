@@ -1,14 +1,9 @@
-use Rattle.pep508_requirements.proofs.EndLaws.{marked_end, begun_end, marker_refusal}
 use Rattle.std.specs.Str.{chars}
+use Rattle.pep508_requirements.proofs.EndLaws.{marked_end, marker_refusal}
 use Rattle.pep508_requirements.proofs.end.read_marker.Goals as goal
 
 pub returns-in-Ok-clause-means : goal.returns-in-Ok-clause-means
-returns-in-Ok-clause-means g c =
-    let m = c.in-Ok.ensures.means in
-    (m.0, marked_end (chars c.args.rest.now) c.args.marker.now c.requires.suffix.utf8 c.requires.tail _ _ _ m.1, m.2)
+returns-in-Ok-clause-means g c = marked_end (chars c.args.rest.now) c.args.marker.now c.requires.suffix.utf8 c.requires.tail _ _ _ c.in-Ok.ensures.means
 
 pub returns-in-Err-clause-refused : goal.returns-in-Err-clause-refused
 returns-in-Err-clause-refused g c = marker_refusal (chars c.args.rest.now) c.args.marker.now c.requires.suffix.utf8 c.requires.tail _ _ c.in-Err.ensures.refused
-
-pub returns-in-Err-clause-begun : goal.returns-in-Err-clause-begun
-returns-in-Err-clause-begun g c = begun_end (chars c.args.rest.now) c.args.marker.now c.requires.suffix.utf8 c.requires.tail _ _ c.in-Err.ensures.begun

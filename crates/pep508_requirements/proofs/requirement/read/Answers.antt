@@ -1,7 +1,7 @@
 use Rattle.pep508_urls.specs.Variables.{value_of}
 use Rattle.requirement_words.specs.Head.{asked_of}
 use Rattle.pep508_requirements.proofs.ReadLaws.{end_refusal, head_refusal, url_refusal}
-use Rattle.pep508_requirements.proofs.requirement.Requirement.parse_reporter.Goals as goal
+use Rattle.pep508_requirements.proofs.requirement.read.Goals as goal
 
 pub returns-in-Err-clause-refused : goal.returns-in-Err-clause-refused
 returns-in-Err-clause-refused g c =

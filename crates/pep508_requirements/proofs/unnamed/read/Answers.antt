@@ -1,5 +1,5 @@
 use Rattle.pep508_requirements.proofs.UnnamedLaws.{unnamed_end_refusal, unnamed_head_refusal, unnamed_read_as, unnamed_url_refusal}
-use Rattle.pep508_requirements.proofs.unnamed.UnnamedRequirement.parse.Goals as goal
+use Rattle.pep508_requirements.proofs.unnamed.read.Goals as goal
 
 pub returns-in-Err-clause-refused : goal.returns-in-Err-clause-refused
 returns-in-Err-clause-refused g c =
@@ -13,8 +13,7 @@ returns-in-Err-unnamed_url-clause-refused g c =
 
 pub returns-in-Ok-read_end-clause-means : goal.returns-in-Ok-read_end-clause-means
 returns-in-Ok-read_end-clause-means g c =
-    let m = c.in-Ok-read_end.ensures.means in
-    (m.0, unnamed_read_as (λ piece url. g.Url.Pep508Url.names piece c.args.surroundings.now url) c.args.text.now _ _ _ _ c.in-Ok.ensures.found _ c.in-Ok-unnamed_url.ensures.value g.Url.UnnamedRequirementUrl.given_text c.in-Ok-unnamed_url.ensures.given _ _ _ m.1, m.2)
+    unnamed_read_as (λ piece url. g.Url.Pep508Url.names piece c.args.surroundings.now url) c.args.text.now _ _ _ _ c.in-Ok.ensures.found _ c.in-Ok-unnamed_url.ensures.value g.Url.UnnamedRequirementUrl.given_text c.in-Ok-unnamed_url.ensures.given _ _ _ c.in-Ok-read_end.ensures.means
 
 pub returns-in-Err-read_end-clause-refused : goal.returns-in-Err-read_end-clause-refused
 returns-in-Err-read_end-clause-refused g c =
