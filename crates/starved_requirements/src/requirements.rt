@@ -4,8 +4,8 @@ use marker_environment::{MarkerEnvironment, MarkerEnvironmentBuilder};
 use marker_graph::{Interner, MarkerTree};
 use marker_warnings::MarkerWarningKind;
 use pep508_errors::{Pep508Error, Surroundings};
-use pep508_names::{ExtraName, PackageName};
-use pep508_requirements::{Extras, Requirement, RequirementOrigin, UnnamedRequirement};
+use pep508_names::ExtraName;
+use pep508_requirements::{Extras, Requirement, UnnamedRequirement};
 use pep508_urls::VerbatimUrl;
 use refusal::Refusal;
 use starved::{Met, fault_of, unless_memory};
@@ -218,24 +218,9 @@ impl State {
         Ok(read.marker != before)
     }
 
-    // The origin of a project.
-    fn project(&self) -> Result<Option<RequirementOrigin>, AllocError> {
-        let path = String::from_str(self.alloc, "a/pyproject.toml")?;
-        match unless_memory(PackageName::parse(self.alloc, "a"))? {
-            Some(name) => Ok(Some(RequirementOrigin::Project(path, name))),
-            None => Ok(None),
-        }
-    }
-
     fn copies(&mut self) -> Result<bool, AllocError> {
-        let Some(origin) = self.project()? else {
-            return Ok(false);
-        };
         match unless_memory(self.parse("foo[a,b] ==1.0.0.0.0+x,<3 ; os_name == 'nt'"))? {
-            Some(read) => {
-                let read = read.with_origin(origin);
-                Ok(read.clone()? == read)
-            }
+            Some(read) => Ok(read.clone()? == read),
             None => Ok(false),
         }
     }
