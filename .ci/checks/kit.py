@@ -55,13 +55,13 @@ def listed(file: Path) -> dict[str, list[str]]:
 
 
 class Repository:
-    """The crates that crates.txt lists, which are proved, those of tests/crates.txt, which are
+    """The crates that crates.txt lists, which are proved, those of tests/tests.txt, which are
     compiled and run without a proof, and which stand on which."""
 
     def __init__(self, root: Path) -> None:
         self.root = root
         self.proved = listed(root / "crates.txt")
-        self.tried = listed(root / "tests" / "crates.txt")
+        self.tried = listed(root / "tests" / "tests.txt")
         self.uses = self.proved | self.tried
 
     def folder(self, crate: str) -> Path:
