@@ -179,7 +179,7 @@ module _ (nodes : List Node) (store : IsStore markers nodes) (a b : NodeId) (i :
     found_now : IsFound nodes a b w.variable q × EachPair (IsFound nodes a b w.variable) later
     found_now = subst (EachPair (IsFound nodes a b w.variable)) e w.found
 
-    on_smaller : (place_of l + place_of r < place_of a + place_of b) × (IsHeld nodes l × IsHeld nodes r)
+    pub on_smaller : (place_of l + place_of r < place_of a + place_of b) × (IsHeld nodes l × IsHeld nodes r)
     on_smaller = next_smaller w.variable w.first q found_now.0 l r l_is r_is
 
     pub on_left : IsHeld nodes l
@@ -217,6 +217,10 @@ module _ (nodes : List Node) (store : IsStore markers nodes) (a b : NodeId) (i :
       left_held = on_smaller.1.0;
       right_held = on_smaller.1.1;
     }
+
+  -- each pair was apart
+  pub on_all : (now : List (NodeId × NodeId)) → now ≡ [] → WalksBut nodes a b (FALSE, FALSE) now → TellsDisjoint nodes a b true
+  on_all now e w = walk_end nodes a b w.variable now e (w.walk (λ v. ap (λ z. z && z) (false_is nodes v)))
 
   -- the ids are apart exactly where the last pair is
   pub on_end : (last : NodeId × NodeId) (now : List (NodeId × NodeId)) → now ≡ [] → WalksBut nodes a b last now → (z : Bool) → TellsDisjoint nodes last.0 last.1 z → TellsDisjoint nodes a b z

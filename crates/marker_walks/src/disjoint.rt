@@ -8,6 +8,9 @@ ghost use Rattle.marker_walks.specs.Disjoint.{AreApart, AreShared, TellsDisjoint
 
 use marker_nodes::{NodeId, NodeTable, Whole, short_cut};
 
+// How many pairs are looked at before any is remembered, since most walks end within them.
+const STEPS: usize = 64;
+
 // How many pairs are remembered.
 const PAIRS: usize = 256;
 
@@ -17,8 +20,9 @@ type Apart = [(NodeId, NodeId); PAIRS];
 
 /// Whether no valuation satisfies both ids.
 ///
-/// This takes no memory: pairs that were found apart are remembered on the stack, some hundreds of
-/// them. The calls are nested no deeper than the ids have variables.
+/// This takes no memory: the first pairs are looked at and forgotten, and where they do not tell,
+/// pairs that were found apart are remembered on the stack, some hundreds of them. The calls are
+/// nested no deeper than the ids have variables.
 pub fn are_disjoint(nodes: &NodeTable, a: NodeId, b: NodeId) -> bool
     requires rules { diagram.IsStore markers nodes.now }
     requires a { diagram.IsHeld nodes.now a }
@@ -28,8 +32,49 @@ pub fn are_disjoint(nodes: &NodeTable, a: NodeId, b: NodeId) -> bool
     if let Some(both) = short_cut(a, b) {
         return both == NodeId::FALSE;
     }
+    let mut steps = STEPS;
+    if let Some(answer) = tell_within(nodes, &mut steps, a, b) {
+        return answer;
+    }
+    are_apart_by_memory(nodes, a, b)
+}
+
+// The same by a walk that remembers pairs. It has its own place on the stack for them, so that no
+// other walk pays for it.
+fn are_apart_by_memory(nodes: &NodeTable, a: NodeId, b: NodeId) -> bool
+    requires rules { diagram.IsStore markers nodes.now }
+    requires a { diagram.IsHeld nodes.now a }
+    requires b { diagram.IsHeld nodes.now b }
+    ensures { TellsDisjoint nodes.now a b result }
+{
     let mut apart = [(NodeId::FALSE, NodeId::FALSE); PAIRS];
     are_apart(nodes, &mut apart, a, b)
+}
+
+// The same by a walk that remembers nothing, where it looks at so many pairs at most.
+fn tell_within(nodes: &NodeTable, steps: &mut usize, a: NodeId, b: NodeId) -> Option<bool>
+    requires rules { diagram.IsStore markers nodes.now }
+    requires a { diagram.IsHeld nodes.now a }
+    requires b { diagram.IsHeld nodes.now b }
+    requires a_node { 0 < place_of a }
+    requires b_node { 0 < place_of b }
+    ensures { IfSome result (TellsDisjoint nodes.now a b) }
+{
+    *steps = steps.checked_sub(1)?;
+    let whole_a = Whole::new(nodes.allocator(), a);
+    let whole_b = Whole::new(nodes.allocator(), b);
+    for (left, right) in nodes.pairs(a, b, &whole_a, &whole_b) {
+        let left = left.negate(a);
+        let right = right.negate(b);
+        let answer = match short_cut(left, right) {
+            Some(both) => both == NodeId::FALSE,
+            None => tell_within(nodes, steps, left, right)?,
+        };
+        if !answer {
+            return Some(false);
+        }
+    }
+    Some(true)
 }
 
 // The same, by what is remembered and is to be.

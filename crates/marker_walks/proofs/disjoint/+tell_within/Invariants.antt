@@ -1,0 +1,12 @@
+use Rattle.std.proofs.Common.{◌+◌}
+use Rattle.marker_diagrams.specs.declared.node_id.TheConstants.NodeId.{FALSE}
+use Rattle.marker_diagrams.specs.Id.{place_of}
+use Rattle.marker_nodes.specs.Pairs.{pairs_left}
+use Rattle.marker_walks.proofs.Disjoints.{WalksBut}
+use Rattle.marker_walks.proofs.disjoint.+tell_within.Given as goal
+
+abbrev pub decreases-tell_within : goal.decreases-tell_within
+decreases-tell_within l = place_of l.a + place_of l.b
+
+abbrev pub invariant-loop-left : goal.invariant-loop-left
+invariant-loop-left l = WalksBut l.nodes l.a l.b (FALSE, FALSE) (pairs_left l.left-iterator)
