@@ -1,7 +1,9 @@
 """The functions of a crate, and which may call which, told from names in the text alone.
 
-A call is taken to lead to every function of the crate that has the name, so that what is said here
-is an upper bound: where one function reaches another, it is said, and sometimes where it does not.
+A call is taken to lead to every function of the crate that has the name, but for those that its
+form rules out: what follows a point is a method, a name alone is none, and a name behind a type is
+of that type. So what is said here is an upper bound: where one function reaches another, it is
+said, and sometimes where it does not.
 """
 
 from __future__ import annotations
@@ -17,7 +19,15 @@ LENGTH = re.compile(r";(?=[^\[\]{};]*\])")
 ITEM = re.compile(r"\b(?:fn\s+(?P<fn>\w+)|impl\b(?P<impl>[^{;]*)\{|trait\s+(?P<trait>\w+)[^{;]*\{)")
 CLAUSE = re.compile(r"\b(?:requires|ensures|ghost)\b")
 CYCLE = re.compile(r"#\[cycle\((\w+)\)\]")
-WORD = re.compile(r"\b[a-z_]\w*\b")
+# A name, what stands before it, and whether it is called or only named.
+USE = re.compile(
+    r"(?P<point>\.)?(?:\b(?P<of>\w+)(?:::<[^<>]*>)?::)?"
+    r"\b(?P<name>[a-z_]\w*)\b(?P<call>(?:::<[^<>()]*>)?\()?"
+)
+# A name that a function binds: it is a variable, where it is not called.
+BOUND = re.compile(
+    r"\b(?:let|mut|for)\s+([a-z_]\w*)|\b([a-z_]\w*)\s*:[^:]|[(,|]\s*([a-z_]\w*)\s*[),|]"
+)
 
 # What code calls without a name: an operator, a loop, a question mark, a macro that prints.
 UNNAMED = {
@@ -44,6 +54,12 @@ class Function:
     @property
     def name(self) -> str:
         return self.path.rpartition("::")[2]
+
+    @property
+    def owner(self) -> str:
+        """The type of a method, and behind it the trait if there is one."""
+        above = self.path.split("::")[-2:-1]
+        return above[0] if above and above[0][:1].isupper() else ""
 
 
 def is_named(path: str, name: str) -> bool:
@@ -119,11 +135,27 @@ def functions_of_file(crate: Path, file: Path) -> list[Function]:
     return found
 
 
-def named_in(text: str, names: set[str]) -> set[str]:
-    """The names of functions that a text may call."""
-    found = {word for word in WORD.findall(text) if word in names}
-    signs = {name: sign for name, sign in UNNAMED.items() if name in names}
-    return found | {name for name, sign in signs.items() if re.search(sign, text)}
+def may_lead(use: re.Match[str], bound: set[str], caller: Function, called: Function) -> bool:
+    """Whether a name in the text of the caller may be a call of a function that has the name."""
+    kind = use["of"] or ""
+    if kind == "Self":
+        owners = sorted((called.owner, caller.owner))
+        return bool(called.owner) and owners[1].startswith(owners[0])
+    if kind[:1].isupper():
+        return called.owner.startswith(kind)
+    if use["point"]:
+        return bool(called.owner and use["call"])
+    is_variable = not (kind or use["call"]) and use["name"] in bound
+    return not (called.owner or is_variable)
+
+
+def called_in(text: str, caller: Function, named: dict[str, list[Function]]) -> set[Function]:
+    """The functions that the text of a function may call, of those that have a name each."""
+    bound = {name for found in BOUND.findall(text) for name in found}
+    uses = [use for use in USE.finditer(text) if use["name"] in named]
+    found = {it for use in uses for it in named[use["name"]] if may_lead(use, bound, caller, it)}
+    unnamed = [name for name, sign in UNNAMED.items() if name in named and re.search(sign, text)]
+    return found | {it for name in unnamed for it in named[name] if it.owner}
 
 
 class Calls:
@@ -140,8 +172,7 @@ class Calls:
         texts = {file: blank((crate / file).read_text()) for file in files}
         for function in self.functions:
             text = texts[function.file][function.start : function.end]
-            names = named_in(text, set(named))
-            self.called[function] = {to for name in names for to in named[name]} - {function}
+            self.called[function] = called_in(text, function, named) - {function}
         self.reached = {function: self.reach(function) for function in self.functions}
 
     def reach(self, function: Function) -> set[Function]:

@@ -95,13 +95,22 @@ class Repository:
         """Where the built library of a crate lies."""
         return self.folder(crate) / "out" / "rlib" / f"{crate}.rlib"
 
+    def made_at(self, crate: str) -> float:
+        """When the built library of a crate was put where it lies, or 0 where there is none. (Its
+        files may be older: those of an earlier run on this machine get a second name here.)"""
+        made = self.library(crate)
+        return made.stat().st_mtime if (made / "format").is_file() else 0.0
+
+    def is_newest(self, crate: str) -> bool:
+        """Whether the built library is newer than its text and than the libraries that it uses."""
+        made = self.made_at(crate)
+        texts = [file.stat().st_mtime for file in self.files(crate)]
+        used = [self.made_at(name) for name in self.uses[crate] if name in self.uses]
+        return made > 0 and all(time <= made for time in [*texts, *used])
+
     def stands(self, crate: str) -> bool:
-        """Whether the built library is newer than all that it is made from."""
-        made = self.library(crate) / "format"
-        if not made.is_file():
-            return False
-        files = [file for name in [*self.below(crate), crate] for file in self.files(name)]
-        return all(file.stat().st_mtime <= made.stat().st_mtime for file in files)
+        """Whether the built library is up to date, and so is each below it."""
+        return all(self.is_newest(name) for name in [*self.below(crate), crate])
 
     def build_below(self, crate: str) -> bool:
         """Brings the libraries below a crate up to date, which takes no time after `rt ci`. Answers

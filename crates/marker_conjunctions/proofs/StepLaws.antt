@@ -1,12 +1,9 @@
 -- Steps of a conjunction: which pairs are still to be computed, and which wait for which.
-use Rattle.std.proofs.Common.{◌≡◌, ℕ, zero, suc, ◌+◌, ◌<◌, ◌≤◌, Bool, true, false, cond, ◌==◌, List, [], ◌∷◌, ◌++◌, length, get_or, Option, Some, None, is_some, inl, inr, refl, sym, ap, ◌∙◌, subst, arith, append_assoc}
+use Rattle.std.proofs.Common.{◌≡◌, ℕ, zero, suc, ◌+◌, ◌<◌, ◌≤◌, Bool, true, false, cond, ◌==◌, List, [], ◌∷◌, ◌++◌, length, Option, Some, None, is_some, inl, inr, refl, sym, ap, ◌∙◌, subst, arith, append_assoc}
 use Rattle.std.specs.Prelude.{slice_get, IfNone, IfSome}
 use Rattle.std.specs.List.{list_any}
 use Rattle.std.specs.Map.{lookup}
-use Rattle.std.specs.Ordering.{is_gt, ordering_reverse}
-use Rattle.std.specs.declared.cmp.Ordering.{Ordering}
-use Rattle.std.specs.declared.cmp.Ordering.TheVariants.{Less, Equal, Greater}
-use Rattle.std.proofs.lemmas.Bool.{true≢false, false≢true, and_from, eqb-true, eqb-false}
+use Rattle.std.proofs.lemmas.Bool.{false≢true, and_from, eqb-true, eqb-false}
 use Rattle.std.proofs.lemmas.List.{length-append, append-nil}
 use Rattle.marker_environment.specs.Valuation.{Valuation}
 use Rattle.marker_diagrams.specs.declared.node_id.NodeId.{NodeId}
@@ -14,22 +11,22 @@ use Rattle.marker_diagrams.specs.Id.{place_of, is_negated, signed_id, same_id}
 use Rattle.marker_diagrams.specs.Diagram.{IsHeld, IsStore, Keeps}
 use Rattle.marker_diagrams.specs.Residue.{IsSubtree, itself, child}
 use Rattle.marker_diagrams.proofs.IdLaws.{same_id_itself, one_id}
-use Rattle.marker_diagrams.proofs.NodeLaws.{Descends, same_some, none_some, keeps_itself}
+use Rattle.marker_diagrams.proofs.NodeLaws.{Descends, keeps_itself}
 use Rattle.marker_diagrams.proofs.ResidueLaws.{subtree_both, subtree_kept}
-use Rattle.marker_nodes.specs.Variable.{Variable, variable_cmp}
+use Rattle.marker_nodes.specs.Variable.{Variable}
 use Rattle.marker_nodes.specs.Branches.{value_at as pick}
-use Rattle.marker_nodes.specs.Node.{Node, markers}
+use Rattle.marker_nodes.specs.Node.{Node, markers, child_at}
 use Rattle.marker_nodes.specs.And.{IsAnd, IsShort}
-use Rattle.marker_nodes.specs.Pairs.{AreSideBySide}
+use Rattle.marker_nodes.specs.declared.choice.Choice.{Choice}
+use Rattle.marker_nodes.specs.Choice.{asked, chosen}
 use Rattle.marker_nodes.specs.Side.{branch, HasBranches, IsFirst}
 use Rattle.marker_nodes.proofs.ChildLaws.{pair_below}
 use Rattle.marker_nodes.proofs.Descents.{held_kept}
-use Rattle.marker_nodes.proofs.VariableLaws.{variable_total, one_variable}
 use Rattle.marker_conjunctions.specs.Contents.{Contents, IsKept, IsWellKept, same_pair}
 use Rattle.marker_conjunctions.specs.Count.{Spends, unknown}
-use Rattle.marker_conjunctions.specs.Step.{Memo, IsKnown, IsSettled, Remembers, IsOpen, IsPair, ArePairs, IsWanted, AreWanted, HasChildren, Waits, AreSettled}
-use Rattle.std.proofs.lemmas.Option.{slice_get-get_or}
-use Rattle.marker_conjunctions.proofs.AndLaws.{known_is}
+use Rattle.marker_conjunctions.specs.Step.{Memo, IsKnown, IsSettled, Remembers, IsOpen, IsPair, ArePairs, IsWanted, AreWanted, Waits}
+use Rattle.marker_conjunctions.specs.Branch.{Joins}
+use Rattle.marker_conjunctions.proofs.AndLaws.{Ands, ands_more, ands_length, ands_at, known_is}
 use Rattle.marker_conjunctions.proofs.CountLaws.{or_left, or_right, descends_of, spends_both, all_pairs, pairs_have, fewer_by}
 
 -- ---- what is known
@@ -118,28 +115,6 @@ module _ (nodes : List Node) (memo : Memo) (descends : Descends markers nodes) (
       let r = (wanted_popped nodes memo p.0 p.1 wanted less next popped all).1 in
       (pair_under nodes nodes (keeps_itself markers nodes) descends a b p h next r.pair, (r.unsettled, r.below))
 
--- ---- one variable is the first
-not_greater : (x y : Variable) → is_gt (variable_cmp x y) ≡ false → is_gt (variable_cmp y x) ≡ false → x ≡ y
-not_greater x y e f = by_order (variable_cmp x y) refl
-  where
-    by_order : (r : Ordering) → variable_cmp x y ≡ r → x ≡ y
-    by_order Less g = absurd (true≢false (sym (ap is_gt (turned g)) ∙ f))
-      where
-        turned : variable_cmp x y ≡ Less → variable_cmp y x ≡ Greater
-        turned d = variable_total.antisymm y x ∙ ap ordering_reverse d
-    by_order Equal g = one_variable x y g
-    by_order Greater g = absurd (true≢false (sym (ap is_gt g) ∙ e))
-
-pub one_first : (nodes : List Node) (x y : Variable) (a b : NodeId) → IsFirst nodes x a b → IsFirst nodes y a b → x ≡ y
-one_first nodes x y a b f g = not_greater x y (below x y f g) (below y x g f)
-  where
-    -- x is no greater than y, at which one of the ids stands
-    below : (x y : Variable) → IsFirst nodes x a b → IsFirst nodes y a b → is_gt (variable_cmp x y) ≡ false
-    below x y f g = elim g.at [
-      | inl n ↦ sym (ap (λ (z : Variable). is_gt (variable_cmp x z)) n.2) ∙ f.from_a n.0 n.1
-      | inr n ↦ sym (ap (λ (z : Variable). is_gt (variable_cmp x z)) n.2) ∙ f.from_b n.0 n.1
-    ]
-
 -- ---- the children of two ids, one pair after another
 abbrev EachPair : (NodeId × NodeId → Type 0) → List (NodeId × NodeId) → Type 0
 EachPair P [] = Unit {0}
@@ -150,68 +125,86 @@ module _ (P : NodeId × NodeId → Type 0) where
   each_from [] h = tt
   each_from (q ∷ qs) h = (h 0 q refl, each_from qs (λ i. h (suc i)))
 
-  each_at : (qs : List (NodeId × NodeId)) → EachPair P qs → (i : ℕ) (q : NodeId × NodeId) → slice_get qs i ≡ Some q → P q
-  each_at [] h i q e = none_some q e
-  each_at (r ∷ qs) h zero q e = subst P (same_some r q e) h.0
-  each_at (r ∷ qs) h (suc i) q e = each_at qs h.1 i q e
-
-module _ (nodes : List Node) (memo : Memo) (a b : NodeId) where
-  -- the pair, under the signs of the ids, is settled
-  abbrev pub IsDone : NodeId × NodeId → Type 0
-  IsDone q = IsSettled memo (signed_id (is_negated a) q.0, signed_id (is_negated b) q.1)
-
-  -- the pairs that are left of a walk, and those that were found open: where none was, and the rest is settled, all are
-  pub record Walk (left found : List (NodeId × NodeId)) : Type 0 where
-    pub variable : Variable
-    pub first : IsFirst nodes variable a b
-    pub branches : EachPair (λ q. (v : Valuation) × HasBranches nodes variable a b v q) left
-    pub rest : found ≡ [] → EachPair IsDone left → (v : Valuation) → IsSettled memo (branch nodes variable a v, branch nodes variable b v)
+module _ (nodes : List Node) (memo : Memo) (a b : NodeId) (x : Variable) (pair : Valuation → NodeId × NodeId) (piece : Valuation → ℕ) (count : ℕ) where
+  -- the pairs that are left of a walk, those that were found open, and the conjunctions of all before, where none was
+  pub record Walk (left found : List (NodeId × NodeId)) (children : List NodeId) : Type 0 where
+    pub all : List (NodeId × NodeId)
+    pub counted : length all ≡ count
+    pub at_piece : (v : Valuation) → slice_get all (piece v) ≡ Some (pair v)
+    pub branches : EachPair (λ q. (v : Valuation) × HasBranches nodes x a b v q) left
+    pub known : found ≡ [] → (done : List (NodeId × NodeId)) × (all ≡ done ++ left) × Ands nodes a b done children
     pub wanted : AreWanted nodes memo a b found
 
-  pub walk_from : (pairs : List (NodeId × NodeId)) → AreSideBySide nodes a b pairs → Walk pairs []
-  walk_from pairs s = record {
-    variable = s.variable;
-    first = s.first;
-    branches = each_from (λ q. (v : Valuation) × HasBranches nodes s.variable a b v q) pairs s.found;
-    rest = λ e h v.
-        let c = s.covers v in
-        subst (λ (x : NodeId). IsSettled memo (x, branch nodes s.variable b v)) c.3.0
-        (subst (λ (y : NodeId). IsSettled memo (signed_id (is_negated a) c.1.0, y)) c.3.1 (each_at IsDone pairs h c.0 c.1 c.2));
-    wanted = _;
-  }
+  module _ (has : (v : Valuation) → HasBranches nodes x a b v (pair v)) where
+    pub walk_from : (pairs : List (NodeId × NodeId)) → length pairs ≡ count → ((v : Valuation) → slice_get pairs (piece v) ≡ Some (pair v)) →
+        ((i : ℕ) (p : NodeId × NodeId) → slice_get pairs i ≡ Some p → (v : Valuation) × (pair v ≡ p)) → Walk pairs [] []
+    walk_from pairs counted at_piece inhabited = record {
+      all = pairs;
+      counted = counted;
+      at_piece = at_piece;
+      branches = each_from (λ q. (v : Valuation) × HasBranches nodes x a b v q) pairs (λ i p e. let q = inhabited i p e in (q.0, subst (HasBranches nodes x a b q.0) q.1 (has q.0)));
+      known = λ e. ([], refl, tt);
+      wanted = _;
+    }
 
-  pub walk_end : (now found : List (NodeId × NodeId)) → now ≡ [] → Walk now found → found ≡ [] → HasChildren nodes memo a b
-  walk_end now found e w none x first v =
-      subst (λ (y : Variable). IsSettled memo (branch nodes y a v, branch nodes y b v)) (one_first nodes w.variable x a b w.first first)
-      (w.rest none (subst (EachPair IsDone) (sym e) tt) v)
+    module _ (now found : List (NodeId × NodeId)) (children : List NodeId) (e : now ≡ []) (w : Walk now found children) (none : found ≡ []) where
+      pub walk_count : length children ≡ count
+      walk_count = let k = w.known none in ands_length nodes a b k.0 children k.2 ∙ sym (ap length (k.1 ∙ ap (λ l. k.0 ++ l) e ∙ append-nil k.0)) ∙ w.counted
 
-  module _ (now later found : List (NodeId × NodeId)) (q : NodeId × NodeId) (e : now ≡ q ∷ later) (w : Walk now found) (l r : NodeId) (l_is : l ≡ signed_id (is_negated a) q.0) (r_is : r ≡ signed_id (is_negated b) q.1) where
-    branches_now : ((v : Valuation) × HasBranches nodes w.variable a b v q) × EachPair (λ s. (v : Valuation) × HasBranches nodes w.variable a b v s) later
-    branches_now = subst (EachPair (λ s. (v : Valuation) × HasBranches nodes w.variable a b v s)) e w.branches
+      pub walk_ands : (v : Valuation) → IsAnd nodes (branch nodes x a v) (branch nodes x b v) (child_at children (piece v))
+      walk_ands v =
+          let k = w.known none in
+          let all_done : w.all ≡ k.0 = k.1 ∙ ap (λ (l : List (NodeId × NodeId)). k.0 ++ l) e ∙ append-nil k.0 in
+          subst (λ (s : NodeId). IsAnd nodes s (branch nodes x b v) (child_at children (piece v))) (has v).0
+          (subst (λ (s : NodeId). IsAnd nodes (signed_id (is_negated a) (pair v).0) s (child_at children (piece v))) (has v).1
+          (ands_at nodes a b k.0 children k.2 (piece v) (pair v) (sym (ap (λ (l : List (NodeId × NodeId)). slice_get l (piece v)) all_done) ∙ w.at_piece v)))
 
-    pub walk_known : IsSettled memo (l, r) → Walk later found
-    walk_known h = record {
-      variable = w.variable;
-      first = w.first;
+  module _ (first : IsFirst nodes x a b) (store : IsStore markers nodes) (i : IsHeld nodes a) (j : IsHeld nodes b) (now later found : List (NodeId × NodeId)) (children : List NodeId) (q : NodeId × NodeId) (e : now ≡ q ∷ later) (w : Walk now found children)
+      (l r : NodeId) (l_is : l ≡ signed_id (is_negated a) q.0) (r_is : r ≡ signed_id (is_negated b) q.1) where
+    branches_now : ((v : Valuation) × HasBranches nodes x a b v q) × EachPair (λ s. (v : Valuation) × HasBranches nodes x a b v s) later
+    branches_now = subst (EachPair (λ s. (v : Valuation) × HasBranches nodes x a b v s)) e w.branches
+
+    held_both : IsHeld nodes l × IsHeld nodes r
+    held_both =
+        let f = branches_now.0 in
+        let s = pair_below nodes store a b i j x first f.0 q f.1 in
+        let s0 = s.0 in
+        let s1 = s.1 in
+        let k : place_of l ≡ place_of q.0 = ap place_of l_is in
+        let n : place_of r ≡ place_of q.1 = ap place_of r_is in
+        (omega arith, omega arith)
+
+    pub walk_known : (t : NodeId) (more : List NodeId) → more ≡ children ++ t ∷ [] → (IsHeld nodes l → IsHeld nodes r → IsAnd nodes l r t) → Walk later found more
+    walk_known t more last h = record {
+      all = w.all;
+      counted = w.counted;
+      at_piece = w.at_piece;
       branches = branches_now.1;
-      rest = λ none g. w.rest none
-          (subst (EachPair IsDone) (sym e) (subst (λ (x : NodeId). IsSettled memo (x, signed_id (is_negated b) q.1)) l_is (subst (λ (y : NodeId). IsSettled memo (l, y)) r_is h), g));
+      known = λ none.
+          let k = w.known none in (
+            k.0 ++ q ∷ [],
+            k.1 ∙ ap (λ (s : List (NodeId × NodeId)). k.0 ++ s) e ∙ sym (append_assoc k.0 (q ∷ []) later),
+            subst (Ands nodes a b (k.0 ++ q ∷ [])) (sym last)
+                (ands_more nodes a b k.0 children q t k.2
+                (subst (λ (s : NodeId). IsAnd nodes s (signed_id (is_negated b) q.1) t) l_is (subst (λ (s : NodeId). IsAnd nodes l s t) r_is (h held_both.0 held_both.1)))),
+          );
       wanted = w.wanted;
     }
 
-    pub walk_open : IsStore markers nodes → IsHeld nodes a → IsHeld nodes b → (more : List (NodeId × NodeId)) → more ≡ found ++ (l, r) ∷ [] → IsOpen memo (l, r) → Walk later more
-    walk_open store i j more last h = record {
-      variable = w.variable;
-      first = w.first;
+    pub walk_open : (more : List (NodeId × NodeId)) → more ≡ found ++ (l, r) ∷ [] → IsOpen memo (l, r) → Walk later more children
+    walk_open more last h = record {
+      all = w.all;
+      counted = w.counted;
+      at_piece = w.at_piece;
       branches = branches_now.1;
-      rest = λ none. absurd (not_none found more (l, r) last none);
+      known = λ none. absurd (not_none found more (l, r) last none);
       wanted = subst (AreWanted nodes memo a b) (sym last) (wanted_both nodes memo a b found ((l, r) ∷ []) w.wanted (one, _));
     }
       where
         one : IsWanted nodes memo a b (l, r)
         one =
             let f = branches_now.0 in
-            let s = pair_below nodes store a b i j w.variable w.first f.0 q f.1 in
+            let s = pair_below nodes store a b i j x first f.0 q f.1 in
             let s0 = s.0 in
             let s1 = s.1 in
             let s2 = s.2 in
@@ -228,13 +221,13 @@ module _ (nodes : List Node) (memo : Memo) (a b : NodeId) where
               unsettled = h;
             }
 
--- ---- the node of two ids is made of settled pairs
-pub settled_values : (nodes : List Node) (memo : Memo) (a b : NodeId) (x : Variable) (first : IsFirst nodes x a b) (pair : Valuation → NodeId × NodeId) (has : (v : Valuation) → HasBranches nodes x a b v (pair v)) (pairs given : List (NodeId × NodeId)) →
-    given ≡ pairs → ((k : ℕ) (p : NodeId × NodeId) → slice_get pairs k ≡ Some p → (v : Valuation) × (pair v ≡ p)) → HasChildren nodes memo a b → AreSettled memo a b given
-settled_values nodes memo a b x first pair has pairs given given_is inhabited h i p e =
-    let f = inhabited i p (sym (ap (λ (l : List (NodeId × NodeId)). slice_get l i) given_is) ∙ e) in
-    let g : HasBranches nodes x a b f.0 p = subst (HasBranches nodes x a b f.0) f.1 (has f.0) in
-    subst (λ (y : NodeId). IsSettled memo (y, signed_id (is_negated b) p.1)) (sym g.0) (subst (λ (y : NodeId). IsSettled memo (branch nodes x a f.0, y)) (sym g.1) (h x first f.0))
+-- a choice that has the conjunctions as its children
+pub choice_joins : (nodes : List Node) (a b : NodeId) (x : Variable) (child : Valuation → NodeId) (choice : Choice) → IsFirst nodes x a b → ((v : Valuation) → IsAnd nodes (branch nodes x a v) (branch nodes x b v) (child v)) →
+    asked choice ≡ x → ((v : Valuation) → chosen choice v ≡ child v) → Joins nodes a b choice
+choice_joins nodes a b x branches choice first ands x_is branches_are = record {
+  first = subst (λ (y : Variable). IsFirst nodes y a b) (sym x_is) first;
+  ands = λ v. subst (λ (y : Variable). IsAnd nodes (branch nodes y a v) (branch nodes y b v) (chosen choice v)) (sym x_is) (subst (IsAnd nodes (branch nodes x a v) (branch nodes x b v)) (sym (branches_are v)) (ands v));
+}
 
 -- ---- what is spent
 pub spends_nothing : (c : Contents) (nodes : List Node) (size : ℕ) (a b : NodeId) → Spends c record { nodes = nodes; memo = c.memo; expansions = c.expansions } size a b
@@ -336,11 +329,6 @@ found_settled memo a b (Some t) e = known_by memo (a, b) t e
 pub missing_open : (memo : Memo) (a b : NodeId) (o : Option NodeId) → o ≡ lookup (same_pair (a, b)) memo → ¬ IsShort a b → (0 < place_of a) × (0 < place_of b) → IfNone o (IsOpen memo (a, b))
 missing_open memo a b None e long nodes = opened memo a b long e nodes
 missing_open memo a b (Some t) e long nodes = _
-
-pub not_open : (memo : Memo) (a b : NodeId) (pairs : List (NodeId × NodeId)) → AreSettled memo a b pairs → (i : ℕ) → i < length pairs → (d : NodeId × NodeId) (l r : NodeId) →
-    l ≡ signed_id (is_negated a) (get_or pairs i d).0 → r ≡ signed_id (is_negated b) (get_or pairs i d).1 → IsOpen memo (l, r) → ⊥
-not_open memo a b pairs settled i within d l r l_is r_is h =
-    h.unsettled (subst (λ (x : NodeId). IsSettled memo (x, r)) (sym l_is) (subst (λ (y : NodeId). IsSettled memo (signed_id (is_negated a) (get_or pairs i d).0, y)) (sym r_is) (settled i (get_or pairs i d) (slice_get-get_or pairs i d within))))
 
 -- ---- one round: down to a pair that waits for nothing, whose conjunction is then computed
 module _ (c d e : Contents) (k : IsKept c d) (w : IsWellKept c) (a b : NodeId) (next p : NodeId × NodeId) (h : IsPair c.nodes a b next) (g : IsPair d.nodes next.0 next.1 p) where

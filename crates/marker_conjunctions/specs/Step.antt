@@ -1,15 +1,12 @@
 -- One step of a conjunction: which pairs of ids it waits for.
-use Rattle.std.specs.Prelude.{◌≡◌, ⊤, ℕ, ◌+◌, ◌<◌, ◌⊎◌, ◌++◌, true, List, [], ◌∷◌, Some, is_some, slice_get}
+use Rattle.std.specs.Prelude.{◌≡◌, ⊤, ◌+◌, ◌<◌, ◌⊎◌, ◌++◌, true, List, [], ◌∷◌, is_some}
 use Rattle.std.specs.Map.{lookup}
-use Rattle.marker_environment.specs.Valuation.{Valuation}
 use Rattle.marker_diagrams.specs.declared.node_id.NodeId.{NodeId}
-use Rattle.marker_diagrams.specs.Id.{place_of, is_negated, signed_id}
+use Rattle.marker_diagrams.specs.Id.{place_of}
 use Rattle.marker_diagrams.specs.Diagram.{IsHeld}
 use Rattle.marker_diagrams.specs.Residue.{IsSubtree}
 use Rattle.marker_nodes.specs.And.{IsShort}
 use Rattle.marker_nodes.specs.Node.{Node, markers}
-use Rattle.marker_nodes.specs.Side.{branch, IsFirst}
-use Rattle.marker_nodes.specs.Variable.{Variable}
 use Rattle.marker_conjunctions.specs.Contents.{same_pair}
 
 abbrev pub Memo : Type 0
@@ -56,26 +53,9 @@ AreWanted nodes memo a b [] = ⊤
 AreWanted nodes memo a b (p ∷ pairs) =
     IsWanted nodes memo a b p × AreWanted nodes memo a b pairs
 
--- the conjunction of each pair of children of a and b is settled
-abbrev pub HasChildren : List Node → Memo → NodeId → NodeId → Type 0
-HasChildren nodes memo a b =
-    (x : Variable) → IsFirst nodes x a b → (v : Valuation)
-    → IsSettled memo (branch nodes x a v, branch nodes x b v)
-
--- the conjunction is still to be computed, and those of the children are settled
-pub record IsDue (nodes : List Node) (memo : Memo) (p : NodeId × NodeId) : Type 0 where
-  pub unsettled : IsOpen memo p
-  pub children : HasChildren nodes memo p.0 p.1
-
 -- pairs of subtrees of a and b were added to a list
 pub record Waits (nodes : List Node) (a b : NodeId) (old new : List (NodeId × NodeId))
     : Type 0 where
   pub more : List (NodeId × NodeId)
   pub added : new ≡ old ++ more
   pub pairs : ArePairs nodes a b more
-
--- each pair of children, before the signs of a and b, is settled
-abbrev pub AreSettled : Memo → NodeId → NodeId → List (NodeId × NodeId) → Type 0
-AreSettled memo a b pairs =
-    (i : ℕ) (p : NodeId × NodeId) → slice_get pairs i ≡ Some p
-    → IsSettled memo (signed_id (is_negated a) p.0, signed_id (is_negated b) p.1)

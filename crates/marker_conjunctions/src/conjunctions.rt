@@ -1,16 +1,17 @@
 //! Conjunctions that are computed once.
 
-ghost use Rattle.std.specs.Prelude.{◌≡◌, ◌<◌, ◌+◌, [], length, IfNone, IfOk, IfSome, IsOk, List, OnOk};
+ghost use Rattle.std.specs.Prelude.{◌≡◌, ◌<◌, ◌+◌, [], IfNone, IfOk, IfSome, IsOk, List, OnOk};
 ghost use Rattle.marker_diagrams.specs.Diagram.{IsHeld, Keeps};
 ghost use Rattle.marker_diagrams.specs.Id.{place_of};
 ghost use Rattle.marker_nodes.specs.And.{IsAnd, IsShort};
 ghost use Rattle.marker_nodes.specs.Node.{markers, Node};
-ghost use Rattle.marker_conjunctions.specs.Branch.{AreAnds, AreBelow};
+ghost use Rattle.marker_conjunctions.specs.Branch.{Joins};
 ghost use Rattle.marker_conjunctions.specs.Contents.{contents, nothing, IsWellKept};
 ghost use Rattle.marker_conjunctions.specs.Count.{IsCounted, Spends};
-ghost use Rattle.marker_conjunctions.specs.Step.{ArePairs, AreSettled, AreWanted, HasChildren, IsDue, IsKnown, IsOpen, IsPair, IsSettled, Remembers, Waits};
+ghost use Rattle.marker_conjunctions.specs.Step.{ArePairs, AreWanted, IsKnown, IsOpen, IsPair, IsSettled, Remembers, Waits};
 
-use marker_nodes::{Children, NodeId, NodeTable, Whole, short_cut};
+use marker_nodes::{Choice, NodeId, NodeTable, Whole, short_cut};
+use node_hasher::NodeState;
 use smallvec::SmallVec;
 use std::alloc::{AllocError, Global};
 use std::collections::HashMap;
@@ -19,7 +20,7 @@ use std::collections::HashMap;
 #[derive(Drop)]
 pub struct Conjunctions {
     // The conjunctions that are known.
-    memo: HashMap<(NodeId, NodeId), NodeId>,
+    memo: HashMap<(NodeId, NodeId), NodeId, NodeState>,
     // How many conjunctions of nodes were computed.
     expansions: u64,
 }
@@ -30,7 +31,7 @@ impl Conjunctions {
         ensures { contents [] result ≡ nothing }
     {
         Conjunctions {
-            memo: HashMap::new(alloc),
+            memo: HashMap::with_hasher(alloc, NodeState::new()),
             expansions: 0,
         }
     }
@@ -70,19 +71,22 @@ impl Conjunctions {
         ensures settled { OnOk result (IsSettled self.new.memo.entries (a, b)) }
         ensures remembers { Remembers self.old.memo.entries self.new.memo.entries }
     {
-        if let Some(known) = self.known(a, b) {
+        if let Some(known) = self.look_up(a, b) {
             return Ok(known);
         }
         let mut pending = Vec::new(nodes.allocator());
         let mut next = (a, b);
         loop {
-            let (left, right) = self.descend(nodes, &mut pending, next)?;
-            self.compute(nodes, left, right)?;
+            let ((left, right), choice) = self.descend(nodes, &mut pending, next)?;
+            let id = self.compute(nodes, left, right, choice)?;
+            if left == a && right == b {
+                return Ok(id);
+            }
             if let Some(pair) = self.next_open(&mut pending) {
                 next = pair;
                 continue;
             }
-            if let Some(id) = self.known(a, b) {
+            if let Some(id) = self.look_up(a, b) {
                 return Ok(id);
             }
             next = (a, b);
@@ -90,7 +94,7 @@ impl Conjunctions {
     }
 
     // The conjunction of two ids where it is known or needs no node.
-    fn known(&self, a: NodeId, b: NodeId) -> Option<NodeId>
+    fn look_up(&self, a: NodeId, b: NodeId) -> Option<NodeId>
         ensures and { IfSome result (λ t. (nodes : List Node) → IsWellKept (contents nodes self.now)
             → IsHeld nodes a → IsHeld nodes b → IsAnd nodes a b t) }
         ensures settled { IfSome result (λ t. IsSettled self.now.memo.entries (a, b)) }
@@ -110,35 +114,40 @@ impl Conjunctions {
             → ArePairs nodes a b pending.new.items × IfSome result (IsPair nodes a b) }
     {
         while let Some((left, right)) = pending.pop() {
-            if let None = self.known(left, right) {
+            if let None = self.look_up(left, right) {
                 return Some((left, right));
             }
         }
         None
     }
 
-    // A pair that waits for nothing: this one, or one below it. The pairs on the way to it, and
-    // those that they wait for, are added to the list.
+    // A pair that waits for nothing, this one or one below it, and its conjunction as a choice. The
+    // pairs on the way to it, and those that they wait for, are added to the list.
     fn descend(
         &self,
         nodes: &NodeTable,
         pending: &mut Vec<(NodeId, NodeId)>,
         first: (NodeId, NodeId),
-    ) -> Result<(NodeId, NodeId), AllocError>
+    ) -> Result<((NodeId, NodeId), Choice), AllocError>
         requires rules { IsWellKept (contents nodes.now self.now) }
         requires left { IsHeld nodes.now first.0 }
         requires right { IsHeld nodes.now first.1 }
         requires unsettled { IsOpen self.now.memo.entries first }
-        ensures due { IfOk result (IsDue nodes.now self.now.memo.entries) }
-        ensures pair { IfOk result (IsPair nodes.now first.0 first.1) }
+        ensures unsettled { IfOk result (λ r. IsOpen self.now.memo.entries r.0) }
+        ensures pair { IfOk result (λ r. IsPair nodes.now first.0 first.1 r.0) }
+        ensures joins { IfOk result (λ r. Joins nodes.now r.0.0 r.0.1 r.1) }
         ensures waits { OnOk result
             (Waits nodes.now first.0 first.1 pending.old.items pending.new.items) }
     {
         let mut pair = first;
+        let mut wanted = Vec::new(nodes.allocator());
         loop {
-            let mut wanted = self.wanted(nodes, pair.0, pair.1)?;
+            if let Some(choice) = self.look(nodes, pair.0, pair.1, &mut wanted)? {
+                return Ok((pair, choice));
+            }
             let Some(next) = wanted.pop() else {
-                return Ok(pair);
+                // Without a choice there is such a pair.
+                unreachable!()
             };
             pending.push(pair)?;
             pending.append(&mut wanted)?;
@@ -146,40 +155,59 @@ impl Conjunctions {
         }
     }
 
-    // The pairs of children of two ids whose conjunction is still to be computed.
-    fn wanted(
+    // The conjunction of two ids as a choice among those of their children, where these are known;
+    // else the pairs of children whose conjunction is still to be computed are added to the list.
+    fn look(
         &self,
         nodes: &NodeTable,
         a: NodeId,
         b: NodeId,
-    ) -> Result<Vec<(NodeId, NodeId)>, AllocError>
+        wanted: &mut Vec<(NodeId, NodeId)>,
+    ) -> Result<Option<Choice>, AllocError>
         requires rules { IsWellKept (contents nodes.now self.now) }
         requires a { IsHeld nodes.now a }
         requires b { IsHeld nodes.now b }
         requires unsettled { IsOpen self.now.memo.entries (a, b) }
-        ensures wanted { IfOk result (λ r. AreWanted nodes.now self.now.memo.entries a b r.items) }
-        ensures none { IfOk result (λ r. r.items ≡ []
-            → HasChildren nodes.now self.now.memo.entries a b) }
+        requires none { wanted.old.items ≡ [] }
+        ensures joins { IfOk result (λ r. IfSome r (Joins nodes.now a b)) }
+        ensures wanted { OnOk result
+            (AreWanted nodes.now self.now.memo.entries a b wanted.new.items) }
+        ensures some { IfOk result (λ r. IfNone r (wanted.new.items ≡ [] → ⊥)) }
     {
         let whole_a = Whole::new(nodes.allocator(), a);
         let whole_b = Whole::new(nodes.allocator(), b);
-        let mut wanted = Vec::new(nodes.allocator());
-        for (left, right) in nodes.pairs(a, b, &whole_a, &whole_b) {
+        let sides = nodes.side_by_side(a, b, &whole_a, &whole_b);
+        let mut children = SmallVec::new(nodes.allocator());
+        for (left, right) in sides.pairs() {
             let left = left.negate(a);
             let right = right.negate(b);
-            if let None = self.known(left, right) {
-                wanted.push((left, right))?;
+            match self.look_up(left, right) {
+                Some(child) => children.push(child)?,
+                None => wanted.push((left, right))?,
             }
         }
-        Ok(wanted)
+        if !wanted.is_empty() {
+            return Ok(None);
+        }
+        let choice = sides.choice(nodes.allocator(), children)?;
+        Ok(Some(choice))
     }
 
-    // Makes the conjunction of two ids known. Those of their children are.
-    fn compute(&mut self, nodes: &mut NodeTable, a: NodeId, b: NodeId) -> Result<(), AllocError>
+    // Makes the conjunction of two ids known, and answers it. The choice is among those of their
+    // children.
+    fn compute(
+        &mut self,
+        nodes: &mut NodeTable,
+        a: NodeId,
+        b: NodeId,
+        choice: Choice,
+    ) -> Result<NodeId, AllocError>
         requires rules { IsWellKept (contents nodes.old self.old) }
         requires a { IsHeld nodes.old a }
         requires b { IsHeld nodes.old b }
-        requires due { IsDue nodes.old self.old.memo.entries (a, b) }
+        requires unsettled { IsOpen self.old.memo.entries (a, b) }
+        requires joins { Joins nodes.old a b choice }
+        ensures and { IfOk result (IsAnd nodes.new a b) }
         ensures rules { IsWellKept (contents nodes.new self.new) }
         ensures kept { Keeps markers nodes.old nodes.new }
         ensures spends { Spends (contents nodes.old self.old) (contents nodes.new self.new)
@@ -189,51 +217,28 @@ impl Conjunctions {
         ensures known { OnOk result (IsKnown self.new.memo.entries (a, b)) }
         ensures remembers { Remembers self.old.memo.entries self.new.memo.entries }
     {
-        let id = self.joined(nodes, a, b)?;
+        let id = self.place(nodes, a, b, choice)?;
         self.memo.insert((a, b), id)?;
         self.expansions = self.expansions.saturating_add(1);
-        Ok(())
+        Ok(id)
     }
 
-    // The conjunction of two ids by those of their children.
-    fn joined(&self, nodes: &mut NodeTable, a: NodeId, b: NodeId) -> Result<NodeId, AllocError>
+    // The conjunction of two ids, which is a choice among those of their children.
+    fn place(
+        &self,
+        nodes: &mut NodeTable,
+        a: NodeId,
+        b: NodeId,
+        choice: Choice,
+    ) -> Result<NodeId, AllocError>
         requires rules { IsWellKept (contents nodes.old self.now) }
         requires a { IsHeld nodes.old a }
         requires b { IsHeld nodes.old b }
-        requires due { IsDue nodes.old self.now.memo.entries (a, b) }
+        requires joins { Joins nodes.old a b choice }
         ensures rules { IsWellKept (contents nodes.new self.now) }
         ensures kept { Keeps markers nodes.old nodes.new }
         ensures and { IfOk result (IsAnd nodes.new a b) }
     {
-        let branches = nodes.side_by_side(nodes.allocator(), a, b)?;
-        let pairs = branches.values(nodes.allocator())?;
-        let children = self.children(nodes, a, b, &pairs)?;
-        nodes.place(branches, children)
-    }
-
-    // The conjunctions of pairs of children of two ids, under the signs of the ids.
-    fn children(
-        &self,
-        nodes: &NodeTable,
-        a: NodeId,
-        b: NodeId,
-        pairs: &[(NodeId, NodeId)],
-    ) -> Result<Children, AllocError>
-        requires rules { IsWellKept (contents nodes.now self.now) }
-        requires below { AreBelow nodes.now a b pairs.now }
-        requires settled { AreSettled self.now.memo.entries a b pairs.now }
-        ensures count { IfOk result (λ r. length r.items ≡ length pairs.now) }
-        ensures ands { IfOk result (λ r. AreAnds nodes.now a b pairs.now r.items) }
-    {
-        let mut children = SmallVec::with_capacity(nodes.allocator(), pairs.len())?;
-        for i in 0..pairs.len() {
-            let pair = pairs[i];
-            match self.known(pair.0.negate(a), pair.1.negate(b)) {
-                Some(child) => children.push(child)?,
-                // Each of the pairs is settled.
-                None => unreachable!(),
-            }
-        }
-        Ok(children)
+        nodes.place_choice(choice)
     }
 }

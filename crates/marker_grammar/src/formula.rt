@@ -44,19 +44,34 @@ impl FlatFormula {
     }
 }
 
-// Joins the last two formulas of a list where both are there, and tells whether one is.
-pub(crate) fn join(
+// Joins the last two formulas of a list by `and` where both are there, and tells whether one is.
+pub(crate) fn join_and(
     tokens: &mut Vec<Token>,
     first: bool,
     second: bool,
-    connective: Token,
 ) -> Result<bool, AllocError>
     ensures tokens { IfOk result (λ _. tokens.new.items
-        ≡ (if first && second then tokens.old.items ++ connective ∷ [] else tokens.old.items)) }
+        ≡ (if first && second then tokens.old.items ++ Token.And ∷ [] else tokens.old.items)) }
     ensures any { IfOk result (λ any. any ≡ (first || second)) }
 {
     if first && second {
-        tokens.push(connective)?;
+        tokens.push(Token::And)?;
+    }
+    Ok(first || second)
+}
+
+// The same by `or`.
+pub(crate) fn join_or(
+    tokens: &mut Vec<Token>,
+    first: bool,
+    second: bool,
+) -> Result<bool, AllocError>
+    ensures tokens { IfOk result (λ _. tokens.new.items
+        ≡ (if first && second then tokens.old.items ++ Token.Or ∷ [] else tokens.old.items)) }
+    ensures any { IfOk result (λ any. any ≡ (first || second)) }
+{
+    if first && second {
+        tokens.push(Token::Or)?;
     }
     Ok(first || second)
 }
@@ -80,7 +95,7 @@ pub(crate) fn append(
         None => Ok(has_and),
         Some(expression) => {
             tokens.push(Token::Expression(expression))?;
-            let any = join(tokens, has_and, true, Token::And)?;
+            let any = join_and(tokens, has_and, true)?;
             Ok(any)
         }
     }

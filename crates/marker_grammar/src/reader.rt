@@ -9,7 +9,7 @@ ghost use Rattle.marker_words.specs.Keyword.{NoKeyword};
 ghost use Rattle.marker_grammar.specs.First.{BeginsWith};
 ghost use Rattle.marker_grammar.specs.Refused.{IsTextFault, OpensMarker};
 
-use crate::formula::{FlatFormula, Token, append, join};
+use crate::formula::{FlatFormula, Token, append, join_and, join_or};
 use marker_parts::{ComparisonError, read_comparison};
 use marker_warnings::MarkerWarningKind;
 use marker_words::{Fault, FaultKind, Keyword, keyword};
@@ -48,7 +48,7 @@ pub struct Reader<'a> {
 
 // Where a text goes on by a character in place of a keyword or its end. The last character is left
 // out of the span.
-fn unexpected(text: &str, found: char) -> Fault<'_>
+fn unexpected_fault(text: &str, found: char) -> Fault<'_>
     requires begins { BeginsWith found text.now }
     requires some { chars text.now ≢ [] }
     ensures { HasNoSpace text.now → NoKeyword (chars text.now) → IsTextFault text.now result }
@@ -65,7 +65,7 @@ fn unexpected(text: &str, found: char) -> Fault<'_>
 
 // What is wrong where the parenthesis should close. At the end of the text the fault stands at the
 // parenthesis.
-fn unclosed<'a>(text: &'a str, group: &'a str) -> Fault<'a>
+fn unclosed_fault<'a>(text: &'a str, group: &'a str) -> Fault<'a>
     requires { slice_get (chars group.now) 0 ≡ Some 40 }
     ensures { ((others : List ℕ) → chars text.now ≢ 41 ∷ others)
         → (chars text.now ≡ [] → OpensMarker group.now)
@@ -147,7 +147,7 @@ impl<'a> Reader<'a> {
             self.rest = rest;
             return Ok(Some(Wanted::Atom));
         }
-        let whole = join(&mut self.tokens, self.has_or, self.has_and, Token::Or)?;
+        let whole = join_or(&mut self.tokens, self.has_or, self.has_and)?;
         if let Keyword::Or = word {
             self.has_or = whole;
             self.has_and = false;
@@ -156,17 +156,17 @@ impl<'a> Reader<'a> {
         }
         let Some(group) = self.groups.pop() else {
             if let Some((found, _)) = first(text) {
-                return Err(ComparisonError::Fault(unexpected(text, found)));
+                return Err(ComparisonError::Fault(unexpected_fault(text, found)));
             }
             self.has_or = whole;
             self.has_and = false;
             return Ok(None);
         };
         let Some(rest) = strip(text, ')') else {
-            return Err(ComparisonError::Fault(unclosed(text, group.text)));
+            return Err(ComparisonError::Fault(unclosed_fault(text, group.text)));
         };
         self.has_or = group.has_or;
-        self.has_and = join(&mut self.tokens, group.has_and, whole, Token::And)?;
+        self.has_and = join_and(&mut self.tokens, group.has_and, whole)?;
         self.rest = rest;
         Ok(Some(Wanted::Rest))
     }
@@ -195,13 +195,15 @@ pub fn read(alloc: Global, text: &str) -> Result<Reading, ComparisonError<'_>>
         IsOnlyReading text.now (formula_of r.formula) r.kinds.items) }
     ensures err { IfErr result (IsRefusal text.now) }
 {
+    // Three comparisons and what joins them.
+    let tokens = Vec::with_capacity(alloc, 5)?;
     let mut reader = Reader {
         text,
         rest: text,
         groups: Vec::new(alloc),
         has_or: false,
         has_and: false,
-        tokens: Vec::new(alloc),
+        tokens,
         kinds: Vec::new(alloc),
     };
     let mut wanted = Wanted::Atom;

@@ -26,7 +26,7 @@ use marker_comparisons::{InvalidExpression, asks, expression};
 use marker_conjunctions::Conjunctions;
 use marker_nodes::{NodeId, NodeTable, TruthVariable};
 use marker_parts::MarkerExpression;
-use marker_simplifications::{assumed, grant_extras, python_range};
+use marker_simplifications::{assume_python_range, grant_extras, python_range};
 use pep440_version::Version;
 use pep508_names::ExtraName;
 use refusal::Refusal;
@@ -176,7 +176,7 @@ impl Interner {
     }
 
     // The id where the Python version is taken to lie in a range that has a point.
-    pub(crate) fn assumed(
+    pub(crate) fn assume_python_range(
         &mut self,
         id: NodeId,
         lower: Bound<&Version>,
@@ -190,7 +190,7 @@ impl Interner {
         ensures assumed { IfOk result
             (IsAssumed self.new.nodes (bound_of lower.entry) (bound_of upper.entry) id) }
     {
-        assumed(&mut self.nodes, id, lower, upper)
+        assume_python_range(&mut self.nodes, id, lower, upper)
     }
 
     // The id with the extras set true for which the closure answers so.

@@ -12,11 +12,18 @@ use std::fmt::Display;
 use std::io::Write;
 
 // Adds a text to the replies.
-pub(crate) fn put<D: Display + Drop>(replies: &mut Vec<u8>, text: D) -> Result<(), AllocError>
-    ensures { OnOk result (IfSome (D.output text)
+pub(crate) fn put(replies: &mut Vec<u8>, text: &str) -> Result<(), AllocError>
+    ensures { OnOk result (replies.new.items ≡ replies.old.items ++ text.now) }
+{
+    replies.extend_from_slice(text.as_bytes())
+}
+
+// Adds what a value is printed as.
+fn put_printed<D: Display + Drop>(replies: &mut Vec<u8>, value: D) -> Result<(), AllocError>
+    ensures { OnOk result (IfSome (D.output value)
         (λ bytes. replies.new.items ≡ replies.old.items ++ bytes)) }
 {
-    match replies.write_fmt(text) {
+    match replies.write_fmt(value) {
         Ok(()) => Ok(()),
         // A list has no other fault than want of memory.
         Err(_) => Err(AllocError),
@@ -56,12 +63,16 @@ pub(crate) fn put_reply(replies: &mut Vec<u8>, reply: &Reply) -> Result<(), Allo
 {
     match reply {
         Reply::Cell(index, kinds) => {
-            put(replies, format_args!("cell {index}"))?;
+            put(replies, "cell ")?;
+            put_printed(replies, *index)?;
             put_kinds(replies, kinds)
         }
         Reply::Truth(true) => put(replies, "true"),
         Reply::Truth(false) => put(replies, "false"),
-        Reply::Text(Some(text)) => put(replies, format_args!("text {text}")),
+        Reply::Text(Some(text)) => {
+            put(replies, "text ")?;
+            put(replies, text)
+        }
         Reply::Text(None) => put(replies, "text"),
         Reply::Refused(reason) => put_reason(replies, reason),
     }
@@ -81,7 +92,7 @@ fn put_reason(replies: &mut Vec<u8>, reason: &Reason) -> Result<(), AllocError>
             start,
             len,
             message,
-        } => put(
+        } => put_printed(
             replies,
             format_args!("error marker {start} {len} {message}"),
         ),

@@ -13,15 +13,15 @@ use Rattle.marker_diagrams.specs.declared.node_id.TheConstants.NodeId.{TRUE}
 use Rattle.marker_diagrams.specs.Id.{signed, id_of, index_of, place_of, is_negated, signed_id, same_id}
 use Rattle.marker_diagrams.specs.Diagram.{node_at, node_of, IsHeld, AreSame, AreChildren, IsReady, IsStore, Keeps, IsChoice, Separated}
 use Rattle.marker_diagrams.proofs.Canonicity.{separated}
-use Rattle.marker_diagrams.proofs.IdLaws.{not_same_id, signed_id_back}
+use Rattle.marker_diagrams.proofs.IdLaws.{not_same_id, signed_id_undone}
 use Rattle.marker_diagrams.proofs.NodeLaws.{same_some, none_some, node_bounds, keeps_itself, keeps_more}
 use Rattle.marker_diagrams.proofs.StoreLaws.{store_more, id_of_same}
 use Rattle.marker_diagrams.proofs.ChoiceLaws.{children_signed, children_same, choice_same, choice_signed, choice_constant}
 use Rattle.marker_diagrams.proofs.KeyLaws.{get_last, node_is, key_of, newest}
-use Rattle.marker_nodes.specs.declared.node.Branches.{Branches}
 use Rattle.marker_nodes.specs.Branches.{count, piece, variable, value_at as pick}
+use Rattle.marker_nodes.specs.Variable.{Variable}
 use Rattle.marker_nodes.specs.Node.{Node, markers, is_constant, is_joined, is_reduced, child_at, listed_child, lowest}
-use Rattle.marker_nodes.proofs.BranchLaws.{piece_lowest, piece_within, constant_everywhere}
+use Rattle.marker_nodes.proofs.BranchLaws.{piece_within, constant_everywhere}
 use Rattle.marker_nodes.proofs.NodeLaws.{lawful}
 use Rattle.marker_nodes.proofs.EqualNodes.{node_eq, equal_same, unequal_other}
 
@@ -88,35 +88,50 @@ signed_self : (s : Bool) → signed s s ≡ false
 signed_self true = refl
 signed_self false = refl
 
--- ---- a node that has the children of branches under the sign of the first
-module _ {V : Type 0} (branches : Branches V) (children values : List NodeId) (first : NodeId) (node : Node) (first_is : first ≡ child_at children 0) (count_is : length children ≡ count branches)
-    (signs : (k : ℕ) → k < length children → child_at values k ≡ signed_id (is_negated first) (child_at children k)) (x_is : variable node ≡ variable branches)
-    (value : (v : Valuation) → pick node v ≡ child_at values (piece branches v)) where
-  child_is : (v : Valuation) → pick node v ≡ signed_id (is_negated first) (listed_child branches children v)
-  child_is v = value v ∙ signs (piece branches v) (let h = piece_within branches v in omega arith)
+-- ---- a node that has listed children under the sign of the first
+module _ (piece : Valuation → ℕ) (children values : List NodeId) (first : NodeId) (node : Node) (first_is : first ≡ child_at children 0) (within : (v : Valuation) → piece v < length children)
+    (signs : (k : ℕ) → k < length children → child_at values k ≡ signed_id (is_negated first) (child_at children k)) (value : (v : Valuation) → pick node v ≡ child_at values (piece v)) where
+  child_is : (v : Valuation) → pick node v ≡ signed_id (is_negated first) (child_at children (piece v))
+  child_is v = value v ∙ signs (piece v) (within v)
 
-  lowest_is : pick node lowest ≡ signed_id (is_negated first) first
-  lowest_is = child_is lowest ∙ ap (λ i. signed_id (is_negated first) (child_at children i)) (piece_lowest branches) ∙ ap (signed_id (is_negated first)) (sym first_is)
+  pub node_leads : piece lowest ≡ 0 → pick node lowest ≡ signed_id (is_negated first) first
+  node_leads low = child_is lowest ∙ ap (λ i. signed_id (is_negated first) (child_at children i)) low ∙ ap (signed_id (is_negated first)) (sym first_is)
 
-  module _ (nodes : List Node) (given : AreChildren markers nodes (variable branches) (listed_child branches children)) where
+  pub node_chooses : (v : Valuation) → signed_id (is_negated first) (pick node v) ≡ child_at children (piece v)
+  node_chooses v = ap (signed_id (is_negated first)) (child_is v) ∙ signed_id_undone (is_negated first) (child_at children (piece v))
+
+-- ---- a node under the sign of its first child
+module _ (first : NodeId) (node : Node) (leading : pick node lowest ≡ signed_id (is_negated first) first) where
+  abbrev child : Valuation → NodeId
+  child v = signed_id (is_negated first) (pick node v)
+
+  module _ (nodes : List Node) (given : AreChildren markers nodes (variable node) (λ v. signed_id (is_negated first) (pick node v))) where
     pub node_ready : is_joined node ≡ true → is_constant node ≡ false → IsReady markers nodes node
     node_ready joined more = record {
-      children = subst (λ x. AreChildren markers nodes x (pick node)) (sym x_is)
-          (children_same markers nodes (variable branches) (λ v. signed_id (is_negated first) (listed_child branches children v)) (pick node) (λ v. sym (child_is v))
-          (children_signed markers nodes (variable branches) (is_negated first) (listed_child branches children) given));
-      plain = ap is_negated lowest_is ∙ signed_self (is_negated first);
+      children = children_same markers nodes (variable node) (λ v. signed_id (is_negated first) (child v)) (pick node) (λ v. signed_id_undone (is_negated first) (pick node v))
+          (children_signed markers nodes (variable node) (is_negated first) child given);
+      plain = ap is_negated leading ∙ signed_self (is_negated first);
       reduced = and_from (is_joined node) (not (is_constant node)) joined (ap not more);
     }
 
-    pub node_constant : is_constant node ≡ true → IsChoice markers nodes (variable branches) (listed_child branches children) first
+    pub node_constant : is_constant node ≡ true → IsChoice markers nodes (variable node) (λ v. signed_id (is_negated first) (pick node v)) first
     node_constant one =
-        choice_constant markers nodes (variable branches) lawful (listed_child branches children) first
-        (λ v. signed_id_back (is_negated first) (listed_child branches children v) first (sym (child_is v) ∙ constant_everywhere node one v lowest ∙ lowest_is)) given
+        choice_constant markers nodes (variable node) lawful child first
+        (λ v. ap (signed_id (is_negated first)) (constant_everywhere node one v lowest ∙ leading) ∙ signed_id_undone (is_negated first) first) given
 
-  pub node_done : (last : List Node) (id : NodeId) → IsChoice markers last (variable node) (pick node) id → IsChoice markers last (variable branches) (listed_child branches children) (signed_id (is_negated first) id)
+  pub node_done : (last : List Node) (id : NodeId) → IsChoice markers last (variable node) (pick node) id → IsChoice markers last (variable node) (λ v. signed_id (is_negated first) (pick node v)) (signed_id (is_negated first) id)
   node_done last id c =
-      choice_signed markers last (variable branches) (is_negated first) (listed_child branches children) id
-      (choice_same markers last (variable branches) (pick node) (λ v. signed_id (is_negated first) (listed_child branches children v)) id child_is (subst (λ x. IsChoice markers last x (pick node) id) x_is c))
+      choice_signed markers last (variable node) (is_negated first) child id
+      (choice_same markers last (variable node) (pick node) (λ v. signed_id (is_negated first) (child v)) id (λ v. sym (signed_id_undone (is_negated first) (pick node v))) c)
+
+-- ---- a choice with given children
+module _ (x y : Variable) (child other : Valuation → NodeId) (x_is : y ≡ x) (child_is : (v : Valuation) → other v ≡ child v) where
+  pub choice_given : (nodes : List Node) → AreChildren markers nodes x child → AreChildren markers nodes y other
+  choice_given nodes c = subst (λ z. AreChildren markers nodes z other) (sym x_is) (children_same markers nodes x child other (λ v. sym (child_is v)) c)
+
+  pub choice_made : (nodes : List Node) (r : Result NodeId AllocError) → IfOk r (IsChoice markers nodes y other) → IfOk r (IsChoice markers nodes x child)
+  choice_made nodes (Ok id) c = choice_same markers nodes x other child id child_is (subst (λ z. IsChoice markers nodes z other id) x_is c)
+  choice_made nodes (Err z) c = c
 
 -- ---- a node's own children, listed
 module _ (node : Node) (children : List NodeId) (count_is : length children ≡ count node) (value : (v : Valuation) → slice_get children (piece node v) ≡ Some (pick node v)) where

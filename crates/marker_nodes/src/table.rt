@@ -4,12 +4,14 @@ ghost use Rattle.std.specs.Prelude.{◌≡◌, ◌↔◌, ◌<◌, [], false, le
 ghost use Rattle.std.specs.Option.{option_copied};
 ghost use Rattle.marker_diagrams.specs.Diagram.{node_of, IsHeld, truth, Separated, AreChildren, IsReady, IsStore, Keeps, IsChoice};
 ghost use Rattle.marker_nodes.specs.Branches.{count, value_at, variable};
+ghost use Rattle.marker_nodes.specs.Choice.{asked, chosen};
 ghost use Rattle.marker_nodes.specs.Node.{listed_child, markers};
 
-use crate::edges::negate_all;
+use crate::choice::Choice;
 use crate::node::{Branches, Children, Node};
 use indexmap::IndexSet;
 use marker_diagrams::NodeId;
+use node_hasher::NodeState;
 use std::alloc::{AllocError, Global};
 use std::marker::Model;
 
@@ -19,7 +21,7 @@ use std::marker::Model;
 #[derive(Drop)]
 pub struct NodeTable {
     // List and unique table at once: an index is the place of a node.
-    nodes: IndexSet<Node>,
+    nodes: IndexSet<Node, NodeState>,
     alloc: Global,
 }
 
@@ -42,7 +44,7 @@ impl NodeTable {
         ensures rules { IsStore markers result }
     {
         NodeTable {
-            nodes: IndexSet::new(alloc),
+            nodes: IndexSet::with_hasher(alloc, NodeState::new()),
             alloc,
         }
     }
@@ -118,14 +120,25 @@ impl NodeTable {
         ensures refused { OnErr result (self.new ≡ self.old) }
         ensures kept { Keeps markers self.old self.new }
     {
-        let mut children = children;
-        let first = children[0];
-        negate_all(children.as_mut_slice(), first);
-        let node = branches.with_children(children)?;
+        let choice = branches.choice(children)?;
+        self.place_choice(choice)
+    }
+
+    /// The id of the node that a choice makes, as `place` of its question with its children. Only
+    /// memory can run out, and then the table is as it was.
+    pub fn place_choice(&mut self, choice: Choice) -> Result<NodeId, AllocError>
+        requires { AreChildren markers self.old (asked choice) (chosen choice) }
+        ensures id { IfOk result (IsChoice markers self.new (asked choice) (chosen choice)) }
+        ensures rules { IsStore markers self.old → IsStore markers self.new }
+        ensures added { IfOk result (λ id. IsHeld self.old id → self.new ≡ self.old) }
+        ensures refused { OnErr result (self.new ≡ self.old) }
+        ensures kept { Keeps markers self.old self.new }
+    {
+        let Choice { first, node } = choice;
         if node.is_constant() {
             return Ok(first);
         }
-        let id = self.placed(node)?;
+        let id = self.insert(node)?;
         Ok(id.negate(first))
     }
 
@@ -144,7 +157,7 @@ impl NodeTable {
     }
 
     // The id of a node that is as small as it can be and whose first child is no negation.
-    fn placed(&mut self, node: Node) -> Result<NodeId, AllocError>
+    fn insert(&mut self, node: Node) -> Result<NodeId, AllocError>
         requires { IsReady markers self.old node }
         ensures id { IfOk result (IsChoice markers self.new (variable node) (value_at node)) }
         ensures rules { IsStore markers self.new }

@@ -43,13 +43,13 @@ impl Outcome {
                 Outcome::of_version(alloc, key, operator, text)
             }
             (MarkerValueRef::QuotedString(text), MarkerValueRef::MarkerEnvVersion(key)) => {
-                Outcome::of_turned_version(alloc, key, operator.turned(), text)
+                Outcome::of_turned_version(alloc, key, operator.invert(), text)
             }
             (MarkerValueRef::MarkerEnvString(key), MarkerValueRef::QuotedString(text)) => {
                 Outcome::of_text(alloc, key, operator, text)
             }
             (MarkerValueRef::QuotedString(text), MarkerValueRef::MarkerEnvString(key)) => {
-                Outcome::of_text(alloc, key, operator.turned(), text)
+                Outcome::of_text(alloc, key, operator.invert(), text)
             }
             (MarkerValueRef::Extra, MarkerValueRef::QuotedString(text)) => {
                 Outcome::of_extra(alloc, operator, text)

@@ -22,7 +22,7 @@ use std::alloc::{AllocError, Global};
 
 // What is wrong where more than white space follows the comparison of a text. The last character is
 // left out of the span.
-fn trailing(rest: &str) -> Option<Fault<'_>>
+fn trailing_fault(rest: &str) -> Option<Fault<'_>>
     ensures none { IfNone result (after_space (chars rest.now) ≡ []) }
     ensures some { IfSome result (λ fault. after_space (chars rest.now) ≢ []) }
     ensures fault { IfSome result (IsWordFault rest.now) }
@@ -54,7 +54,7 @@ fn read_whole(
         Ok(read) => read,
         Err(error) => return Err(error),
     };
-    match trailing(rest) {
+    match trailing_fault(rest) {
         None => Ok((expression, kinds)),
         Some(fault) => Err(ComparisonError::Fault(fault)),
     }

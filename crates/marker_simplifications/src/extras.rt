@@ -35,7 +35,7 @@ pub fn grant_extras<F: Fn(&ExtraName) -> bool>(
     let mut known = HashMap::new(nodes.allocator());
     let mut pending = Vec::new(nodes.allocator());
     loop {
-        if let Some(found) = granted(&known, id) {
+        if let Some(found) = look_up(&known, id) {
             return Ok(found);
         }
         let first = match next_unknown(&known, &mut pending) {
@@ -48,7 +48,7 @@ pub fn grant_extras<F: Fn(&ExtraName) -> bool>(
 }
 
 // The id with extras set true, by what is known of ids without signs.
-fn granted(known: &HashMap<NodeId, NodeId>, id: NodeId) -> Option<NodeId>
+fn look_up(known: &HashMap<NodeId, NodeId>, id: NodeId) -> Option<NodeId>
     ensures granted { IfSome result (IsFoundAs known.now.entries id) }
     ensures settled { IfSome result (λ t. ¬ IsUnknown known.now.entries (plain id)) }
     ensures unknown { IfNone result (IsUnknown known.now.entries (plain id)) }
@@ -69,7 +69,7 @@ fn next_unknown(known: &HashMap<NodeId, NodeId>, pending: &mut Vec<NodeId>) -> O
         × IfSome result (IsPlain n) }
 {
     while let Some(id) = pending.pop() {
-        if let None = granted(known, id) {
+        if let None = look_up(known, id) {
             return Some(id);
         }
     }
@@ -141,25 +141,25 @@ fn advance<F: Fn(&ExtraName) -> bool>(
         return Ok(Step::Made(id));
     };
     if let Some(high) = granted_child(is_extra, node) {
-        return Ok(match granted(known, high) {
+        return Ok(match look_up(known, high) {
             Some(made) => Step::Made(made),
             None => Step::Waits(high.negate(high), SmallVec::new(alloc)),
         });
     }
     let ids = node.values(alloc)?;
-    let mut wanted = wanted(alloc, known, &ids)?;
+    let mut wanted = unknown_ids(alloc, known, &ids)?;
     if let Some(last) = wanted.pop() {
         return Ok(Step::Waits(last, wanted));
     }
     let branches = node.clone()?;
     let values = branches.values(alloc)?;
-    let children = granted_all(alloc, known, &values)?;
+    let children = look_up_all(alloc, known, &values)?;
     let made = nodes.place(branches, children)?;
     Ok(Step::Made(made))
 }
 
 // The ids of a list that are not known, without their signs.
-fn wanted(
+fn unknown_ids(
     alloc: Global,
     known: &HashMap<NodeId, NodeId>,
     ids: &[NodeId],
@@ -170,7 +170,7 @@ fn wanted(
 {
     let mut wanted = SmallVec::new(alloc);
     for id in ids {
-        if let Some(_) = granted(known, *id) {
+        if let Some(_) = look_up(known, *id) {
             continue;
         }
         wanted.push(id.negate(*id))?;
@@ -179,7 +179,7 @@ fn wanted(
 }
 
 // The ids of a list with extras set true. They are known.
-fn granted_all(
+fn look_up_all(
     alloc: Global,
     known: &HashMap<NodeId, NodeId>,
     ids: &[NodeId],
@@ -190,7 +190,7 @@ fn granted_all(
 {
     let mut children = SmallVec::with_capacity(alloc, ids.len())?;
     for i in 0..ids.len() {
-        match granted(known, ids[i]) {
+        match look_up(known, ids[i]) {
             Some(child) => children.push(child)?,
             // Each of the ids is settled.
             None => unreachable!(),

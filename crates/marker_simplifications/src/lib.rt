@@ -5,4 +5,4 @@ mod extras;
 mod python;
 
 pub use extras::grant_extras;
-pub use python::{assumed, is_unbounded, python_range};
+pub use python::{assume_python_range, is_unbounded, python_range};

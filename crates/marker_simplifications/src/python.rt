@@ -46,8 +46,8 @@ fn trimmed_bound(bound: Bound<&Version>) -> Result<Bound<Version>, AllocError>
     ensures { IfOk result (λ r. r ≡ bound_map trimmed_parts (bound_of bound.entry)) }
 {
     match bound {
-        Bound::Included(version) => Ok(Bound::Included(version.trimmed()?)),
-        Bound::Excluded(version) => Ok(Bound::Excluded(version.trimmed()?)),
+        Bound::Included(version) => Ok(Bound::Included(version.without_trailing_zeros()?)),
+        Bound::Excluded(version) => Ok(Bound::Excluded(version.without_trailing_zeros()?)),
         Bound::Unbounded => Ok(Bound::Unbounded),
     }
 }
@@ -100,7 +100,7 @@ pub fn python_range(
 /// The id where the Python version is taken to lie in a range that has a point.
 ///
 /// Only memory can run out. What the ids of the table mean stays, also then.
-pub fn assumed(
+pub fn assume_python_range(
     nodes: &mut NodeTable,
     id: NodeId,
     lower: Bound<&Version>,
@@ -116,18 +116,18 @@ pub fn assumed(
 {
     let variable = VersionVariable::ImplementationVersion;
     let Some(edges) = edges_at(nodes, variable, id) else {
-        return assumed_at_python(nodes, id, lower, upper);
+        return assume_at_python(nodes, id, lower, upper);
     };
     let edges = edges.clone()?;
     let branches = Branches::Version(variable, edges);
     let children = branches.values(nodes.allocator())?;
-    let children = assumed_all(nodes, &children, lower, upper)?;
+    let children = assume_all(nodes, &children, lower, upper)?;
     let placed = nodes.place(branches, children)?;
     Ok(placed.negate(id))
 }
 
 // The same of an id that asks about no variable before the Python version.
-fn assumed_at_python(
+fn assume_at_python(
     nodes: &mut NodeTable,
     id: NodeId,
     lower: Bound<&Version>,
@@ -147,13 +147,13 @@ fn assumed_at_python(
     let Some(edges) = edges_at(nodes, variable, id) else {
         return Ok(id);
     };
-    let edges = edges.clamped(nodes.allocator(), lower, upper)?;
+    let edges = edges.clamp(nodes.allocator(), lower, upper)?;
     let placed = nodes.place_node(Branches::Version(variable, edges))?;
     Ok(placed.negate(id))
 }
 
 // The same of each child of an id on the implementation's versions, each once.
-fn assumed_all(
+fn assume_all(
     nodes: &mut NodeTable,
     children: &[NodeId],
     lower: Bound<&Version>,
@@ -172,14 +172,14 @@ fn assumed_all(
     let mut known = HashMap::new(nodes.allocator());
     let mut made = SmallVec::with_capacity(nodes.allocator(), children.len())?;
     for child in children {
-        let id = assumed_once(nodes, &mut known, *child, lower, upper)?;
+        let id = assume_once(nodes, &mut known, *child, lower, upper)?;
         made.push(id)?;
     }
     Ok(made)
 }
 
 // The same of one id, which is known then.
-fn assumed_once(
+fn assume_once(
     nodes: &mut NodeTable,
     known: &mut HashMap<NodeId, NodeId>,
     id: NodeId,
@@ -202,7 +202,7 @@ fn assumed_once(
     if let Some(found) = known.get(&id) {
         return Ok(*found);
     }
-    let made = assumed_at_python(nodes, id, lower, upper)?;
+    let made = assume_at_python(nodes, id, lower, upper)?;
     known.insert(id, made)?;
     Ok(made)
 }

@@ -94,7 +94,7 @@ fn exclusions(
         let Some(text) = single_text(bounds) else {
             return Ok(None);
         };
-        terms.push(compared(key, MarkerOperator::NotEqual, text)?)?;
+        terms.push(comparison(key, MarkerOperator::NotEqual, text)?)?;
     }
     Ok(Some(terms))
 }
@@ -131,13 +131,13 @@ fn range_terms(
 {
     let mut terms = Vec::new(alloc);
     for (operator, text) in MarkerOperator::from_bounds(bounds) {
-        terms.push(compared(key, operator, text)?)?;
+        terms.push(comparison(key, operator, text)?)?;
     }
     Ok(terms)
 }
 
 // The comparison of a key with a text.
-fn compared(
+fn comparison(
     key: MarkerValueString,
     operator: MarkerOperator,
     text: &String,

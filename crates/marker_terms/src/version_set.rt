@@ -106,7 +106,7 @@ fn exclusions(
             return Ok(None);
         };
         has_star |= specifier.operator().is_star();
-        terms.push(compared(variable, specifier))?;
+        terms.push(comparison(variable, specifier))?;
     }
     // A minor release is left out by itself alone.
     if has_star && terms.len() > 1 {
@@ -174,13 +174,13 @@ fn range_terms(
     range_specifiers_are_printable(bounds.1);
     let mut terms = Vec::new(alloc);
     for specifier in VersionSpecifier::from_release_only_bounds(alloc, bounds)? {
-        terms.push(compared(variable, specifier))?;
+        terms.push(comparison(variable, specifier))?;
     }
     Ok(terms)
 }
 
 // The comparison of a variable's key.
-fn compared(variable: VersionVariable, specifier: VersionSpecifier) -> MarkerExpression
+fn comparison(variable: VersionVariable, specifier: VersionSpecifier) -> MarkerExpression
     ensures means { (v : Valuation) → holds (test_of result) v
         ≡ is_in specifier.operator specifier.version.release (v.version variable) }
     ensures printable { IsPrintableSpecifier specifier → IsPrintable result }

@@ -87,7 +87,7 @@ fn are_apart(nodes: &NodeTable, apart: &mut Apart, a: NodeId, b: NodeId) -> bool
     ensures answer { TellsDisjoint nodes.now a b result }
     ensures apart { AreApart nodes.now apart.new }
 {
-    if let Some(answer) = told(apart, a, b) {
+    if let Some(answer) = recall(apart, a, b) {
         return answer;
     }
     let mut pair = (a, b);
@@ -96,7 +96,7 @@ fn are_apart(nodes: &NodeTable, apart: &mut Apart, a: NodeId, b: NodeId) -> bool
             Some(last) => pair = last,
             None => return false,
         }
-        if let Some(answer) = told(apart, pair.0, pair.1) {
+        if let Some(answer) = recall(apart, pair.0, pair.1) {
             if answer {
                 apart[slot(a, b)] = (a, b);
             }
@@ -134,7 +134,7 @@ fn all_but_last(
     for (left, right) in nodes.pairs(a, b, &whole_a, &whole_b) {
         let left = left.negate(a);
         let right = right.negate(b);
-        match told(apart, left, right) {
+        match recall(apart, left, right) {
             Some(true) => {}
             Some(false) => return None,
             None => {
@@ -149,7 +149,7 @@ fn all_but_last(
 }
 
 // Whether no valuation satisfies both ids, where that is remembered or needs no look at a node.
-fn told(apart: &Apart, a: NodeId, b: NodeId) -> Option<bool>
+fn recall(apart: &Apart, a: NodeId, b: NodeId) -> Option<bool>
     ensures answer { IfSome result (λ answer. (nodes : List Node)
         → diagram.IsStore markers nodes → diagram.IsHeld nodes a → diagram.IsHeld nodes b
         → AreApart nodes apart.now → TellsDisjoint nodes a b answer) }

@@ -39,7 +39,7 @@ fn value(text: &str) -> Result<(MarkerValueRef<'_>, &str), Fault<'_>>
         }
     } else {
         let (run, rest) = split_run(text, Class::KeyPart);
-        match named(run) {
+        match value_of_name(run) {
             Some(value) => Ok((value, rest)),
             None => Err(Fault::at_run(FaultKind::NoValue, run, text)),
         }
@@ -52,20 +52,21 @@ fn is_quote(c: char) -> bool
     c == '\'' || c == '"'
 }
 
-// The value of this name. Names that markers ask often are compared first.
-pub(crate) fn named(name: &str) -> Option<MarkerValueRef<'_>>
+// The value of this name, which is compared with the names of its length alone.
+pub(crate) fn value_of_name(name: &str) -> Option<MarkerValueRef<'_>>
     ensures found { IfSome result (λ value. IsNamed (value_of value) name.now) }
     ensures none { IfNone result ((value : Value) → IsNamed value name.now → ⊥) }
 {
-    if name == "extra" {
-        return Some(MarkerValueRef::Extra);
+    if let Some(key) = text_key(name) {
+        return Some(MarkerValueRef::MarkerEnvString(key));
     }
-    match version_key(name) {
-        Some(key) => Some(MarkerValueRef::MarkerEnvVersion(key)),
-        None => match text_key(name) {
-            Some(key) => Some(MarkerValueRef::MarkerEnvString(key)),
-            None => None,
-        },
+    if let Some(key) = version_key(name) {
+        return Some(MarkerValueRef::MarkerEnvVersion(key));
+    }
+    if name == "extra" {
+        Some(MarkerValueRef::Extra)
+    } else {
+        None
     }
 }
 
@@ -74,10 +75,10 @@ fn version_key(name: &str) -> Option<MarkerValueVersion>
     ensures none { IfNone result (
         (key : MarkerValueVersion) → name.now ≡ version_key_name key → ⊥) }
 {
-    match name {
-        "python_version" => Some(MarkerValueVersion::PythonVersion),
-        "python_full_version" => Some(MarkerValueVersion::PythonFullVersion),
-        "implementation_version" => Some(MarkerValueVersion::ImplementationVersion),
+    match name.len() {
+        14 if name == "python_version" => Some(MarkerValueVersion::PythonVersion),
+        19 if name == "python_full_version" => Some(MarkerValueVersion::PythonFullVersion),
+        22 if name == "implementation_version" => Some(MarkerValueVersion::ImplementationVersion),
         _ => None,
     }
 }
@@ -86,23 +87,39 @@ fn text_key(name: &str) -> Option<MarkerValueString>
     ensures found { IfSome result (λ key. name.now ≡ key_name key) }
     ensures none { IfNone result ((key : MarkerValueString) → name.now ≡ key_name key → ⊥) }
 {
-    match name {
-        "os_name" => Some(MarkerValueString::OsName),
-        "sys_platform" => Some(MarkerValueString::SysPlatform),
-        "platform_system" => Some(MarkerValueString::PlatformSystem),
-        "platform_machine" => Some(MarkerValueString::PlatformMachine),
-        "platform_python_implementation" => Some(MarkerValueString::PlatformPythonImplementation),
-        "implementation_name" => Some(MarkerValueString::ImplementationName),
-        "platform_release" => Some(MarkerValueString::PlatformRelease),
-        "platform_version" => Some(MarkerValueString::PlatformVersion),
-        "os.name" => Some(MarkerValueString::OsNameDeprecated),
-        "sys.platform" => Some(MarkerValueString::SysPlatformDeprecated),
-        "platform.machine" => Some(MarkerValueString::PlatformMachineDeprecated),
-        "platform.python_implementation" => Some(
-            MarkerValueString::PlatformPythonImplementationDeprecated,
-        ),
-        "platform.version" => Some(MarkerValueString::PlatformVersionDeprecated),
-        "python_implementation" => Some(MarkerValueString::PythonImplementationDeprecated),
+    match name.len() {
+        7 => match name {
+            "os_name" => Some(MarkerValueString::OsName),
+            "os.name" => Some(MarkerValueString::OsNameDeprecated),
+            _ => None,
+        },
+        12 => match name {
+            "sys_platform" => Some(MarkerValueString::SysPlatform),
+            "sys.platform" => Some(MarkerValueString::SysPlatformDeprecated),
+            _ => None,
+        },
+        15 if name == "platform_system" => Some(MarkerValueString::PlatformSystem),
+        16 => match name {
+            "platform_machine" => Some(MarkerValueString::PlatformMachine),
+            "platform_release" => Some(MarkerValueString::PlatformRelease),
+            "platform_version" => Some(MarkerValueString::PlatformVersion),
+            "platform.machine" => Some(MarkerValueString::PlatformMachineDeprecated),
+            "platform.version" => Some(MarkerValueString::PlatformVersionDeprecated),
+            _ => None,
+        },
+        19 if name == "implementation_name" => Some(MarkerValueString::ImplementationName),
+        21 if name == "python_implementation" => {
+            Some(MarkerValueString::PythonImplementationDeprecated)
+        }
+        30 => match name {
+            "platform_python_implementation" => {
+                Some(MarkerValueString::PlatformPythonImplementation)
+            }
+            "platform.python_implementation" => {
+                Some(MarkerValueString::PlatformPythonImplementationDeprecated)
+            }
+            _ => None,
+        },
         _ => None,
     }
 }

@@ -4,7 +4,7 @@ ghost use Rattle.std.specs.Prelude.{◌≡◌, Some};
 ghost use Rattle.marker_words.specs.Print.{owned_value, quoted_text, value_text};
 
 use crate::key::{MarkerValueString, MarkerValueVersion};
-use crate::lexical::named;
+use crate::lexical::value_of_name;
 use crate::parts::MarkerValueRef;
 use std::alloc::AllocError;
 use std::fmt;
@@ -51,7 +51,7 @@ impl MarkerValue {
         ensures found { IfSome result (λ value. IsNamed (owned_value value) name.now) }
         ensures none { IfNone result ((value : Value) → IsNamed value name.now → ⊥) }
     {
-        match named(name)? {
+        match value_of_name(name)? {
             MarkerValueRef::MarkerEnvVersion(key) => Some(MarkerValue::MarkerEnvVersion(key)),
             MarkerValueRef::MarkerEnvString(key) => Some(MarkerValue::MarkerEnvString(key)),
             MarkerValueRef::Extra => Some(MarkerValue::Extra),

@@ -56,7 +56,7 @@ impl MarkerOperator {
     }
 
     /// The operator with its sides exchanged: `'x' < key` is `key > 'x'`.
-    pub fn turned(self) -> MarkerOperator
+    pub fn invert(self) -> MarkerOperator
         ensures { result ≡ turned self }
     {
         match self {

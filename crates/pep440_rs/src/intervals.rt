@@ -24,7 +24,7 @@ fn trimmed_version(alloc: Global, release: &[u64]) -> Result<Version, AllocError
     ensures same { IfOk result (λ v. version_cmp v (release_only release.now) ≡ Equal) }
     ensures trimmed { IfOk result (λ v. is_trimmed v ≡ true) }
 {
-    Version::new(alloc, release)?.trimmed()
+    Version::new(alloc, release)?.without_trailing_zeros()
 }
 
 // A bound at these release numbers.

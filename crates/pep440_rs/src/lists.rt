@@ -26,7 +26,7 @@ fn trimmed_versions(alloc: Global, versions: &[Version]) -> Result<Vec<Version>,
 {
     let mut trimmed = Vec::with_capacity(alloc, versions.len())?;
     for version in versions {
-        trimmed.push(version.trimmed()?)?;
+        trimmed.push(version.without_trailing_zeros()?)?;
     }
     Ok(trimmed)
 }

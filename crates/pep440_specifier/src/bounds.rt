@@ -116,7 +116,7 @@ fn single(
 }
 
 // The version that stands for a bound of a half line.
-fn bounding(alloc: Global, version: &Version) -> Result<Version, AllocError>
+fn bound_version(alloc: Global, version: &Version) -> Result<Version, AllocError>
     ensures { IfOk result (λ bound. bound ≡ bounding version.now) }
 {
     if version.local().is_empty() {
@@ -139,7 +139,7 @@ fn lower_specifier(
     };
     Ok(Some(VersionSpecifier {
         operator,
-        version: bounding(alloc, version)?,
+        version: bound_version(alloc, version)?,
     }))
 }
 
@@ -156,6 +156,6 @@ fn upper_specifier(
     };
     Ok(Some(VersionSpecifier {
         operator,
-        version: bounding(alloc, version)?,
+        version: bound_version(alloc, version)?,
     }))
 }

@@ -119,7 +119,12 @@ fn of_pattern(
     ensures fault { IfFault result (λ error. IsToldOf error text.now) }
 {
     let rest = pattern.len().saturating_sub(fault.offset());
-    refusal_before(alloc, text, rest, SpecifierFault::Version(fault.expected()))
+    refusal_before(
+        alloc,
+        text,
+        rest,
+        SpecifierFault::Version(fault.expectation()),
+    )
 }
 
 // The refusal for an operator and a pattern that do not go together.

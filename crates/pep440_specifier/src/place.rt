@@ -16,7 +16,7 @@ pub(crate) struct Place {
 
 impl Place {
     // What stands there, None where nothing but white space follows.
-    fn found(&self) -> Option<char>
+    fn character(&self) -> Option<char>
         ensures { result ≡ found_in (drop self.now.offset (string_bytes self.now.text)) }
     {
         let rest = &self.text.as_str()[self.offset..];
@@ -32,7 +32,7 @@ impl fmt::Display for Place {
 
     fn fmt<W: fmt::Write>(&self, f: &mut fmt::Formatter<W>) -> fmt::Result {
         let (text, offset) = (self.text.as_str(), self.offset);
-        match self.found() {
+        match self.character() {
             Some(found) => write!(f, "{found:?} at byte {offset} of {text:?}"),
             None => write!(f, "the end of {text:?}"),
         }

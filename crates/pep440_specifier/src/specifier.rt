@@ -61,7 +61,7 @@ impl VersionSpecifier {
         if !star {
             return VersionSpecifier::from_version(operator, version);
         }
-        match starred(operator) {
+        match with_star(operator) {
             Some(operator) => VersionSpecifier::from_version(operator, version),
             None => Err(VersionSpecifierError::without_text(SpecifierFault::NoStar(operator))),
         }
@@ -111,7 +111,7 @@ impl VersionSpecifier {
 }
 
 // The operator in front of `.*`.
-fn starred(operator: Operator) -> Option<Operator>
+fn with_star(operator: Operator) -> Option<Operator>
     ensures { result ≡ starred operator }
 {
     match operator {

@@ -82,14 +82,14 @@ impl VersionParseError {
     }
 
     /// What was expected there.
-    pub fn expected(&self) -> Expected
+    pub fn expectation(&self) -> Expected
         ensures { result ≡ self.now.expected }
     {
         self.expected
     }
 
     // What stands at the fault, None where nothing but white space follows.
-    fn found(&self) -> Option<char>
+    fn character(&self) -> Option<char>
         ensures { result ≡ found_in (drop self.now.offset (string_bytes self.now.text)) }
     {
         let rest = &self.text.as_str()[self.offset..];
@@ -105,7 +105,7 @@ impl fmt::Display for VersionParseError {
 
     fn fmt<W: fmt::Write>(&self, f: &mut fmt::Formatter<W>) -> fmt::Result {
         let (expected, offset, text) = (self.expected, self.offset, self.text.as_str());
-        match self.found() {
+        match self.character() {
             Some(found) => write!(
                 f,
                 "Expected {expected}, found {found:?} at byte {offset} of {text:?}"

@@ -120,7 +120,7 @@ impl Version {
     ///
     /// It is refused for want of memory alone, and never where at most four numbers and no local
     /// part are left.
-    pub fn trimmed(&self) -> Result<Version, AllocError>
+    pub fn without_trailing_zeros(&self) -> Result<Version, AllocError>
         ensures value { IfOk result (λ version. version ≡ trimmed_parts self.now) }
         ensures same { IfOk result (λ version. IsSameVersion version self.now) }
         ensures inline { length (trimmed self.now.release) ≤ 4

@@ -13,7 +13,7 @@ use Rattle.marker_grammar.specs.Formula.{Formula}
 use Rattle.marker_grammar.specs.Formula as formulas
 use Rattle.marker_grammar.specs.Postfix.{stack_after, top_of}
 use Rattle.marker_grammar.specs.Postfix as symbols
-use Rattle.pep508_markers.specs.Trees.{joins, neutral, symbol, AreHeld, truth_under, Mean, RunsOf}
+use Rattle.pep508_markers.specs.Trees.{joins, neutral, symbol, trees_of, AreHeld, truth_under, Mean, RunsOf}
 
 -- a tree that stood in the interner stands there, and means what it meant
 pub held_kept : (c d : Contents) (t : MarkerTree) → IsKept c d → IsHeld c t → IsHeld d t
@@ -111,7 +111,7 @@ mean_kept c d [] [] kept m = m
 mean_kept c d [] (r ∷ runs) kept m = absurd m
 mean_kept c d (f ∷ stack) [] kept m = absurd m
 mean_kept c d (f ∷ stack) (r ∷ runs) kept m =
-    (all_kept c d r.trees.items kept m.0, ((λ v. truths_under_kept c d r.connective r.trees.items kept m.0 v ∙ m.1.0 v), mean_kept c d stack runs kept m.1.1))
+    (all_kept c d (trees_of r) kept m.0, ((λ v. truths_under_kept c d r.connective (trees_of r) kept m.0 v ∙ m.1.0 v), mean_kept c d stack runs kept m.1.1))
 
 reverse-last : (runs : List Run) (r : Run) → reverse (runs ++ (r ∷ [])) ≡ r ∷ reverse runs
 reverse-last runs r = reverse-append runs (r ∷ [])
@@ -120,7 +120,7 @@ put : (c : Contents) (stack : List Formula) (old : List Run) (r : Run) {new : Li
 put c stack old r added m = subst (Mean c stack) (sym (ap reverse added ∙ reverse-last old r)) m
 
 -- a test
-pub runs_test : (c d : Contents) (test : Test) (stack : List Formula) (old new : List Run) (r : Run) (t : MarkerTree) → IsKept c d → RunsOf c stack old → IsHeld d t → ((v : Valuation) → truth d t v ≡ holds test v) → new ≡ old ++ (r ∷ []) → r.trees.items ≡ t ∷ [] → RunsOf d (stack_after (symbols.test test) stack) new
+pub runs_test : (c d : Contents) (test : Test) (stack : List Formula) (old new : List Run) (r : Run) (t : MarkerTree) → IsKept c d → RunsOf c stack old → IsHeld d t → ((v : Valuation) → truth d t v ≡ holds test v) → new ≡ old ++ (r ∷ []) → (trees_of r) ≡ t ∷ [] → RunsOf d (stack_after (symbols.test test) stack) new
 runs_test c d test stack old new r t kept m held means added only =
     put d (formulas.test test ∷ stack) old r added (
       subst (AreHeld d) (sym only) (held, _),
@@ -132,40 +132,40 @@ module _ (c : Contents) (left right : Run) (old mid : List Run) (popped : revers
   on_top : (stack : List Formula) → RunsOf c stack old → Mean c stack (right ∷ left ∷ reverse mid)
   on_top stack m = subst (Mean c stack) popped m
 
-  right_in : (stack : List Formula) → Mean c stack (right ∷ left ∷ reverse mid) → AreHeld c right.trees.items
+  right_in : (stack : List Formula) → Mean c stack (right ∷ left ∷ reverse mid) → AreHeld c (trees_of right)
   right_in [] m = absurd m
   right_in (g ∷ stack) m = m.0
 
-  left_in : (stack : List Formula) → Mean c stack (right ∷ left ∷ reverse mid) → AreHeld c left.trees.items
+  left_in : (stack : List Formula) → Mean c stack (right ∷ left ∷ reverse mid) → AreHeld c (trees_of left)
   left_in [] m = absurd m
   left_in (g ∷ []) m = absurd m.1.1
   left_in (g ∷ f ∷ stack) m = m.1.1.0
 
-  pub right_held : (stack : List Formula) → RunsOf c stack old → AreHeld c right.trees.items
+  pub right_held : (stack : List Formula) → RunsOf c stack old → AreHeld c (trees_of right)
   right_held stack m = right_in stack (on_top stack m)
 
-  pub left_held : (stack : List Formula) → RunsOf c stack old → AreHeld c left.trees.items
+  pub left_held : (stack : List Formula) → RunsOf c stack old → AreHeld c (trees_of left)
   left_held stack m = left_in stack (on_top stack m)
 
   -- their trees as ones that the connective joins, one after the other, and then together
   module _ (k : Connective) (d e : Contents) (xs ys : List MarkerTree) (r : Run) (new : List Run) (kept_left : IsKept c d) (kept_right : IsKept d e)
       (held_left : AreHeld d xs) (held_right : AreHeld e ys)
-      (means_left : (v : Valuation) → truth_under d k xs v ≡ truth_under c left.connective left.trees.items v)
-      (means_right : (v : Valuation) → truth_under e k ys v ≡ truth_under d right.connective right.trees.items v)
-      (both : (r.trees.items ≡ xs ++ ys) ⊎ (r.trees.items ≡ ys ++ xs)) (under : r.connective ≡ k) (added : new ≡ mid ++ (r ∷ [])) where
+      (means_left : (v : Valuation) → truth_under d k xs v ≡ truth_under c left.connective (trees_of left) v)
+      (means_right : (v : Valuation) → truth_under e k ys v ≡ truth_under d right.connective (trees_of right) v)
+      (both : ((trees_of r) ≡ xs ++ ys) ⊎ ((trees_of r) ≡ ys ++ xs)) (under : r.connective ≡ k) (added : new ≡ mid ++ (r ∷ [])) where
     kept : IsKept c e
     kept = kept_on c d e kept_left kept_right
 
-    held : AreHeld e r.trees.items
-    held = queues_held e xs ys r.trees.items both (all_kept d e xs kept_right held_left) held_right
+    held : AreHeld e (trees_of r)
+    held = queues_held e xs ys (trees_of r) both (all_kept d e xs kept_right held_left) held_right
 
-    means : AreHeld c right.trees.items → (v : Valuation) → truth_under e r.connective r.trees.items v ≡ joins k (truth_under c left.connective left.trees.items v) (truth_under c right.connective right.trees.items v)
+    means : AreHeld c (trees_of right) → (v : Valuation) → truth_under e r.connective (trees_of r) v ≡ joins k (truth_under c left.connective (trees_of left) v) (truth_under c right.connective (trees_of right) v)
     means h v =
-        ap (λ (x : Connective). truth_under e x r.trees.items v) under
-        ∙ queues_joined e k xs ys r.trees.items both v
-        ∙ (λ i. joins k ((truths_under_kept d e k xs kept_right held_left v ∙ means_left v) i) ((means_right v ∙ truths_under_kept c d right.connective right.trees.items kept_left h v) i))
+        ap (λ (x : Connective). truth_under e x (trees_of r) v) under
+        ∙ queues_joined e k xs ys (trees_of r) both v
+        ∙ (λ i. joins k ((truths_under_kept d e k xs kept_right held_left v ∙ means_left v) i) ((means_right v ∙ truths_under_kept c d right.connective (trees_of right) kept_left h v) i))
 
-    says : (k : Connective) (stack : List Formula) → ((v : Valuation) → truth_under e r.connective r.trees.items v ≡ joins k (truth_under c left.connective left.trees.items v) (truth_under c right.connective right.trees.items v))
+    says : (k : Connective) (stack : List Formula) → ((v : Valuation) → truth_under e r.connective (trees_of r) v ≡ joins k (truth_under c left.connective (trees_of left) v) (truth_under c right.connective (trees_of right) v))
         → Mean c stack (right ∷ left ∷ reverse mid) → RunsOf e (stack_after (symbol k) stack) new
     says And [] same m = absurd m
     says And (g ∷ []) same m = absurd m.1.1
@@ -199,11 +199,11 @@ runs_few c Or (g ∷ []) old new m one none = none_left c none
 runs_few c Or (g ∷ f ∷ stack) old new m one none = let h = few c (g ∷ f ∷ stack) old m one in absurd (omega (arith, h))
 
 -- at the end the run on top is that of the formula
-top_in : (c : Contents) (stack : List Formula) (r : Run) (rest : List Run) → Mean c stack (r ∷ rest) → AreHeld c r.trees.items × ((v : Valuation) → truth_under c r.connective r.trees.items v ≡ formulas.truth (top_of stack) v)
+top_in : (c : Contents) (stack : List Formula) (r : Run) (rest : List Run) → Mean c stack (r ∷ rest) → AreHeld c (trees_of r) × ((v : Valuation) → truth_under c r.connective (trees_of r) v ≡ formulas.truth (top_of stack) v)
 top_in c [] r rest m = absurd m
 top_in c (f ∷ stack) r rest m = (m.0, m.1.0)
 
-pub run_on_top : (c : Contents) (stack : List Formula) (old new : List Run) (r : Run) → RunsOf c stack old → old ≡ new ++ (r ∷ []) → AreHeld c r.trees.items × ((v : Valuation) → truth_under c r.connective r.trees.items v ≡ formulas.truth (top_of stack) v)
+pub run_on_top : (c : Contents) (stack : List Formula) (old new : List Run) (r : Run) → RunsOf c stack old → old ≡ new ++ (r ∷ []) → AreHeld c (trees_of r) × ((v : Valuation) → truth_under c r.connective (trees_of r) v ≡ formulas.truth (top_of stack) v)
 run_on_top c stack old new r m last = top_in c stack r (reverse new) (subst (Mean c stack) (ap reverse last ∙ reverse-last new r) m)
 
 nothing_in : (c : Contents) (stack : List Formula) → Mean c stack [] → (v : Valuation) → formulas.truth (top_of stack) v ≡ true
@@ -212,7 +212,3 @@ nothing_in c (f ∷ stack) m v = absurd m
 
 pub nothing_says_true : (c : Contents) (stack : List Formula) (old : List Run) → RunsOf c stack old → old ≡ [] → (v : Valuation) → formulas.truth (top_of stack) v ≡ true
 nothing_says_true c stack old m none v = nothing_in c stack (subst (Mean c stack) (ap reverse none) m) v
-
--- no tree
-pub truth_of_none : (c : Contents) (k : Connective) (trees : List MarkerTree) → trees ≡ [] → (v : Valuation) → truth_under c k trees v ≡ neutral k
-truth_of_none c k trees none v = ap (λ (x : List MarkerTree). truth_under c k x v) none

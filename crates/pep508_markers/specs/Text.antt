@@ -1,8 +1,9 @@
 -- What is read of a marker text as a tree, and why none is. (PEP 508.)
-use Rattle.std.specs.Prelude.{◌≡◌, ◌⊎◌, ⊤, ℕ, List, [], ◌++◌, Option}
+use Rattle.std.specs.Prelude.{◌≡◌, ◌⊎◌, ⊤, ℕ, List, [], ◌++◌, Option, Result, IfErr}
 use Rattle.refusal.specs.declared.Refusal.{Refusal}
 use Rattle.refusal.specs.declared.Refusal.TheVariants.{OutOfMemory, SegmentAtEnd, Fault}
 use Rattle.pep508_errors.specs.declared.error.Pep508Error.{Pep508Error}
+use Rattle.pep508_errors.specs.Url.{IfFault}
 use Rattle.marker_warnings.specs.declared.warning.MarkerWarningKind.{MarkerWarningKind}
 use Rattle.marker_warnings.specs.Kinds.{Adds}
 use Rattle.marker_environment.specs.Valuation.{Valuation}
@@ -47,6 +48,10 @@ module _ {T E : Type 0} where
   OnRefusedText OutOfMemory P = ⊤
   OnRefusedText SegmentAtEnd P = P
   OnRefusedText (Fault error) P = P
+
+-- a fact of a call that is refused with a fault
+abbrev pub OnFault : {A E : Type 0} → Result A (Refusal E) → Type 0 → Type 0
+OnFault result P = IfErr result (λ refusal. IfFault refusal (λ _. P))
 
 -- the kinds of a reporter
 abbrev pub Kinds : Type 0

@@ -33,12 +33,16 @@ abbrev pub truth_under : Contents → Connective → List MarkerTree → Valuati
 truth_under c k [] v = neutral k
 truth_under c k (t ∷ trees) v = joins k (truth c t v) (truth_under c k trees v)
 
+-- the trees of a run, of which there is at least one
+abbrev pub trees_of : Run → List MarkerTree
+trees_of r = r.first ∷ r.others.items
+
 -- the trees of each run stand in the interner and mean its formula under its connective
 abbrev pub Mean : Contents → List Formula → List Run → Type 0
 Mean c [] [] = ⊤
 Mean c (f ∷ stack) (r ∷ runs) =
-    AreHeld c r.trees.items
-    × (((v : Valuation) → truth_under c r.connective r.trees.items v ≡ truth_of f v)
+    AreHeld c (trees_of r)
+    × (((v : Valuation) → truth_under c r.connective (trees_of r) v ≡ truth_of f v)
     × Mean c stack runs)
 Mean c [] (r ∷ runs) = ⊥
 Mean c (f ∷ stack) [] = ⊥

@@ -44,7 +44,7 @@ pub fn tree_of(
     }
     match runs.pop() {
         Some(run) => {
-            let tree = join_all(interner, run.connective, run.trees)?;
+            let tree = join_all(interner, run)?;
             Ok(tree)
         }
         None => Ok(MarkerTree::TRUE),
@@ -69,7 +69,7 @@ fn apply(
     match token {
         Token::Expression(expression) => {
             let tree = tree_of_valid(interner, expression)?;
-            let run = run_of(interner.allocator(), tree)?;
+            let run = run_of(interner.allocator(), Connective::And, tree);
             runs.push(run)?;
         }
         Token::And => connect(interner, runs, Connective::And)?,

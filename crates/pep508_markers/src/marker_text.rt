@@ -14,7 +14,7 @@ ghost use Rattle.marker_clauses.specs.Dnf.{AreClausesOf, TellsExtra};
 ghost use Rattle.marker_grammar.specs.Grammar.{Reads};
 ghost use Rattle.marker_readable.specs.Text.{TellsText};
 ghost use Rattle.pep508_markers.specs.Json.{IsJsonRefusal, IsTreeOfJson};
-ghost use Rattle.pep508_markers.specs.Text.{IsTreeOf, IsReportedTree, IsRefusal, IsRefusalIn, OnRefusedText};
+ghost use Rattle.pep508_markers.specs.Text.{IsTreeOf, IsReportedTree, IsRefusal, IsRefusalIn, OnFault, OnRefusedText};
 
 use crate::formula_tree::tree_of;
 use crate::json::{no_string, read_string};
@@ -51,7 +51,8 @@ pub trait MarkerText: Sized {
     ///
     /// Where the text is no marker, the fault has its message, its place and the text.
     /// `SegmentAtEnd` comes where the text is read with a comparison for which 18446744073709551615
-    /// would be raised. What the trees of the interner mean stays, also then.
+    /// would be raised. What the trees of the interner mean stays, also then, and at a fault the
+    /// interner stays as it was.
     fn parse_str<T: Pep508Url>(
         text: &str,
         interner: &mut Interner,
@@ -61,7 +62,8 @@ pub trait MarkerText: Sized {
         ensures held { IfOk result (λ t. IsHeld interner.new (tree t)) }
         ensures means { IfOk result (λ t. (kinds : List MarkerWarningKind)
             × IsTreeOf interner.new text.now (tree t) kinds) }
-        ensures refused { IfErr result (IsRefusal text.now) };
+        ensures refused { IfErr result (IsRefusal text.now) }
+        ensures untouched { OnFault result (interner.new ≡ interner.old) };
 
     /// The same, with the warnings reported in the order of the text. A text that is refused as a
     /// fault or as `SegmentAtEnd` has reported nothing, and where memory runs out the first of the
@@ -78,6 +80,7 @@ pub trait MarkerText: Sized {
         ensures means { IfOk result (λ t. IsReportedTree interner.new text.now
             (R.kinds reporter.old) (R.kinds reporter.new) (tree t)) }
         ensures refused { IfErr result (IsRefusal text.now) }
+        ensures untouched { OnFault result (interner.new ≡ interner.old) }
         ensures unreported { IfErr result (λ refusal. OnRefusedText refusal
             (Keeps (R.kinds reporter.old) (R.kinds reporter.new))) }
         ensures begun { IfErr result
@@ -87,7 +90,8 @@ pub trait MarkerText: Sized {
     /// Reads a marker out of a JSON string, as [`MarkerText::parse_str`] reads the string's text.
     ///
     /// JSON that is no string is a fault at its start, with no length, or 1 at the end of no text.
-    /// A fault of the string's text has its place there, and keeps that text.
+    /// A fault of the string's text has its place there, and keeps that text. At a fault the
+    /// interner stays as it was.
     fn from_json<T: Pep508Url>(
         json: &str,
         interner: &mut Interner,
@@ -96,7 +100,8 @@ pub trait MarkerText: Sized {
         ensures counts { interner.old.expansions ≤ interner.new.expansions }
         ensures held { IfOk result (λ t. IsHeld interner.new (tree t)) }
         ensures means { IfOk result (λ t. IsTreeOfJson interner.new json.now (tree t)) }
-        ensures refused { IfErr result (IsJsonRefusal json.now) };
+        ensures refused { IfErr result (IsJsonRefusal json.now) }
+        ensures untouched { OnFault result (interner.new ≡ interner.old) };
 
     /// The marker as a disjunction of conjunctions: a list of clauses, each a list of comparisons.
     /// Of `TRUE` and of `FALSE` there is none. Only memory can run out.
@@ -172,7 +177,7 @@ impl MarkerText for MarkerTree {
 
 /// Reads the marker that a text ends with, as [`MarkerText::parse_str`] reads a whole text, with
 /// the kinds of its warnings in their order, of which nobody is told. A fault has its place in the
-/// text and keeps it.
+/// text and keeps it, and leaves the interner as it was.
 #[tactic(auto, using(crate::proofs::FaultLaws::refused_behind))]
 pub fn read_behind<T: Pep508Url>(
     text: &str,
@@ -185,6 +190,7 @@ pub fn read_behind<T: Pep508Url>(
     ensures held { IfOk result (λ r. IsHeld interner.new r.0) }
     ensures means { IfOk result (λ r. IsTreeOf interner.new marker.now r.0 r.1.items) }
     ensures refused { IfErr result (IsRefusalIn text.now marker.now) }
+    ensures untouched { OnFault result (interner.new ≡ interner.old) }
 {
     let alloc = interner.allocator();
     let reading = match read(alloc, marker) {
@@ -199,7 +205,7 @@ pub fn read_behind<T: Pep508Url>(
 }
 
 /// Reads the marker that a text ends with, as [`MarkerText::parse_reporter`] reads a whole text. A
-/// fault has its place in the text and keeps it.
+/// fault has its place in the text and keeps it, and leaves the interner as it was.
 pub fn parse_behind<T: Pep508Url, R: Reporter>(
     text: &str,
     marker: &str,
@@ -214,6 +220,7 @@ pub fn parse_behind<T: Pep508Url, R: Reporter>(
     ensures means { IfOk result (IsReportedTree interner.new marker.now
         (R.kinds reporter.old) (R.kinds reporter.new)) }
     ensures refused { IfErr result (IsRefusalIn text.now marker.now) }
+    ensures untouched { OnFault result (interner.new ≡ interner.old) }
     ensures unreported { IfErr result (λ refusal. OnRefusedText refusal
         (Keeps (R.kinds reporter.old) (R.kinds reporter.new))) }
     ensures begun { IfErr result

@@ -3,7 +3,7 @@
 ghost use Rattle.std.specs.Prelude.{◌≡◌, ◌⊎◌, ◌++◌, ◌∷◌, [], length, reverse, List, IfNone, IfOk, IfSome, OnOk, ◌≤◌};
 ghost use Rattle.marker_environment.specs.Valuation.{Valuation};
 ghost use Rattle.marker_graph.specs.Contents.{IsHeld, IsKept, truth};
-ghost use Rattle.pep508_markers.specs.Trees.{joins, symbol, truth_under, AreHeld, AreRuns, Pushes};
+ghost use Rattle.pep508_markers.specs.Trees.{joins, symbol, trees_of, truth_under, AreHeld, AreRuns, Pushes};
 
 use marker_graph::{Interner, MarkerTree};
 use std::alloc::{AllocError, Global};
@@ -17,11 +17,12 @@ pub(crate) enum Connective {
 }
 
 // The tree of a formula, in parts: trees that the connective joins, which waits until another
-// connective wants the tree.
+// connective wants the tree. A tree alone needs no list.
 #[derive(Drop)]
 pub(crate) struct Run {
     pub(crate) connective: Connective,
-    pub(crate) trees: VecDeque<MarkerTree>,
+    pub(crate) first: MarkerTree,
+    pub(crate) others: VecDeque<MarkerTree>,
 }
 
 // The tree of what two trees say under a connective.
@@ -47,87 +48,96 @@ fn join_two(
     Ok(tree)
 }
 
-// The tree of what the trees say under a connective. They are joined two by two, and what comes of
-// it again, so that each tree takes part in no more joins than the number of trees can be halved.
-pub(crate) fn join_all(
-    interner: &mut Interner,
-    connective: Connective,
-    trees: VecDeque<MarkerTree>,
-) -> Result<MarkerTree, AllocError>
-    requires { AreHeld interner.old trees.items }
+// Puts a tree behind the others, and takes the first one of all.
+fn rotate(trees: &mut VecDeque<MarkerTree>, tree: MarkerTree) -> Result<MarkerTree, AllocError>
+    ensures { IfOk result (λ first. first ∷ trees.new.items ≡ trees.old.items ++ tree ∷ []) }
+{
+    let Some(first) = trees.pop_front() else {
+        return Ok(tree);
+    };
+    trees.push_back(tree)?;
+    Ok(first)
+}
+
+// The tree of what a run says. Its trees are joined two by two, and what comes of it again, so that
+// each tree takes part in no more joins than the number of trees can be halved.
+pub(crate) fn join_all(interner: &mut Interner, run: Run) -> Result<MarkerTree, AllocError>
+    requires { AreHeld interner.old (trees_of run) }
     ensures kept { IsKept interner.old interner.new }
     ensures counts { interner.old.expansions ≤ interner.new.expansions }
     ensures held { IfOk result (IsHeld interner.new) }
     ensures means { IfOk result (λ t. (v : Valuation) → truth interner.new t v
-        ≡ truth_under interner.old connective trees.items v) }
+        ≡ truth_under interner.old run.connective (trees_of run) v) }
 {
-    let mut trees = trees;
-    while let Some(left) = trees.pop_front() {
-        let Some(right) = trees.pop_front() else {
-            return Ok(left);
-        };
+    let connective = run.connective;
+    let mut left = run.first;
+    let mut trees = run.others;
+    while let Some(right) = trees.pop_front() {
         let tree = join_two(interner, connective, left, right)?;
-        trees.push_back(tree)?;
+        left = rotate(&mut trees, tree)?;
     }
-    match connective {
-        Connective::And => Ok(MarkerTree::TRUE),
-        Connective::Or => Ok(MarkerTree::FALSE),
+    Ok(left)
+}
+
+// The formula of a tree, in one part.
+pub(crate) fn run_of(alloc: Global, connective: Connective, tree: MarkerTree) -> Run
+    ensures connective { result.connective ≡ connective }
+    ensures trees { trees_of result ≡ tree ∷ [] }
+{
+    Run {
+        connective,
+        first: tree,
+        others: VecDeque::new(alloc),
     }
 }
 
-// The trees of a run as ones that the connective joins: its own, or the one tree that they make.
-fn trees_under(
-    interner: &mut Interner,
-    connective: Connective,
-    run: Run,
-) -> Result<VecDeque<MarkerTree>, AllocError>
-    requires { AreHeld interner.old run.trees.items }
+// A run as one of trees that the connective joins: its own, or the one tree that they make.
+fn run_under(interner: &mut Interner, connective: Connective, run: Run) -> Result<Run, AllocError>
+    requires { AreHeld interner.old (trees_of run) }
     ensures kept { IsKept interner.old interner.new }
     ensures counts { interner.old.expansions ≤ interner.new.expansions }
-    ensures held { IfOk result (λ r. AreHeld interner.new r.items) }
+    ensures connective { IfOk result (λ r. r.connective ≡ connective) }
+    ensures held { IfOk result (λ r. AreHeld interner.new (trees_of r)) }
     ensures means { IfOk result (λ r. (v : Valuation)
-        → truth_under interner.new connective r.items v
-        ≡ truth_under interner.old run.connective run.trees.items v) }
+        → truth_under interner.new connective (trees_of r) v
+        ≡ truth_under interner.old run.connective (trees_of run) v) }
 {
     if run.connective == connective {
-        return Ok(run.trees);
+        return Ok(run);
     }
-    let tree = join_all(interner, run.connective, run.trees)?;
-    let mut trees = VecDeque::new(interner.allocator());
-    trees.push_back(tree)?;
-    Ok(trees)
+    let tree = join_all(interner, run)?;
+    Ok(run_of(interner.allocator(), connective, tree))
+}
+
+// The run with the trees of another one behind its own.
+fn append(run: Run, more: Run) -> Result<Run, AllocError>
+    ensures connective { IfOk result (λ r. r.connective ≡ run.connective) }
+    ensures trees { IfOk result (λ r. trees_of r ≡ trees_of run ++ trees_of more) }
+{
+    let mut others = run.others;
+    let mut last = more.others;
+    others.push_back(more.first)?;
+    others.append(&mut last)?;
+    Ok(Run {
+        connective: run.connective,
+        first: run.first,
+        others,
+    })
 }
 
 // The trees of both. The shorter list moves, so that no tree moves more often than the number of
 // trees can be halved.
-fn join_queues(
-    left: VecDeque<MarkerTree>,
-    right: VecDeque<MarkerTree>,
-) -> Result<VecDeque<MarkerTree>, AllocError>
-    ensures { IfOk result (λ r. (r.items ≡ left.items ++ right.items)
-        ⊎ (r.items ≡ right.items ++ left.items)) }
+fn join_runs(left: Run, right: Run) -> Result<Run, AllocError>
+    requires { right.connective ≡ left.connective }
+    ensures connective { IfOk result (λ r. r.connective ≡ left.connective) }
+    ensures trees { IfOk result (λ r. (trees_of r ≡ trees_of left ++ trees_of right)
+        ⊎ (trees_of r ≡ trees_of right ++ trees_of left)) }
 {
-    let mut left = left;
-    let mut right = right;
-    if left.len() < right.len() {
-        right.append(&mut left)?;
-        Ok(right)
+    if left.others.len() < right.others.len() {
+        append(right, left)
     } else {
-        left.append(&mut right)?;
-        Ok(left)
+        append(left, right)
     }
-}
-
-// The formula of a tree, in one part.
-pub(crate) fn run_of(alloc: Global, tree: MarkerTree) -> Result<Run, AllocError>
-    ensures { IfOk result (λ r. r.trees.items ≡ tree ∷ []) }
-{
-    let mut trees = VecDeque::new(alloc);
-    trees.push_back(tree)?;
-    Ok(Run {
-        connective: Connective::And,
-        trees,
-    })
 }
 
 // Joins the last two formulas, in parts.
@@ -145,10 +155,10 @@ pub(crate) fn connect(
     let Some((left, right)) = pop_two(runs) else {
         return Ok(());
     };
-    let first = trees_under(interner, connective, left)?;
-    let second = trees_under(interner, connective, right)?;
-    let trees = join_queues(first, second)?;
-    runs.push(Run { connective, trees })?;
+    let first = run_under(interner, connective, left)?;
+    let second = run_under(interner, connective, right)?;
+    let both = join_runs(first, second)?;
+    runs.push(both)?;
     Ok(())
 }
 

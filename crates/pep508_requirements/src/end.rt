@@ -1,10 +1,11 @@
 //! The end of a requirement, with a tree for its marker.
 
-ghost use Rattle.std.specs.Prelude.{◌≤◌, ◌++◌, IfErr, IfOk, Some};
+ghost use Rattle.std.specs.Prelude.{◌≡◌, ◌≤◌, ◌++◌, IfErr, IfOk, Some};
 ghost use Rattle.std.specs.Str.{chars};
 ghost use Rattle.pep508_text.specs.Suffix.{IsSuffix};
 ghost use Rattle.marker_graph.specs.Contents.{IsHeld, IsKept};
 ghost use Rattle.requirement_words.specs.Tail.{IsTail};
+ghost use Rattle.pep508_markers.specs.Text.{OnFault};
 ghost use Rattle.pep508_requirements.specs.Requirement.{IsTreeOfEnd};
 ghost use Rattle.pep508_requirements.specs.Refused.{IsEndRefusal};
 
@@ -31,6 +32,7 @@ fn read_marker<T: Pep508Url>(
     ensures held { IfOk result (λ r. IsHeld interner.new r.0) }
     ensures means { IfOk result (λ r. IsTreeOfEnd interner.new (chars rest.now) r.0 r.1.items) }
     ensures refused { IfErr result (IsEndRefusal text.now (chars rest.now)) }
+    ensures untouched { OnFault result (interner.new ≡ interner.old) }
 {
     match read_behind(text, marker, interner) {
         Ok((tree, kinds)) => Ok((tree, kinds)),
@@ -54,6 +56,7 @@ pub(crate) fn read_end<T: Pep508Url>(
     ensures held { IfOk result (λ r. IsHeld interner.new r.0) }
     ensures means { IfOk result (λ r. IsTreeOfEnd interner.new (chars rest.now) r.0 r.1.items) }
     ensures refused { IfErr result (IsEndRefusal text.now (chars rest.now)) }
+    ensures untouched { OnFault result (interner.new ≡ interner.old) }
 {
     match read_tail(url, rest) {
         Ok(Some(marker)) => read_marker(text, rest, marker, interner),

@@ -50,7 +50,7 @@ pub(crate) fn written_url<'a>(body: &Body<'a>) -> &'a str
 }
 
 // The value that the type of URLs has for the text of a URL, in front of `rest`.
-pub(crate) fn wanted<T: Pep508Url>(
+pub(crate) fn read_version_or_url<T: Pep508Url>(
     alloc: Global,
     text: &str,
     body: Body<'_>,

@@ -1,6 +1,6 @@
 //! What requirements are asked, and how they are changed.
 
-ghost use Rattle.std.specs.Prelude.{◌≡◌, ◌&&◌, All, false, true, IfOk, OnErr, OnOk, Some};
+ghost use Rattle.std.specs.Prelude.{◌≡◌, ◌≤◌, ◌&&◌, All, false, true, IfOk, OnErr, OnOk, Some};
 ghost use Rattle.marker_environment.specs.Environment.{valuation_of, values_of};
 ghost use Rattle.marker_environment.specs.Valuation.{Valuation};
 ghost use Rattle.marker_graph.specs.Contents.{IsHeld, IsKept, truth};
@@ -47,6 +47,7 @@ impl<T: Pep508Url> Requirement<T> {
     ) -> Result<(), AllocError>
         requires { IsHeld interner.old self.old.marker }
         ensures kept { IsKept interner.old interner.new }
+        ensures counts { interner.old.expansions ≤ interner.new.expansions }
         ensures held { IsHeld interner.new self.new.marker }
         ensures means { OnOk result ((v : Valuation) → truth interner.new self.new.marker v
             ≡ (truth interner.old self.old.marker v && v.extra extra.now)) }

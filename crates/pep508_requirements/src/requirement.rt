@@ -6,13 +6,13 @@ ghost use Rattle.marker_warnings.specs.Kinds.{Adds, Keeps};
 ghost use Rattle.marker_parts.specs.Reporting.{HasBegun};
 ghost use Rattle.marker_graph.specs.Contents.{IsHeld, IsKept};
 ghost use Rattle.pep508_markers.specs.Json.{IsStringOf};
-ghost use Rattle.pep508_markers.specs.Text.{OnRefusedText};
+ghost use Rattle.pep508_markers.specs.Text.{OnFault, OnRefusedText};
 ghost use Rattle.pep508_urls.specs.Variables.{value_of};
 ghost use Rattle.pep508_requirements.specs.Requirement.{IsMarkedBy, IsReadAs};
 ghost use Rattle.pep508_requirements.specs.Refused.{IsJsonRefusal, IsRefusal};
 
 use crate::end::read_end;
-use crate::head::{read_named, wanted, written_url};
+use crate::head::{read_named, read_version_or_url, written_url};
 use crate::origin::RequirementOrigin;
 use crate::version_or_url::VersionOrUrl;
 use marker_graph::{Interner, MarkerTree};
@@ -67,6 +67,7 @@ fn read<T: Pep508Url>(
     ensures refused { IfErr result (IsRefusal
         (λ piece url. T.names piece surroundings.now url) T.tells_size
         (λ piece. T.may_overflow piece surroundings.now) (value_of surroundings.now) text.now) }
+    ensures untouched { OnFault result (interner.new ≡ interner.old) }
 {
     let alloc = interner.allocator();
     let (Head { name, extras, body }, rest) = match read_named(alloc, text, surroundings) {
@@ -74,7 +75,7 @@ fn read<T: Pep508Url>(
         Err(refusal) => return Err(refusal),
     };
     let url = written_url(&body);
-    let version_or_url = match wanted(alloc, text, body, rest, surroundings) {
+    let version_or_url = match read_version_or_url(alloc, text, body, rest, surroundings) {
         Ok(version_or_url) => version_or_url,
         Err(refusal) => return Err(refusal),
     };
@@ -111,6 +112,7 @@ impl<T: Pep508Url> Requirement<T> {
         ensures refused { IfErr result (IsRefusal
             (λ piece url. T.names piece surroundings.now url) T.tells_size
             (λ piece. T.may_overflow piece surroundings.now) (value_of surroundings.now) text.now) }
+        ensures untouched { OnFault result (interner.new ≡ interner.old) }
     {
         match read(text, surroundings, interner) {
             Ok((requirement, _)) => Ok(requirement),
@@ -125,7 +127,8 @@ impl<T: Pep508Url> Requirement<T> {
     /// text, and so is one whose URL its type refuses. `SegmentAtEnd` comes where the marker has a
     /// comparison for which 18446744073709551615 would be raised. A text that is refused so has
     /// reported nothing; where memory runs out the first of the warnings, or none, have been
-    /// reported. What the trees of the interner mean stays, also then.
+    /// reported. What the trees of the interner mean stays, also then, and at a fault the interner
+    /// stays as it was.
     pub fn parse_reporter<R: Reporter>(
         text: &str,
         surroundings: &Surroundings<'_>,
@@ -144,6 +147,7 @@ impl<T: Pep508Url> Requirement<T> {
         ensures refused { IfErr result (IsRefusal
             (λ piece url. T.names piece surroundings.now url) T.tells_size
             (λ piece. T.may_overflow piece surroundings.now) (value_of surroundings.now) text.now) }
+        ensures untouched { OnFault result (interner.new ≡ interner.old) }
         ensures unreported { IfErr result (λ refusal. OnRefusedText refusal
             (Keeps (R.kinds reporter.old) (R.kinds reporter.new))) }
         ensures begun { IfErr result (λ _. HasBegun
@@ -162,7 +166,8 @@ impl<T: Pep508Url> Requirement<T> {
     /// Reads a requirement out of a JSON string, as [`Requirement::parse`] reads the string's text.
     ///
     /// JSON that is no string is a fault at its start, with no length, or 1 at the end of no text.
-    /// A fault of the string's text has its place there, and keeps that text.
+    /// A fault of the string's text has its place there, and keeps that text. At a fault the
+    /// interner stays as it was.
     pub fn from_json(
         json: &str,
         surroundings: &Surroundings<'_>,
@@ -179,6 +184,7 @@ impl<T: Pep508Url> Requirement<T> {
         ensures refused { IfErr result (IsJsonRefusal
             (λ piece url. T.names piece surroundings.now url) T.tells_size
             (λ piece. T.may_overflow piece surroundings.now) (value_of surroundings.now) json.now) }
+        ensures untouched { OnFault result (interner.new ≡ interner.old) }
     {
         let alloc = interner.allocator();
         match read_string(alloc, json)? {

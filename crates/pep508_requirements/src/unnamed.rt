@@ -7,7 +7,7 @@ ghost use Rattle.marker_environment.specs.Environment.{valuation_of, values_of};
 ghost use Rattle.marker_parts.specs.Reporting.{HasBegun};
 ghost use Rattle.marker_walks.specs.Possible.{IsImpossible, IsPossible};
 ghost use Rattle.marker_graph.specs.Contents.{IsHeld, IsKept, truth};
-ghost use Rattle.pep508_markers.specs.Text.{OnRefusedText};
+ghost use Rattle.pep508_markers.specs.Text.{OnFault, OnRefusedText};
 ghost use Rattle.pep508_requirements.specs.Unnamed.{IsUnnamedMarkedBy, IsUnnamedReadAs, IsUnnamedRefusal};
 
 use crate::end::read_end;
@@ -65,6 +65,7 @@ fn read<Url: UnnamedRequirementUrl>(
     ensures refused { IfErr result (IsUnnamedRefusal
         (λ piece url. Url.names piece surroundings.now url) Url.tells_size
         (λ piece. Url.may_overflow piece surroundings.now) text.now) }
+    ensures untouched { OnFault result (interner.new ≡ interner.old) }
 {
     let alloc = interner.allocator();
     let (head, rest) = match read_unnamed(alloc, text) {
@@ -102,7 +103,8 @@ impl<Url: UnnamedRequirementUrl> UnnamedRequirement<Url> {
     /// is one whose URL its type refuses. `SegmentAtEnd` comes where the marker has a comparison
     /// for which 18446744073709551615 would be raised. A text that is refused so has reported
     /// nothing; where memory runs out the first of the warnings, or none, have been reported. What
-    /// the trees of the interner mean stays, also then.
+    /// the trees of the interner mean stays, also then, and at a fault the interner stays as it
+    /// was.
     pub fn parse<R: Reporter>(
         text: &str,
         surroundings: &Surroundings<'_>,
@@ -121,6 +123,7 @@ impl<Url: UnnamedRequirementUrl> UnnamedRequirement<Url> {
         ensures refused { IfErr result (IsUnnamedRefusal
             (λ piece url. Url.names piece surroundings.now url) Url.tells_size
             (λ piece. Url.may_overflow piece surroundings.now) text.now) }
+        ensures untouched { OnFault result (interner.new ≡ interner.old) }
         ensures unreported { IfErr result (λ refusal. OnRefusedText refusal
             (Keeps (R.kinds reporter.old) (R.kinds reporter.new))) }
         ensures begun { IfErr result (λ _. HasBegun

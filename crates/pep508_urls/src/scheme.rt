@@ -150,7 +150,7 @@ pub fn split_scheme(text: &str) -> Option<(&str, &str)>
     ensures found { IfSome result (λ parts. SplitsScheme text.now parts.0.now parts.1.now) }
     ensures none { IfNone result ((scheme rest : List ℕ) → ¬ SplitsScheme text.now scheme rest) }
 {
-    let Some((scheme, rest)) = trimmed(text).split_once(':') else {
+    let Some((scheme, rest)) = trim_url(text).split_once(':') else {
         return None;
     };
     if is_scheme(scheme) {
@@ -161,7 +161,7 @@ pub fn split_scheme(text: &str) -> Option<(&str, &str)>
 }
 
 /// The text without C0 controls and spaces at its ends.
-fn trimmed(text: &str) -> &str
+fn trim_url(text: &str) -> &str
     ensures { result.now ≡ trim_c0_control_and_space text.now }
 {
     let front = text.as_bytes().iter().take_while(|&&b| b <= b' ').count();

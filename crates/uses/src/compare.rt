@@ -4,7 +4,7 @@ use anyhow::Result;
 use pep508_rs::{Interner, MarkerText, MarkerTree, VerbatimUrl};
 
 // Markers of one interner, which are equal where they mean the same.
-fn compared(rt: &HostRuntime, interner: &mut Interner) -> Result<()> {
+fn compare(rt: &HostRuntime, interner: &mut Interner) -> Result<()> {
     let new = MarkerTree::parse_str::<VerbatimUrl>("python_version >= '3.8'", interner)?;
     let old = MarkerTree::parse_str::<VerbatimUrl>("python_version < '3.8'", interner)?;
     println!(rt; "the negation: {}", old == new.negate())?;
@@ -13,7 +13,7 @@ fn compared(rt: &HostRuntime, interner: &mut Interner) -> Result<()> {
 }
 
 // Markers of one interner, joined.
-fn joined(rt: &HostRuntime, interner: &mut Interner) -> Result<()> {
+fn join(rt: &HostRuntime, interner: &mut Interner) -> Result<()> {
     let new = MarkerTree::parse_str::<VerbatimUrl>("python_version >= '3.8'", interner)?;
     let old = new.negate();
     let mut both = old;
@@ -25,7 +25,7 @@ fn joined(rt: &HostRuntime, interner: &mut Interner) -> Result<()> {
 }
 
 // Markers of two interners, which are compared as views.
-fn viewed(rt: &HostRuntime, here: &mut Interner, there: &mut Interner) -> Result<()> {
+fn compare_views(rt: &HostRuntime, here: &mut Interner, there: &mut Interner) -> Result<()> {
     let left = MarkerTree::parse_str::<VerbatimUrl>("os_name == 'nt'", here)?;
     let right = MarkerTree::parse_str::<VerbatimUrl>("'nt' == os_name", there)?;
     println!(rt; "equal: {}", left.view(here) == right.view(there))?;
@@ -34,10 +34,10 @@ fn viewed(rt: &HostRuntime, here: &mut Interner, there: &mut Interner) -> Result
 
 // The same interner for markers of one, and for one of two.
 fn in_interner(rt: &HostRuntime, interner: &mut Interner) -> Result<()> {
-    compared(rt, interner)?;
-    joined(rt, interner)?;
+    compare(rt, interner)?;
+    join(rt, interner)?;
     let mut there = Interner::new(rt.alloc());
-    viewed(rt, interner, &mut there)
+    compare_views(rt, interner, &mut there)
 }
 
 pub fn run(rt: &HostRuntime) -> Result<()> {

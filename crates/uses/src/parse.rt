@@ -12,7 +12,7 @@ fn is_true_everywhere(alloc: Global, text: &str) -> Result<bool> {
 }
 
 // A marker, and how many warnings there are of it.
-fn warned(rt: &HostRuntime, interner: &mut Interner) -> Result<()> {
+fn read_with_warnings(rt: &HostRuntime, interner: &mut Interner) -> Result<()> {
     let mut warnings = Vec::new(rt.alloc());
     let text = "'posix' == 'nt'";
     let marker = MarkerTree::parse_reporter::<VerbatimUrl, _>(text, &mut warnings, interner)?;
@@ -22,7 +22,7 @@ fn warned(rt: &HostRuntime, interner: &mut Interner) -> Result<()> {
 }
 
 // A text that is no marker.
-fn refused(rt: &HostRuntime, interner: &mut Interner) -> Result<()> {
+fn read_faulty(rt: &HostRuntime, interner: &mut Interner) -> Result<()> {
     match MarkerTree::parse_str::<VerbatimUrl>("os_name = 'nt'", interner) {
         Ok(_marker) => println!(rt; "a marker")?,
         Err(Refusal::Fault(error)) => println!(rt; "at byte {}: {}", error.start, error.message)?,
@@ -36,6 +36,6 @@ pub fn run(rt: &HostRuntime) -> Result<()> {
     let is_true = is_true_everywhere(alloc, "os_name == 'nt' or os_name != 'nt'")?;
     println!(rt; "true everywhere: {is_true}")?;
     let mut interner = Interner::new(alloc);
-    warned(rt, &mut interner)?;
-    refused(rt, &mut interner)
+    read_with_warnings(rt, &mut interner)?;
+    read_faulty(rt, &mut interner)
 }

@@ -6,7 +6,7 @@ use pep508_rs::{Interner, MarkerText, MarkerTree, VerbatimUrl};
 const TEXT: &str = "'nt' == os.name and (extra == 'Dev' or python_version >= '3.8')";
 
 // A marker and its negation as texts.
-fn printed(rt: &HostRuntime, interner: &mut Interner) -> Result<()> {
+fn print(rt: &HostRuntime, interner: &mut Interner) -> Result<()> {
     let marker = MarkerTree::parse_str::<VerbatimUrl>(TEXT, interner)?;
     if let Some(text) = marker.try_to_string(interner)? {
         println!(rt; "{text}")?;
@@ -16,7 +16,7 @@ fn printed(rt: &HostRuntime, interner: &mut Interner) -> Result<()> {
 }
 
 // A marker as a disjunction of conjunctions.
-fn parted(rt: &HostRuntime, interner: &mut Interner) -> Result<()> {
+fn list_clauses(rt: &HostRuntime, interner: &mut Interner) -> Result<()> {
     let marker = MarkerTree::parse_str::<VerbatimUrl>(TEXT, interner)?;
     let clauses = marker.to_dnf(interner)?;
     let first = clauses.first().map_or(0, |clause| clause.len());
@@ -28,7 +28,7 @@ fn parted(rt: &HostRuntime, interner: &mut Interner) -> Result<()> {
 }
 
 // The marker that says nothing.
-fn unprinted(rt: &HostRuntime, interner: &Interner) -> Result<()> {
+fn print_true(rt: &HostRuntime, interner: &Interner) -> Result<()> {
     if MarkerTree::TRUE.try_to_string(interner)?.is_none() {
         println!(rt; "no text of what is true everywhere")?;
     }
@@ -36,9 +36,9 @@ fn unprinted(rt: &HostRuntime, interner: &Interner) -> Result<()> {
 }
 
 fn in_interner(rt: &HostRuntime, interner: &mut Interner) -> Result<()> {
-    printed(rt, interner)?;
-    parted(rt, interner)?;
-    unprinted(rt, interner)
+    print(rt, interner)?;
+    list_clauses(rt, interner)?;
+    print_true(rt, interner)
 }
 
 pub fn run(rt: &HostRuntime) -> Result<()> {

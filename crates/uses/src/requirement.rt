@@ -7,7 +7,11 @@ use std::collections::BTreeMap;
 const TEXT: &str = "Flask_Login[Dev] >= 2.0, < 3 ; os_name == 'nt'";
 
 // A requirement with a name.
-fn named(rt: &HostRuntime, surroundings: &Surroundings<'_>, interner: &mut Interner) -> Result<()> {
+fn read_named(
+    rt: &HostRuntime,
+    surroundings: &Surroundings<'_>,
+    interner: &mut Interner,
+) -> Result<()> {
     let requirement = Requirement::<VerbatimUrl>::parse(TEXT, surroundings, interner)?;
     let count = requirement.extras.len();
     println!(rt; "{} with {count} extra", requirement.name)?;
@@ -15,11 +19,7 @@ fn named(rt: &HostRuntime, surroundings: &Surroundings<'_>, interner: &mut Inter
 }
 
 // A requirement as JSON, and read of it.
-fn written(
-    rt: &HostRuntime,
-    surroundings: &Surroundings<'_>,
-    interner: &mut Interner,
-) -> Result<()> {
+fn write(rt: &HostRuntime, surroundings: &Surroundings<'_>, interner: &mut Interner) -> Result<()> {
     let requirement = Requirement::<VerbatimUrl>::parse(TEXT, surroundings, interner)?;
     let json = requirement.to_json(interner)?;
     println!(rt; "{json}")?;
@@ -29,7 +29,7 @@ fn written(
 }
 
 // A requirement without a name.
-fn unnamed(
+fn read_unnamed(
     rt: &HostRuntime,
     surroundings: &Surroundings<'_>,
     interner: &mut Interner,
@@ -59,9 +59,9 @@ fn in_interner(
     surroundings: &Surroundings<'_>,
     interner: &mut Interner,
 ) -> Result<()> {
-    named(rt, surroundings, interner)?;
-    written(rt, surroundings, interner)?;
-    unnamed(rt, surroundings, interner)
+    read_named(rt, surroundings, interner)?;
+    write(rt, surroundings, interner)?;
+    read_unnamed(rt, surroundings, interner)
 }
 
 pub fn run(rt: &HostRuntime) -> Result<()> {

@@ -27,7 +27,7 @@ fn specifiers(rt: &HostRuntime) -> Result<()> {
 }
 
 // Whether a version is one of those that a specifier stands for.
-fn contained(rt: &HostRuntime) -> Result<()> {
+fn contains(rt: &HostRuntime) -> Result<()> {
     let alloc = rt.alloc();
     let specifier = VersionSpecifier::parse(alloc, "~= 2.8")?;
     let versions = release_specifier_to_range(alloc, &specifier)?;
@@ -40,5 +40,5 @@ fn contained(rt: &HostRuntime) -> Result<()> {
 pub fn run(rt: &HostRuntime) -> Result<()> {
     normal(rt)?;
     specifiers(rt)?;
-    contained(rt)
+    contains(rt)
 }

@@ -119,6 +119,13 @@ module _ {T K : Type 0} (f : T → K) (cmp : T → T → Ordering) (cmp' : K →
     alike = λ c d e. ap is_lt (alike_right (point_total cmp' o') (cut_point f c) (cut_point f d) q (sym (cut_by_points c d) ∙ e));
   }
 
+  module _ {V : Type 0} (first : V) (xs : List (Cut T × V)) (q : Point K) (r : Option (Cut T)) (h : Agree (cut_cmp cmp) (stands_before f cmp' q) r (map (λ x. x.0) xs)) where
+    value_found : value_at (stands_before (λ v. v) cmp (point_of r)) first xs ≡ value_at (stands_before f cmp' q) first xs
+    value_found = value_at_point cmp first xs r ∙ sym (agree_value (cut_total o) (stands_before f cmp' q) (standing q) r first xs h)
+
+    piece_found : piece_at (stands_before (λ v. v) cmp (point_of r)) xs ≡ piece_at (stands_before f cmp' q) xs
+    piece_found = piece_at_point cmp xs r ∙ sym (agree_piece (cut_total o) (stands_before f cmp' q) (standing q) r xs h)
+
   module _ {V : Type 0} {a : _} {b : _} {c : _} (cuts : Cuts T V a b c) where
     -- the value and the piece at a point of the order, by the other names
     pub value_by_name : (p : Point T) → value_by f cmp' cuts (point_map f p) ≡ value_of cmp cuts p
@@ -127,31 +134,34 @@ module _ {T K : Type 0} (f : T → K) (cmp : T → T → Ordering) (cmp' : K →
     pub piece_by_name : (p : Point T) → piece_by f cmp' cuts (point_map f p) ≡ piece_of cmp cuts p
     piece_by_name p = piece_at_same _ _ (named_before p) cuts.rest.items
 
-    value_found : (q : Point K) (r : Option (Cut T)) → Agree (cut_cmp cmp) (stands_before f cmp' q) r (map (λ x. x.0) cuts.rest.items) → value_of cmp cuts (point_of r) ≡ value_by f cmp' cuts q
-    value_found q r h = value_at_point cmp cuts.first cuts.rest.items r ∙ sym (agree_value (cut_total o) (stands_before f cmp' q) (standing q) r cuts.first cuts.rest.items h)
-
-    piece_found : (q : Point K) (r : Option (Cut T)) → Agree (cut_cmp cmp) (stands_before f cmp' q) r (map (λ x. x.0) cuts.rest.items) → piece_of cmp cuts (point_of r) ≡ piece_by f cmp' cuts q
-    piece_found q r h = piece_at_point cmp cuts.rest.items r ∙ sym (agree_piece (cut_total o) (stands_before f cmp' q) (standing q) r cuts.rest.items h)
-
-  module _ {V W U : Type 0} {a : _} {b : _} {c : _} {a' : _} {b' : _} {c' : _} {a'' : _} {b'' : _} {c'' : _} (left : Cuts T V a b c) (right : Cuts T W a' b' c') (both : Cuts T U a'' b'' c'') where
-    -- what holds of the values and the pieces of three functions at each point holds of them at each point by other names
-    pub at_names : (P : V → ℕ → W → ℕ → U → ℕ → Type 0) →
-        ((p : Point T) → P (value_of cmp left p) (piece_of cmp left p) (value_of cmp right p) (piece_of cmp right p) (value_of cmp both p) (piece_of cmp both p)) →
-        (q : Point K) → P (value_by f cmp' left q) (piece_by f cmp' left q) (value_by f cmp' right q) (piece_by f cmp' right q) (value_by f cmp' both q) (piece_by f cmp' both q)
-    at_names P h q =
-        let xs = map (λ (x : Cut T × V). x.0) left.rest.items in
-        let ys = map (λ (x : Cut T × W). x.0) right.rest.items in
-        let zs = map (λ (x : Cut T × U). x.0) both.rest.items in
+  -- what holds of the values and the pieces of three functions at each point, as lists, holds of them at each point by other names
+  module _ {V W U : Type 0} (v : V) (w : W) (u : U) (left : List (Cut T × V)) (right : List (Cut T × W)) (both : List (Cut T × U)) where
+    pub steps_at_names : (P : V → ℕ → W → ℕ → U → ℕ → Type 0) →
+        ((p : Point T) → P (value_at (stands_before (λ v. v) cmp p) v left) (piece_at (stands_before (λ v. v) cmp p) left) (value_at (stands_before (λ v. v) cmp p) w right) (piece_at (stands_before (λ v. v) cmp p) right)
+        (value_at (stands_before (λ v. v) cmp p) u both) (piece_at (stands_before (λ v. v) cmp p) both)) →
+        (q : Point K) → P (value_at (stands_before f cmp' q) v left) (piece_at (stands_before f cmp' q) left) (value_at (stands_before f cmp' q) w right) (piece_at (stands_before f cmp' q) right)
+        (value_at (stands_before f cmp' q) u both) (piece_at (stands_before f cmp' q) both)
+    steps_at_names P h q =
+        let xs = map (λ (x : Cut T × V). x.0) left in
+        let ys = map (λ (x : Cut T × W). x.0) right in
+        let zs = map (λ (x : Cut T × U). x.0) both in
         let t = stands_before f cmp' q in
         let r = located (cut_total o) t (standing q) (xs ++ (ys ++ zs)) in
         let i = agree_front (cut_total o) t (standing q) r.0 xs (ys ++ zs) r.2 in
         let rest = agree_back (cut_total o) t (standing q) r.0 xs (ys ++ zs) r.2 in
         let j = agree_front (cut_total o) t (standing q) r.0 ys zs rest in
         let k = agree_back (cut_total o) t (standing q) r.0 ys zs rest in
-        let p = point_of r.0 in
-        subst (λ v. P v (piece_by f cmp' left q) (value_by f cmp' right q) (piece_by f cmp' right q) (value_by f cmp' both q) (piece_by f cmp' both q)) (value_found left q r.0 i)
-        (subst (λ n. P (value_of cmp left p) n (value_by f cmp' right q) (piece_by f cmp' right q) (value_by f cmp' both q) (piece_by f cmp' both q)) (piece_found left q r.0 i)
-        (subst (λ v. P (value_of cmp left p) (piece_of cmp left p) v (piece_by f cmp' right q) (value_by f cmp' both q) (piece_by f cmp' both q)) (value_found right q r.0 j)
-        (subst (λ n. P (value_of cmp left p) (piece_of cmp left p) (value_of cmp right p) n (value_by f cmp' both q) (piece_by f cmp' both q)) (piece_found right q r.0 j)
-        (subst (λ v. P (value_of cmp left p) (piece_of cmp left p) (value_of cmp right p) (piece_of cmp right p) v (piece_by f cmp' both q)) (value_found both q r.0 k)
-        (subst (λ n. P (value_of cmp left p) (piece_of cmp left p) (value_of cmp right p) (piece_of cmp right p) (value_of cmp both p) n) (piece_found both q r.0 k) (h p))))))
+        let at = stands_before (λ v. v) cmp (point_of r.0) in
+        subst (λ x. P x (piece_at t left) (value_at t w right) (piece_at t right) (value_at t u both) (piece_at t both)) (value_found v left q r.0 i)
+        (subst (λ n. P (value_at at v left) n (value_at t w right) (piece_at t right) (value_at t u both) (piece_at t both)) (piece_found v left q r.0 i)
+        (subst (λ x. P (value_at at v left) (piece_at at left) x (piece_at t right) (value_at t u both) (piece_at t both)) (value_found w right q r.0 j)
+        (subst (λ n. P (value_at at v left) (piece_at at left) (value_at at w right) n (value_at t u both) (piece_at t both)) (piece_found w right q r.0 j)
+        (subst (λ x. P (value_at at v left) (piece_at at left) (value_at at w right) (piece_at at right) x (piece_at t both)) (value_found u both q r.0 k)
+        (subst (λ n. P (value_at at v left) (piece_at at left) (value_at at w right) (piece_at at right) (value_at at u both) n) (piece_found u both q r.0 k) (h (point_of r.0)))))))
+
+  module _ {V W U : Type 0} {a : _} {b : _} {c : _} {a' : _} {b' : _} {c' : _} {a'' : _} {b'' : _} {c'' : _} (left : Cuts T V a b c) (right : Cuts T W a' b' c') (both : Cuts T U a'' b'' c'') where
+    -- and of three functions
+    pub at_names : (P : V → ℕ → W → ℕ → U → ℕ → Type 0) →
+        ((p : Point T) → P (value_of cmp left p) (piece_of cmp left p) (value_of cmp right p) (piece_of cmp right p) (value_of cmp both p) (piece_of cmp both p)) →
+        (q : Point K) → P (value_by f cmp' left q) (piece_by f cmp' left q) (value_by f cmp' right q) (piece_by f cmp' right q) (value_by f cmp' both q) (piece_by f cmp' both q)
+    at_names = steps_at_names left.first right.first both.first left.rest.items right.rest.items both.rest.items

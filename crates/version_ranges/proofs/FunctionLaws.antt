@@ -1,6 +1,6 @@
 -- What a crate above needs of functions of points, in the words of their contracts: how cuts are stored does not show. A function
 -- takes the order of its values from its type, and the values may go by other names.
-use Rattle.std.proofs.Common.{◌≡◌, suc, ◌+◌, ◌<◌, Bool, true, false, not, cond, ◌&&◌, List, [], ◌∷◌, length, map, None, Some, refl, sym, ap, ◌∙◌, arith}
+use Rattle.std.proofs.Common.{◌≡◌, ℕ, suc, ◌+◌, ◌<◌, Bool, true, false, not, cond, ◌&&◌, List, [], ◌∷◌, length, map, None, Some, refl, sym, ap, ◌∙◌, arith}
 use Rattle.std.specs.Ordering.{is_lt, is_eq, ordering_then}
 use Rattle.std.specs.declared.cmp.Ordering.{Ordering}
 use Rattle.std.specs.declared.cmp.Ordering.TheVariants.{Less, Equal, Greater}
@@ -12,18 +12,23 @@ use Rattle.version_ranges.specs.Point.{Point, bottom, at, above, point_map, poin
 use Rattle.version_ranges.specs.Cut.{cut_cmp, stands_before}
 use Rattle.version_ranges.specs.Steps.{is_before, ascends, value_at, piece_at, is_merged}
 use Rattle.version_ranges.specs.Cuts.{value_by, value_of, piece_by, piece_count, neighbors_differ, IsMerged}
+use Rattle.version_ranges.specs.Pairs.{count_of_both, piece_of_both, piece_of_both_by, steps_of_both}
 use Rattle.version_ranges.proofs.StepLaws.{same_steps, value_from_low, value_from_later, before_itself}
 use Rattle.version_ranges.proofs.PointLaws.{cut_total, point_of, place_point, place_before, value_at_place, value_at_point, bottom_before}
 use Rattle.version_ranges.proofs.PieceLaws.{piece_bound}
 use Rattle.version_ranges.proofs.PartLaws.{is_not}
 use Rattle.version_ranges.proofs.EqualLaws.{cut_eq, equal_values, unequal_point}
-use Rattle.version_ranges.proofs.Elsewhere.{value_by_name, at_names, standing, located, agree_value}
+use Rattle.version_ranges.proofs.Elsewhere.{value_by_name, at_names, steps_at_names, standing, located, agree_value}
 
 -- equality of functions, as `==` has it
 abbrev pub same_functions : {T V : Type 0} → (T → T → Bool) → (V → V → Bool) → {a : _} {b : _} {c : _} (left right : Cuts T V a b c) → Bool
 same_functions eq same left right = same left.first right.first && same_steps (cut_eq eq) same left.rest.items right.rest.items
 
 -- ---- pieces
+
+at_bottom : {T K V : Type 0} (f : T → K) (cmp : K → K → Ordering) (xs : List (Cut T × V)) → piece_at (stands_before f cmp bottom) xs ≡ 0
+at_bottom f cmp [] = refl
+at_bottom f cmp (x ∷ xs) = ap (λ b. cond b 0 (suc (piece_at (stands_before f cmp bottom) xs))) (bottom_before cmp (f x.0.value) x.0.above)
 
 module _ {T K V : Type 0} (f : T → K) (cmp : K → K → Ordering) {a : _} {b : _} {c : _} (cuts : Cuts T V a b c) where
   -- a point lies in one of the pieces
@@ -32,11 +37,7 @@ module _ {T K V : Type 0} (f : T → K) (cmp : K → K → Ordering) {a : _} {b 
 
   -- the point below all values lies in the first piece
   pub first_piece : piece_by f cmp cuts bottom ≡ 0
-  first_piece = at_bottom cuts.rest.items
-    where
-      at_bottom : (xs : List (Cut T × V)) → piece_at (stands_before f cmp bottom) xs ≡ 0
-      at_bottom [] = refl
-      at_bottom (x ∷ xs) = ap (λ b. cond b 0 (suc (piece_at (stands_before f cmp bottom) xs))) (bottom_before cmp (f x.0.value) x.0.above)
+  first_piece = at_bottom f cmp cuts.rest.items
 
   -- a function of one piece has one value
   pub one_value : piece_count cuts ≡ 1 → (p q : Point K) → value_by f cmp cuts p ≡ value_by f cmp cuts q
@@ -45,6 +46,30 @@ module _ {T K V : Type 0} (f : T → K) (cmp : K → K → Ordering) {a : _} {b 
       no_cuts : (xs : List (Cut T × V)) → length xs ≡ 0 → value_at (stands_before f cmp p) cuts.first xs ≡ value_at (stands_before f cmp q) cuts.first xs
       no_cuts [] h = refl
       no_cuts (x ∷ xs) h = absurd (omega (arith, h))
+
+-- ---- pieces of two functions side by side
+
+module _ {T K V W : Type 0} (cmp : T → T → Ordering) (f : T → K) (named : K → K → Ordering) {a : _} {b : _} {c : _} {a' : _} {b' : _} {c' : _} (left : Cuts T V a b c) (right : Cuts T W a' b' c') where
+  -- a point lies in one of them
+  pub both_within : (p : Point K) → piece_of_both_by cmp f named left right p < count_of_both cmp left right
+  both_within p = let h = piece_bound (stands_before f named p) (steps_of_both cmp left right) in omega arith
+
+  -- the point below all values lies in the first
+  pub first_of_both : piece_of_both_by cmp f named left right bottom ≡ 0
+  first_of_both = at_bottom f named (steps_of_both cmp left right)
+
+  module _ (o : IsTotalOrder cmp) (o' : IsTotalOrder named) (same_order : (x y : T) → cmp x y ≡ named (f x) (f y)) where
+    -- what holds of both values at each point, and of the piece that it lies in, holds of them at each point by other names
+    pub pairs_at_names : (P : V → W → ℕ → Type 0) → ((p : Point T) → P (value_of cmp left p) (value_of cmp right p) (piece_of_both cmp left right p)) →
+        (q : Point K) → P (value_by f named left q) (value_by f named right q) (piece_of_both_by cmp f named left right q)
+    pairs_at_names P =
+        steps_at_names f cmp named o o' same_order left.first right.first (left.first, right.first) left.rest.items right.rest.items (steps_of_both cmp left right) (λ v i w j u k. P v w k)
+
+    -- and so of the value of another function there
+    pub value_at_names : {U : Type 0} {a'' : _} {b'' : _} {c'' : _} (made : Cuts T U a'' b'' c'') (P : U → ℕ → Type 0) → ((p : Point T) → P (value_of cmp made p) (piece_of_both cmp left right p)) →
+        (q : Point K) → P (value_by f named made q) (piece_of_both_by cmp f named left right q)
+    value_at_names made P =
+        steps_at_names f cmp named o o' same_order made.first made.first (left.first, right.first) made.rest.items made.rest.items (steps_of_both cmp left right) (λ v i w j u k. P v k)
 
 -- ---- neighbors
 

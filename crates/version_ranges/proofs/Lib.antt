@@ -9,6 +9,7 @@ pub mod EqualLaws
 pub mod FunctionLaws
 pub mod Gathers
 pub mod IntervalLaws
+pub mod Labels
 pub mod Merges
 pub mod PairSteps
 pub mod PartLaws

@@ -11,7 +11,7 @@ use Rattle.version_ranges.specs.declared.cuts.Cuts.{Cuts}
 use Rattle.version_ranges.specs.Point.{Point, point_cmp}
 use Rattle.version_ranges.specs.Cut.{cut_cmp, stands_before}
 use Rattle.version_ranges.specs.Cuts.{value_of}
-use Rattle.version_ranges.specs.Pairs.{ArePairs}
+use Rattle.version_ranges.specs.Pairs.{AreInPieces, ArePairs}
 use Rattle.version_ranges.specs.Steps.{ascends, piece_at}
 use Rattle.version_ranges.specs.Sweep.{overlay, overlay_step}
 use Rattle.version_ranges.proofs.StepLaws.{overlay_value, overlay_ascends, value_from}
@@ -74,3 +74,7 @@ module _ {T V W : Type 0} (cmp : T → T → Ordering) (o : IsTotalOrder cmp) {a
     ascending = ascending;
     count = omega (arith, overlay_length (cut_cmp cmp) left.first left.rest.items right.first right.rest.items, length-map both (λ (s : Cut T × (V × W)). s.1), left_len, right_len);
   })
+
+  pub are_in_pieces : (lefts : List (Cut T × V)) (rights : List (Cut T × W)) → lefts ≡ left.rest.items → rights ≡ right.rest.items →
+      AreInPieces cmp left right ((left.first, right.first) ∷ map (λ s. s.1) (overlay (cut_cmp cmp) left.first lefts right.first rights))
+  are_in_pieces lefts rights e f = rw (e, f) (record { count = omega (arith, length-map both (λ (s : Cut T × (V × W)). s.1)); covers = covers; nonempty = nonempty })

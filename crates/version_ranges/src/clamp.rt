@@ -71,7 +71,7 @@ impl<T: Ord + Clone, V: Eq + Clone> Cuts<T, V> {
     /// The function with its points moved into a range: below the range it has the value of the
     /// first point, and above it the value that it has at every point of the range from some point
     /// on. The range has a point. Only memory can run out.
-    pub fn clamped(
+    pub fn clamp(
         &self,
         alloc: Global,
         lower: Bound<&T>,

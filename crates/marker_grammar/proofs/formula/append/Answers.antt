@@ -13,7 +13,7 @@ use Rattle.marker_grammar.proofs.formula.append.Goals as goal
 pub returns-in_ok-any-in-Some-clause-stack : goal.returns-in_ok-any-in-Some-clause-stack
 returns-in_ok-any-in-Some-clause-stack c =
     let put = ap stack_of c.in_ok-push-in-Some.ensures.items ∙ stack_of-push c.args.tokens.now.items (Expression c.in-Some.expression) in
-    let joined = joined_tokens (c.args.has_and && true) And c.push.new.self.items c.join.new.tokens.items c.in_ok-any-in-Some.ensures.tokens in
+    let joined = joined_tokens (c.args.has_and && true) And c.push.new.self.items c.join_and.new.tokens.items c.in_ok-any-in-Some.ensures.tokens in
     rw c.in-Some.is (append_some c.args.has_and _ (test_of c.in-Some.expression) _ _ _ c.requires put joined c.in_ok-any-in-Some.ensures.any)
 
 pub returns-in_ok-any-in-Some-clause-valid : goal.returns-in_ok-any-in-Some-clause-valid

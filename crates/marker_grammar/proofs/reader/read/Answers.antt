@@ -7,14 +7,14 @@ use Rattle.marker_grammar.proofs.reader.read.Goals as goal
 pub loop-wanted-init : goal.loop-wanted-init
 loop-wanted-init c = record {
   text = refl;
-  sound = start_sound _ c.utf8.text refl c.new.ensures.items c.new-2.ensures.items refl refl;
-  follows = follows_start _ _ _ _ c.new.ensures.items c.new-3.ensures.items;
+  sound = start_sound _ c.utf8.text refl c.new.ensures.items c.in_ok-tokens.ensures.items refl refl;
+  follows = follows_start _ _ _ _ c.new.ensures.items c.new-2.ensures.items;
   opened = start_opened _ _ _ c.new.ensures.items;
 }
 
 pub returns-in_err-wanted-in-Atom-clause-err : goal.returns-in_err-wanted-in-Atom-clause-err
 returns-in_err-wanted-in-Atom-clause-err c =
-    let p = err_from_is_err_and c.from_residual.result c.from_residual.ensures.1 in
+    let p = err_from_is_err_and c.from_residual-in_err-wanted-in-Atom.result c.from_residual-in_err-wanted-in-Atom.ensures.1 in
     rw (p.1, p.2) (refuses_by _ c.loop-wanted.reader wanted.Atom _ c.loop-wanted.invariant.text (follows_at _ c.loop-wanted.reader _ wanted.Atom c.in-Atom.is c.loop-wanted.invariant.follows) (opened_at c.loop-wanted.reader _ wanted.Atom c.in-Atom.is c.loop-wanted.invariant.opened) c.in_err-wanted-in-Atom.ensures.err)
 
 pub loop-wanted-preserved-in-Atom : goal.loop-wanted-preserved-in-Atom

@@ -9,7 +9,7 @@ use Rattle.marker_nodes.specs.Node.{markers}
 use Rattle.marker_simplifications.specs.Granting.{IsNext, IsWanted}
 use Rattle.marker_simplifications.proofs.Grants.{granted_itself, are_under, listed_children, listed_placed, touched_below, touched_granted, has_clone, clone_untouched}
 use Rattle.marker_simplifications.proofs.GrantSteps.{found_granted, each_granted, wanted_below, settled_values, nil_by}
-use Rattle.marker_simplifications.proofs.extras.advance.Goals.{in-Some-granted, in-None}
+use Rattle.marker_simplifications.proofs.extras.advance.Goals.{in-Some-look_up, in-None}
 use Rattle.marker_simplifications.proofs.extras.advance.Goals as goal
 
 pub returns-in_default-clause-next : goal.returns-in_default-clause-next
@@ -18,10 +18,10 @@ returns-in_default-clause-next g c = granted_itself (FnReturnsAt g.F.Fn c.args.i
 pub returns-in-Some-granted_child-clause-next : goal.returns-in-Some-granted_child-clause-next
 returns-in-Some-granted_child-clause-next g c =
     let below = touched_below c.args.nodes.now c.requires.rules c.args.id c.requires.plain.within c.requires.plain.sign c.in-Some.node.now c.in-Some.ensures (FnReturnsAt g.F.Fn c.args.is_extra.now) c.in-Some-granted_child.high c.in-Some-granted_child.ensures.touched in
-    elim c.match-granted.branch [
-      | in-Some-granted w ↦ subst (IsNext c.args.nodes.now (FnReturnsAt g.F.Fn c.args.is_extra.now) c.args.known.now.entries c.args.id) (sym w.result-is)
-          (touched_granted c.args.nodes.now c.requires.rules c.args.id c.requires.plain.within c.requires.plain.sign c.in-Some.node.now c.in-Some.ensures (FnReturnsAt g.F.Fn c.args.is_extra.now) c.in-Some-granted_child.high c.in-Some-granted_child.ensures.touched c.args.nodes.now (keeps_itself markers c.args.nodes.now) (Ok w.in-Some-granted.made)
-          (found_granted (FnReturnsAt g.F.Fn c.args.is_extra.now) c.args.nodes.now c.args.known.now.entries c.in-Some-granted_child.high w.in-Some-granted.made c.requires.known below.1 w.in-Some-granted.ensures.granted))
+    elim c.match-look_up.branch [
+      | in-Some-look_up w ↦ subst (IsNext c.args.nodes.now (FnReturnsAt g.F.Fn c.args.is_extra.now) c.args.known.now.entries c.args.id) (sym w.result-is)
+          (touched_granted c.args.nodes.now c.requires.rules c.args.id c.requires.plain.within c.requires.plain.sign c.in-Some.node.now c.in-Some.ensures (FnReturnsAt g.F.Fn c.args.is_extra.now) c.in-Some-granted_child.high c.in-Some-granted_child.ensures.touched c.args.nodes.now (keeps_itself markers c.args.nodes.now) (Ok w.in-Some-look_up.made)
+          (found_granted (FnReturnsAt g.F.Fn c.args.is_extra.now) c.args.nodes.now c.args.known.now.entries c.in-Some-granted_child.high w.in-Some-look_up.made c.requires.known below.1 w.in-Some-look_up.ensures.granted))
       | in-None w ↦ subst (IsNext c.args.nodes.now (FnReturnsAt g.F.Fn c.args.is_extra.now) c.args.known.now.entries c.args.id) (sym w.result-is) (
         wanted_below c.args.known.now.entries c.args.id c.in-Some-granted_child.high w.negate.result below.0 w.negate.ensures w.in-None.ensures.unknown,
         subst (All (IsWanted c.args.known.now.entries c.args.id)) (sym w.new.ensures.items) (All-nil (IsWanted c.args.known.now.entries c.args.id)),
@@ -34,8 +34,8 @@ returns-in-Some-pop-clause-next g c =
     let r = All-pop (IsWanted c.args.known.now.entries c.args.id) c.in_ok-wanted.wanted.items c.pop.new.self.items (Some c.in-Some-pop.last) c.in-Some-pop.ensures.items (c.in_ok-wanted.ensures.wanted c.args.nodes.now c.args.id under) in
     (r.1, r.0)
 
-pub granted_all-requires : goal.granted_all-requires
-granted_all-requires g c = record {
+pub look_up_all-requires : goal.look_up_all-requires
+look_up_all-requires g c = record {
   settled = settled_values c.args.known.now.entries c.in_ok-ids.ids.items c.deref.result.now c.in_ok-values.values.items c.deref-2.result.now c.deref.ensures c.deref-2.ensures c.in-Some.node.now c.in_ok-branches.branches
       (let e = c.in_ok-branches.ensures.cases in e.1) c.in_ok-ids.ensures.value c.in_ok-values.ensures.inhabited (c.in_ok-wanted.ensures.none (nil_by c.in_ok-wanted.wanted.items (λ l. let v = c.in_default-pop.ensures.variant in false≢true (v.1 l))));
 }

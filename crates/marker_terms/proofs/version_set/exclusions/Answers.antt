@@ -34,13 +34,13 @@ loop-bounds-preserved c = record {
             interval_step (λ i. is_within version_cmp i (v.version c.args.variable)) (not (clause_holds c.loop-bounds.terms.items v)) (not (clause_holds c.push.new.self.items v))
             (is_within version_cmp (interval_of c.in-Some.bounds) (v.version c.args.variable)) (intervals_left c.loop-bounds.bounds-iterator) (intervals_left c.next.new.self) (interval_of c.in-Some.bounds)
             (contains_point version_cmp c.args.outside.now (v.version c.args.variable)) c.in-Some.ensures.steps refl
-            (excludes_more c.loop-bounds.terms.items c.push.new.self.items c.compared.result (is_within version_cmp (interval_of c.in-Some.bounds) (v.version c.args.variable)) v c.in_ok-push.ensures.items
-            (c.compared.ensures.means v ∙ found_exclusion c.in_ok-specifier.field-0 c.in-Some-2.specifier c.in-Some.bounds.0 c.in-Some.bounds.1 c.in-Some-2.is c.in_ok-specifier.ensures.means
+            (excludes_more c.loop-bounds.terms.items c.push.new.self.items c.comparison.result (is_within version_cmp (interval_of c.in-Some.bounds) (v.version c.args.variable)) v c.in_ok-push.ensures.items
+            (c.comparison.ensures.means v ∙ found_exclusion c.in_ok-specifier.field-0 c.in-Some-2.specifier c.in-Some.bounds.0 c.in-Some.bounds.1 c.in-Some-2.is c.in_ok-specifier.ensures.means
             (at_release c.versions_tied_with_releases_are_releases.ensures.test c.in-Some.bounds.0 r.0) (at_release c.versions_tied_with_releases_are_releases.ensures.test c.in-Some.bounds.1 r.1) (v.version c.args.variable)))
             (inv.1 v),
       );
-  printable = each_pushed IsPrintable c.loop-bounds.terms.items c.push.new.self.items c.compared.result c.in_ok-push.ensures.items c.loop-bounds.invariant.printable
-      (c.compared.ensures.printable (found_has IsPrintableSpecifier c.in_ok-specifier.field-0 c.in-Some-2.specifier c.in-Some-2.is c.in_ok-specifier.ensures.printable));
+  printable = each_pushed IsPrintable c.loop-bounds.terms.items c.push.new.self.items c.comparison.result c.in_ok-push.ensures.items c.loop-bounds.invariant.printable
+      (c.comparison.ensures.printable (found_has IsPrintableSpecifier c.in_ok-specifier.field-0 c.in-Some-2.specifier c.in-Some-2.is c.in_ok-specifier.ensures.printable));
 }
 
 pub returns-clause-means : goal.returns-clause-means

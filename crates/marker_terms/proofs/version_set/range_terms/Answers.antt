@@ -22,11 +22,11 @@ pub loop-specifier-preserved : goal.loop-specifier-preserved
 loop-specifier-preserved c =
     let q = each_parts IsPrintableSpecifier (specifiers_left c.loop-specifier.specifier-iterator) (specifiers_left c.next.new.self) c.in-Some.specifier c.in-Some.ensures.steps c.loop-specifier.invariant.left in
     record {
-      means = λ v. all_step (λ s. is_in s.operator s.version.release (v.version c.args.variable)) (clause_holds c.loop-specifier.terms.items v) (clause_holds c.push.new.self.items v) (term_holds c.compared.result v)
+      means = λ v. all_step (λ s. is_in s.operator s.version.release (v.version c.args.variable)) (clause_holds c.loop-specifier.terms.items v) (clause_holds c.push.new.self.items v) (term_holds c.comparison.result v)
           (specifiers_left c.loop-specifier.specifier-iterator) (specifiers_left c.next.new.self) c.in-Some.specifier (is_in_all (bound_specifiers c.args.bounds.0 c.args.bounds.1) (v.version c.args.variable))
-          c.in-Some.ensures.steps (c.compared.ensures.means v) (terms_more c.loop-specifier.terms.items c.push.new.self.items c.compared.result c.in_ok-push.ensures.items v) (c.loop-specifier.invariant.means v);
+          c.in-Some.ensures.steps (c.comparison.ensures.means v) (terms_more c.loop-specifier.terms.items c.push.new.self.items c.comparison.result c.in_ok-push.ensures.items v) (c.loop-specifier.invariant.means v);
       left = q.1;
-      printable = each_pushed IsPrintable c.loop-specifier.terms.items c.push.new.self.items c.compared.result c.in_ok-push.ensures.items c.loop-specifier.invariant.printable (c.compared.ensures.printable q.0);
+      printable = each_pushed IsPrintable c.loop-specifier.terms.items c.push.new.self.items c.comparison.result c.in_ok-push.ensures.items c.loop-specifier.invariant.printable (c.comparison.ensures.printable q.0);
     }
 
 pub returns-clause-means : goal.returns-clause-means

@@ -32,17 +32,17 @@ returns-in-None-clause-fault c =
     let is_quote : IsQuote c.in-Some.c = search rules in
     fault_at_first c.in-Some.c (Unclosed c.in-Some.c) c.utf8.text c.in-Some.ensures.suffix c.in-Some.ensures.bytes c.before-in-None.ensures.kind c.before-in-None.ensures.piece c.before-in-None.ensures.left (λ e. (c.in-Some.c, quotes is_quote (sym c.split_run.ensures.rest ∙ c.in-None.ensures.characters), e))
 
-pub returns-in-Some-named-clause-found : goal.returns-in-Some-named-clause-found
-returns-in-Some-named-clause-found c = named_found _ _ _ _ c.split_run-else-is_quote.ensures.bytes c.split_run-else-is_quote.ensures.rest c.in-Some-named.ensures.found
+pub returns-in-Some-value_of_name-clause-found : goal.returns-in-Some-value_of_name-clause-found
+returns-in-Some-value_of_name-clause-found c = named_found _ _ _ _ c.split_run-else-is_quote.ensures.bytes c.split_run-else-is_quote.ensures.rest c.in-Some-value_of_name.ensures.found
 
-pub returns-in-Some-named-clause-shorter : goal.returns-in-Some-named-clause-shorter
-returns-in-Some-named-clause-shorter c = named_shorter _ _ _ _ c.in-Some-named.ensures.found c.split_run-else-is_quote.ensures.joined
+pub returns-in-Some-value_of_name-clause-shorter : goal.returns-in-Some-value_of_name-clause-shorter
+returns-in-Some-value_of_name-clause-shorter c = named_shorter _ _ _ _ c.in-Some-value_of_name.ensures.found c.split_run-else-is_quote.ensures.joined
 
-pub returns-in-None-named-clause-none : goal.returns-in-None-named-clause-none
-returns-in-None-named-clause-none c output value v =
+pub returns-in-None-value_of_name-clause-none : goal.returns-in-None-value_of_name-clause-none
+returns-in-None-value_of_name-clause-none c output value v =
     let plain : IsQuote c.in-Some.c → ⊥ = search rules in
-    no_value_named c.in-Some.c value c.in-Some.ensures.characters plain c.split_run-else-is_quote.ensures.bytes c.in-None-named.ensures.none v
+    no_value_named c.in-Some.c value c.in-Some.ensures.characters plain c.split_run-else-is_quote.ensures.bytes c.in-None-value_of_name.ensures.none v
 
-pub returns-in-None-named-clause-fault : goal.returns-in-None-named-clause-fault
-returns-in-None-named-clause-fault c =
-    fault_at_run NoValue c.utf8.text c.split_run-else-is_quote.ensures.suffix c.split_run-else-is_quote.ensures.joined c.at_run.ensures.kind c.at_run.ensures.piece c.at_run.ensures.left (run_longest _ _ _ KeyPart c.split_run-else-is_quote.ensures.joined c.split_run-else-is_quote.ensures.bytes, subst HasNoValue c.split_run-else-is_quote.ensures.joined (returns-in-None-named-clause-none c))
+pub returns-in-None-value_of_name-clause-fault : goal.returns-in-None-value_of_name-clause-fault
+returns-in-None-value_of_name-clause-fault c =
+    fault_at_run NoValue c.utf8.text c.split_run-else-is_quote.ensures.suffix c.split_run-else-is_quote.ensures.joined c.at_run.ensures.kind c.at_run.ensures.piece c.at_run.ensures.left (run_longest _ _ _ KeyPart c.split_run-else-is_quote.ensures.joined c.split_run-else-is_quote.ensures.bytes, subst HasNoValue c.split_run-else-is_quote.ensures.joined (returns-in-None-value_of_name-clause-none c))

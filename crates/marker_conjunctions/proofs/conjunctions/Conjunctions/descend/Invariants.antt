@@ -1,4 +1,4 @@
-use Rattle.std.proofs.Common.{◌+◌}
+use Rattle.std.proofs.Common.{◌≡◌, ◌+◌, []}
 use Rattle.marker_diagrams.specs.Id.{place_of}
 use Rattle.marker_conjunctions.specs.Step.{IsOpen, IsPair, Waits}
 use Rattle.marker_conjunctions.proofs.conjunctions.Conjunctions.descend.Given as goal
@@ -7,6 +7,7 @@ abbrev pub invariant-loop-wanted : goal.invariant-loop-wanted
 invariant-loop-wanted l = record {
   pair : IsPair l.nodes l.fn.first.0 l.fn.first.1 l.pair;
   unsettled : IsOpen l.self.memo.entries l.pair;
+  none : l.wanted.items ≡ [];
   waits : Waits l.nodes l.fn.first.0 l.fn.first.1 l.initial.pending.items l.pending.items;
 }
 

@@ -37,7 +37,7 @@ returns-in-Some-first-clause-err c =
     let items = c.args.self.now.groups.items in
     let none : items ≡ [] = c.in_default-pop.ensures.items ∙ ap (λ x. x ++ []) (c.in_default-pop.ensures.rest ∙ ap (λ n. take (n - 1) items) c.in_default-pop.ensures.cases.0) in
     let wordless = other_word _ _ c.in_default.not-And c.in_default-word.not-Or c.keyword-word.ensures.which in (
-      λ opened. fault_of_suffix (suffix_then c.requires.rest c.skip_space-text.ensures.suffix) (c.unexpected.ensures (ap after_space c.skip_space-text.ensures.rest ∙ trimmed_after_space (chars c.args.self.now.rest.now) ∙ sym c.skip_space-text.ensures.rest) wordless),
+      λ opened. fault_of_suffix (suffix_then c.requires.rest c.skip_space-text.ensures.suffix) (c.unexpected_fault.ensures (ap after_space c.skip_space-text.ensures.rest ∙ trimmed_after_space (chars c.args.self.now.rest.now) ∙ sym c.skip_space-text.ensures.rest) wordless),
       fault_end items _ none c.skip_space-text.ensures.rest wordless (not_nil _ c.in-Some-first.ensures.characters),
     )
 
@@ -59,7 +59,7 @@ pub returns-in_default-strip-clause-err : goal.returns-in_default-strip-clause-e
 returns-in_default-strip-clause-err c =
     let popped = c.in-Some.ensures.items in
     let wordless = other_word _ _ c.in_default.not-And c.in_default-word.not-Or c.keyword-word.ensures.which in (
-      λ opened. fault_of_either (suffix_then c.requires.rest c.skip_space-text.ensures.suffix) (all_last (λ (g : Group). IsSuffix c.args.self.now.text.now g.text.now) _ _ popped c.requires.groups) (c.unclosed.ensures c.in_default-strip.ensures.none (opened_end _ _ _ popped _ _ _ _ _ _ c.skip_space-text.ensures.rest opened)),
+      λ opened. fault_of_either (suffix_then c.requires.rest c.skip_space-text.ensures.suffix) (all_last (λ (g : Group). IsSuffix c.args.self.now.text.now g.text.now) _ _ popped c.requires.groups) (c.unclosed_fault.ensures c.in_default-strip.ensures.none (opened_end _ _ _ popped _ _ _ _ _ _ c.skip_space-text.ensures.rest opened)),
       fault_close _ _ _ popped c.skip_space-text.ensures.rest wordless c.in_default-strip.ensures.none,
     )
 

@@ -1,4 +1,3 @@
-use Rattle.std.proofs.Common.{sym, ◌∙◌}
 use Rattle.marker_nodes.proofs.TableLaws.{node_given, node_chosen}
 use Rattle.marker_nodes.proofs.table.NodeTable.place_node.Goals as goal
 

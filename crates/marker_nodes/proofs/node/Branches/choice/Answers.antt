@@ -1,0 +1,30 @@
+use Rattle.std.proofs.Common.{◌≡◌, ap, ◌∙◌, length, arith}
+use Rattle.marker_diagrams.specs.Id.{signed_id, is_negated}
+use Rattle.marker_nodes.specs.Node.{child_at}
+use Rattle.marker_nodes.specs.Branches.{piece}
+use Rattle.marker_nodes.proofs.BranchLaws.{piece_lowest, piece_within}
+use Rattle.marker_nodes.proofs.PieceChildren.{written}
+use Rattle.marker_nodes.proofs.TableLaws.{node_leads, node_chooses}
+use Rattle.marker_nodes.proofs.node.Branches.choice.Goals as goal
+
+pub invariant_of-result : goal.invariant_of-result
+invariant_of-result g c =
+    let same_length : length c.negate_all.new.children ≡ length c.args.children.items = c.negate_all.auto.children ∙ ap length c.as_mut_slice.ensures.value in
+    record {
+      joined = c.in_ok-node.ensures.joined;
+      leading = node_leads (piece c.args.self) c.args.children.items c.negate_all.new.children (child_at c.deref.result.now 0) c.in_ok-node.node
+          (ap (λ xs. child_at xs 0) c.deref.ensures)
+          (λ v. let h = piece_within c.args.self v in let e = c.requires in omega arith)
+          (λ i l. c.negate_all.ensures i (let e = same_length in omega arith) ∙ ap (λ xs. signed_id (is_negated (child_at c.deref.result.now 0)) (child_at xs i)) c.as_mut_slice.ensures.value)
+          (rw (written c.negate_all.new.children c.args.children.items (length c.args.children.items) (let l = same_length in omega arith)) at c.in_ok-node.ensures.value)
+          (piece_lowest c.args.self);
+    }
+
+pub returns-clause-child : goal.returns-clause-child
+returns-clause-child g c =
+    let same_length : length c.negate_all.new.children ≡ length c.args.children.items = c.negate_all.auto.children ∙ ap length c.as_mut_slice.ensures.value in
+    node_chooses (piece c.args.self) c.args.children.items c.negate_all.new.children (child_at c.deref.result.now 0) c.in_ok-node.node
+    (ap (λ xs. child_at xs 0) c.deref.ensures)
+    (λ v. let h = piece_within c.args.self v in let e = c.requires in omega arith)
+    (λ i l. c.negate_all.ensures i (let e = same_length in omega arith) ∙ ap (λ xs. signed_id (is_negated (child_at c.deref.result.now 0)) (child_at xs i)) c.as_mut_slice.ensures.value)
+    (rw (written c.negate_all.new.children c.args.children.items (length c.args.children.items) (let l = same_length in omega arith)) at c.in_ok-node.ensures.value)
