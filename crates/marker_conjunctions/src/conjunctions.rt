@@ -10,7 +10,7 @@ ghost use Rattle.marker_conjunctions.specs.Contents.{contents, nothing, IsWellKe
 ghost use Rattle.marker_conjunctions.specs.Count.{IsCounted, Spends};
 ghost use Rattle.marker_conjunctions.specs.Step.{ArePairs, AreWanted, IsKnown, IsOpen, IsPair, IsSettled, Remembers, Waits};
 
-use marker_nodes::{Choice, NodeId, NodeTable, Whole, short_cut};
+use marker_nodes::{Choice, NodeId, NodeTable, short_cut};
 use node_hasher::NodeState;
 use smallvec::SmallVec;
 use std::alloc::{AllocError, Global};
@@ -94,6 +94,7 @@ impl Conjunctions {
     }
 
     // The conjunction of two ids where it is known or needs no node.
+    #[inline(always)]
     fn look_up(&self, a: NodeId, b: NodeId) -> Option<NodeId>
         ensures and { IfSome result (λ t. (nodes : List Node) → IsWellKept (contents nodes self.now)
             → IsHeld nodes a → IsHeld nodes b → IsAnd nodes a b t) }
@@ -174,9 +175,7 @@ impl Conjunctions {
             (AreWanted nodes.now self.now.memo.entries a b wanted.new.items) }
         ensures some { IfOk result (λ r. IfNone r (wanted.new.items ≡ [] → ⊥)) }
     {
-        let whole_a = Whole::new(nodes.allocator(), a);
-        let whole_b = Whole::new(nodes.allocator(), b);
-        let sides = nodes.side_by_side(a, b, &whole_a, &whole_b);
+        let sides = &nodes.side_by_side(a, b);
         let mut children = SmallVec::new(nodes.allocator());
         for (left, right) in sides.pairs() {
             let left = left.negate(a);

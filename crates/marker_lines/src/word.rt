@@ -73,20 +73,32 @@ impl Word {
         ensures { MatchOption result ((word : Word) → text.now ≢ word_text word)
             (λ word. text.now ≡ word_text word) }
     {
-        match text {
-            "env" => Some(Word::Env),
-            "parse" => Some(Word::Parse),
-            "not" => Some(Word::OnOne(CellCommand::Not)),
-            "text" => Some(Word::OnOne(CellCommand::Text)),
-            "and" => Some(Word::OnTwo(PairCommand::And)),
-            "or" => Some(Word::OnTwo(PairCommand::Or)),
-            "equal" => Some(Word::OnTwo(PairCommand::Equal)),
-            "disjoint" => Some(Word::OnTwo(PairCommand::Disjoint)),
-            "extras" => Some(Word::WithNames(NamesCommand::Extras)),
-            "eval" => Some(Word::WithNames(NamesCommand::Evaluate)),
-            "possible" => Some(Word::WithNames(NamesCommand::Possible)),
-            "simplify" => Some(Word::WithRange(RangeCommand::Simplify)),
-            "complexify" => Some(Word::WithRange(RangeCommand::Complexify)),
+        match text.len() {
+            2 if text == "or" => Some(Word::OnTwo(PairCommand::Or)),
+            3 => match text {
+                "env" => Some(Word::Env),
+                "not" => Some(Word::OnOne(CellCommand::Not)),
+                "and" => Some(Word::OnTwo(PairCommand::And)),
+                _ => None,
+            },
+            4 => match text {
+                "text" => Some(Word::OnOne(CellCommand::Text)),
+                "eval" => Some(Word::WithNames(NamesCommand::Evaluate)),
+                _ => None,
+            },
+            5 => match text {
+                "parse" => Some(Word::Parse),
+                "equal" => Some(Word::OnTwo(PairCommand::Equal)),
+                _ => None,
+            },
+            6 if text == "extras" => Some(Word::WithNames(NamesCommand::Extras)),
+            8 => match text {
+                "disjoint" => Some(Word::OnTwo(PairCommand::Disjoint)),
+                "possible" => Some(Word::WithNames(NamesCommand::Possible)),
+                "simplify" => Some(Word::WithRange(RangeCommand::Simplify)),
+                _ => None,
+            },
+            10 if text == "complexify" => Some(Word::WithRange(RangeCommand::Complexify)),
             _ => None,
         }
     }

@@ -15,7 +15,9 @@ use Rattle.marker_diagrams.proofs.Canonicity.{satisfied, unseen}
 use Rattle.marker_nodes.specs.Variable.{Variable, variable_cmp}
 use Rattle.marker_nodes.specs.Branches.{variable, value_at as pick}
 use Rattle.marker_nodes.specs.Node.{Node, markers}
-use Rattle.marker_nodes.specs.Pairs.{AreSideBySide}
+use Rattle.marker_nodes.specs.declared.side.Sides.{Sides}
+use Rattle.marker_nodes.specs.Sides as sides
+use Rattle.marker_nodes.proofs.PairLaws.{listed_side}
 use Rattle.marker_nodes.proofs.NodeLaws.{lawful}
 use Rattle.marker_nodes.specs.And.{IsAnd}
 use Rattle.marker_nodes.specs.Side.{branch_by, branch, HasBranches, IsFirst}
@@ -160,8 +162,12 @@ module _ (nodes : List Node) (store : IsStore markers nodes) (a b : NodeId) (i :
     }
 
   -- at first nothing is left but the pairs
-  pub walks : (pairs : List (NodeId × NodeId)) → AreSideBySide nodes a b pairs → 0 < place_of a → WalksBut nodes a b (FALSE, FALSE) pairs
-  walks pairs s n =
+  pub walks : (both : Sides) → IsFirst nodes (sides.variable both) a b → ((v : Valuation) → HasBranches nodes (sides.variable both) a b v (sides.pair_at both v)) →
+      (pairs : List (NodeId × NodeId)) → ((v : Valuation) → slice_get pairs (sides.piece both v) ≡ Some (sides.pair_at both v)) →
+      ((i : ℕ) (p : NodeId × NodeId) → slice_get pairs i ≡ Some p → (v : Valuation) × (sides.pair_at both v ≡ p)) →
+      0 < place_of a → WalksBut nodes a b (FALSE, FALSE) pairs
+  walks both first has pairs value inhabited n =
+      let s = listed_side nodes a b both first has pairs value inhabited in
       let w = found_walks s.variable s.first pairs s.found s.covers in
       record {
         variable = s.variable;

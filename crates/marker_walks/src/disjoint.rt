@@ -6,7 +6,7 @@ ghost use Rattle.marker_diagrams.specs.Id.{place_of};
 ghost use Rattle.marker_nodes.specs.Node.{Node, markers};
 ghost use Rattle.marker_walks.specs.Disjoint.{AreApart, AreShared, TellsDisjoint};
 
-use marker_nodes::{NodeId, NodeTable, Whole, short_cut};
+use marker_nodes::{NodeId, NodeTable, short_cut};
 
 // How many pairs are looked at before any is remembered, since most walks end within them.
 const STEPS: usize = 64;
@@ -61,9 +61,7 @@ fn tell_within(nodes: &NodeTable, steps: &mut usize, a: NodeId, b: NodeId) -> Op
     ensures { IfSome result (TellsDisjoint nodes.now a b) }
 {
     *steps = steps.checked_sub(1)?;
-    let whole_a = Whole::new(nodes.allocator(), a);
-    let whole_b = Whole::new(nodes.allocator(), b);
-    for (left, right) in nodes.pairs(a, b, &whole_a, &whole_b) {
+    for (left, right) in nodes.side_by_side(a, b).pairs() {
         let left = left.negate(a);
         let right = right.negate(b);
         let answer = match short_cut(left, right) {
@@ -128,10 +126,8 @@ fn all_but_last(
     ensures right { IfSome result (λ p. diagram.IsHeld nodes.now p.1) }
     ensures apart { AreApart nodes.now apart.new }
 {
-    let whole_a = Whole::new(nodes.allocator(), a);
-    let whole_b = Whole::new(nodes.allocator(), b);
     let mut last = (NodeId::FALSE, NodeId::FALSE);
-    for (left, right) in nodes.pairs(a, b, &whole_a, &whole_b) {
+    for (left, right) in nodes.side_by_side(a, b).pairs() {
         let left = left.negate(a);
         let right = right.negate(b);
         match recall(apart, left, right) {

@@ -1,5 +1,5 @@
 -- Why no marker is read of a JSON string.
-use Rattle.std.proofs.Common.{◌≡◌, ℕ, List, Result, Ok, Err, inr, sym, subst}
+use Rattle.std.proofs.Common.{◌≡◌, ℕ, List, Result, Ok, Err, inr, subst}
 use Rattle.std.specs.Prelude.{IfErr}
 use Rattle.refusal.specs.declared.Refusal.{Refusal}
 use Rattle.refusal.specs.declared.Refusal.TheVariants.{OutOfMemory, SegmentAtEnd, Fault}

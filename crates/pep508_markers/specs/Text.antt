@@ -1,5 +1,5 @@
 -- What is read of a marker text as a tree, and why none is. (PEP 508.)
-use Rattle.std.specs.Prelude.{◌≡◌, ◌⊎◌, ⊤, ℕ, List, [], ◌++◌, Option, Result, IfErr}
+use Rattle.std.specs.Prelude.{◌≡◌, ⊤, ℕ, List, Option, Result, IfErr}
 use Rattle.refusal.specs.declared.Refusal.{Refusal}
 use Rattle.refusal.specs.declared.Refusal.TheVariants.{OutOfMemory, SegmentAtEnd, Fault}
 use Rattle.pep508_errors.specs.declared.error.Pep508Error.{Pep508Error}

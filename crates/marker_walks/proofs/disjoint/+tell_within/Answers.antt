@@ -5,7 +5,7 @@ use Rattle.marker_walks.proofs.disjoint.+tell_within.Goals.{in-Some-short_cut, i
 use Rattle.marker_walks.proofs.disjoint.+tell_within.Goals as goal
 
 pub loop-left-init : goal.loop-left-init
-loop-left-init t c = rw c.into_iter-left-iterator.ensures.into_iter_gives (walks c.args.nodes.now c.requires.rules c.args.a c.args.b c.requires.a c.requires.b _ c.pairs-left-items.ensures c.requires.a_node)
+loop-left-init t c = rw c.into_iter-left-iterator.ensures.into_iter_gives (walks c.args.nodes.now c.requires.rules c.args.a c.args.b c.requires.a c.requires.b c.side_by_side.result c.side_by_side.ensures.first c.side_by_side.ensures.children _ c.pairs-left-items.ensures.value c.pairs-left-items.ensures.inhabited c.requires.a_node)
 
 pub tell_within-requires : goal.tell_within-requires
 tell_within-requires t c =

@@ -1,7 +1,7 @@
 use Rattle.std.proofs.Common.{◌+◌, ◌*◌, ◌≤◌, Bool}
 use Rattle.version_ranges.specs.Parts.{parts_left}
 use Rattle.marker_diagrams.specs.Id.{place_of}
-use Rattle.marker_diagrams.specs.Diagram.{IsHeld, truth}
+use Rattle.marker_diagrams.specs.Diagram.{truth}
 use Rattle.marker_nodes.specs.Node.{markers}
 use Rattle.marker_walks.specs.Possible.{AnswersPossible, AreOut, listed_versions}
 use Rattle.marker_walks.proofs.PossibleLaws.{enters, always, Walks}
