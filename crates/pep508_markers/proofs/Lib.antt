@@ -1,4 +1,5 @@
 mod TreeLaws
+mod OrderLaws
 mod DoneLaws
 mod SessionLaws
 mod FaultLaws

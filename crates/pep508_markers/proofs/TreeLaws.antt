@@ -40,7 +40,7 @@ nothing_joins : (k : Connective) (x : Bool) → joins k (neutral k) x ≡ x
 nothing_joins And x = refl
 nothing_joins Or x = refl
 
-joins_turned : (k : Connective) (x y : Bool) → joins k x y ≡ joins k y x
+pub joins_turned : (k : Connective) (x y : Bool) → joins k x y ≡ joins k y x
 joins_turned And true true = refl
 joins_turned And true false = refl
 joins_turned And false true = refl
@@ -50,13 +50,13 @@ joins_turned Or true false = refl
 joins_turned Or false true = refl
 joins_turned Or false false = refl
 
-joins_apart : (k : Connective) (x y z : Bool) → joins k (joins k x y) z ≡ joins k x (joins k y z)
+pub joins_apart : (k : Connective) (x y z : Bool) → joins k (joins k x y) z ≡ joins k x (joins k y z)
 joins_apart And true y z = refl
 joins_apart And false y z = refl
 joins_apart Or true y z = refl
 joins_apart Or false y z = refl
 
-truth_of_both : (c : Contents) (k : Connective) (xs ys : List MarkerTree) (v : Valuation) → truth_under c k (xs ++ ys) v ≡ joins k (truth_under c k xs v) (truth_under c k ys v)
+pub truth_of_both : (c : Contents) (k : Connective) (xs ys : List MarkerTree) (v : Valuation) → truth_under c k (xs ++ ys) v ≡ joins k (truth_under c k xs v) (truth_under c k ys v)
 truth_of_both c k [] ys v = sym (nothing_joins k (truth_under c k ys v))
 truth_of_both c k (t ∷ xs) ys v = ap (joins k (truth c t v)) (truth_of_both c k xs ys v) ∙ sym (joins_apart k (truth c t v) (truth_under c k xs v) (truth_under c k ys v))
 

@@ -1,12 +1,15 @@
 //! Trees that one connective joins.
 
 ghost use Rattle.std.specs.Prelude.{◌≡◌, ◌⊎◌, ◌++◌, ◌∷◌, [], length, reverse, List, IfNone, IfOk, IfSome, OnOk, ◌≤◌};
+ghost use Rattle.std.specs.List.Sorted.{IsPermutation};
 ghost use Rattle.marker_environment.specs.Valuation.{Valuation};
 ghost use Rattle.marker_graph.specs.Contents.{IsHeld, IsKept, truth};
 ghost use Rattle.pep508_markers.specs.Trees.{joins, symbol, trees_of, truth_under, AreHeld, AreRuns, Pushes};
 
 use marker_graph::{Interner, MarkerTree};
+use marker_nodes::NodeTable;
 use std::alloc::{AllocError, Global};
+use std::cmp::Ordering;
 use std::collections::VecDeque;
 
 // How formulas are joined.
@@ -59,8 +62,92 @@ fn rotate(trees: &mut VecDeque<MarkerTree>, tree: MarkerTree) -> Result<MarkerTr
     Ok(first)
 }
 
-// The tree of what a run says. Its trees are joined two by two, and what comes of it again, so that
-// each tree takes part in no more joins than the number of trees can be halved.
+// The tree of what a tree and others say under a connective. They are joined two by two, and what
+// comes of it again, so that each tree takes part in no more joins than their number can be halved.
+fn join_by_halves(
+    interner: &mut Interner,
+    connective: Connective,
+    first: MarkerTree,
+    others: VecDeque<MarkerTree>,
+) -> Result<MarkerTree, AllocError>
+    requires { AreHeld interner.old (first ∷ others.items) }
+    ensures kept { IsKept interner.old interner.new }
+    ensures counts { interner.old.expansions ≤ interner.new.expansions }
+    ensures held { IfOk result (IsHeld interner.new) }
+    ensures means { IfOk result (λ t. (v : Valuation) → truth interner.new t v
+        ≡ truth_under interner.old connective (first ∷ others.items) v) }
+{
+    let mut left = first;
+    let mut trees = others;
+    while let Some(right) = trees.pop_front() {
+        let tree = join_two(interner, connective, left, right)?;
+        left = rotate(&mut trees, tree)?;
+    }
+    Ok(left)
+}
+
+// The order in which trees are joined: the later the variable that a tree asks about first, the
+// sooner. Nothing is promised of it, since trees that are joined in any order mean the same.
+fn joining_order(table: &NodeTable, left: MarkerTree, right: MarkerTree) -> Ordering {
+    match (table.node(left.id()), table.node(right.id())) {
+        (Some(left), Some(right)) => right.cmp_variable(left),
+        (None, Some(_)) => Ordering::Less,
+        (Some(_), None) => Ordering::Greater,
+        (None, None) => Ordering::Equal,
+    }
+}
+
+fn sort(table: &NodeTable, trees: &mut VecDeque<MarkerTree>)
+    ensures { IsPermutation trees.old.items trees.new.items }
+{
+    let slice = trees.make_contiguous();
+    slice.sort_unstable_by(|left, right| joining_order(table, *left, *right));
+}
+
+// Takes the trees at the front of a list that ask about the same variable first as this one does.
+fn split_alike(
+    interner: &Interner,
+    first: MarkerTree,
+    trees: &mut VecDeque<MarkerTree>,
+) -> Result<VecDeque<MarkerTree>, AllocError>
+    ensures { IfOk result (λ alike. trees.old.items ≡ alike.items ++ trees.new.items) }
+{
+    let mut alike = VecDeque::new(interner.allocator());
+    while let Some(next) = trees.front().copied() {
+        if joining_order(interner.table(), first, next) != Ordering::Equal {
+            return Ok(alike);
+        }
+        alike.push_back(next)?;
+        let _next = trees.pop_front();
+    }
+    Ok(alike)
+}
+
+// Joins a tree with those at the front of a list that ask about the same variable first, which
+// leave it.
+fn join_alike(
+    interner: &mut Interner,
+    connective: Connective,
+    first: MarkerTree,
+    trees: &mut VecDeque<MarkerTree>,
+) -> Result<MarkerTree, AllocError>
+    requires { AreHeld interner.old (first ∷ trees.old.items) }
+    ensures kept { IsKept interner.old interner.new }
+    ensures counts { interner.old.expansions ≤ interner.new.expansions }
+    ensures held { IfOk result (λ t. AreHeld interner.new (t ∷ trees.new.items)) }
+    ensures means { IfOk result (λ t. (v : Valuation)
+        → truth_under interner.new connective (t ∷ trees.new.items) v
+        ≡ truth_under interner.old connective (first ∷ trees.old.items) v) }
+    ensures fewer { OnOk result (length trees.new.items ≤ length trees.old.items) }
+{
+    let others = split_alike(interner, first, trees)?;
+    let tree = join_by_halves(interner, connective, first, others)?;
+    Ok(tree)
+}
+
+// The tree of what a run says. Trees that ask about the same variable first are joined by halves,
+// and what comes of them from the last variable on: so a tree that asks about later variables
+// alone stands in the next one as it is, and n extras make n nodes.
 pub(crate) fn join_all(interner: &mut Interner, run: Run) -> Result<MarkerTree, AllocError>
     requires { AreHeld interner.old (trees_of run) }
     ensures kept { IsKept interner.old interner.new }
@@ -70,13 +157,21 @@ pub(crate) fn join_all(interner: &mut Interner, run: Run) -> Result<MarkerTree, 
         ≡ truth_under interner.old run.connective (trees_of run) v) }
 {
     let connective = run.connective;
-    let mut left = run.first;
     let mut trees = run.others;
-    while let Some(right) = trees.pop_front() {
-        let tree = join_two(interner, connective, left, right)?;
-        left = rotate(&mut trees, tree)?;
+    if trees.len() < 2 {
+        return join_by_halves(interner, connective, run.first, trees);
     }
-    Ok(left)
+    trees.push_front(run.first)?;
+    sort(interner.table(), &mut trees);
+    let Some(first) = trees.pop_front() else {
+        unreachable!()
+    };
+    let mut joined = join_alike(interner, connective, first, &mut trees)?;
+    while let Some(next) = trees.pop_front() {
+        let tree = join_alike(interner, connective, next, &mut trees)?;
+        joined = join_two(interner, connective, tree, joined)?;
+    }
+    Ok(joined)
 }
 
 // The formula of a tree, in one part.

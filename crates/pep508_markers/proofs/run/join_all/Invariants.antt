@@ -4,13 +4,13 @@ use Rattle.marker_graph.specs.Contents.{IsKept}
 use Rattle.pep508_markers.specs.Trees.{trees_of, truth_under, AreHeld}
 use Rattle.pep508_markers.proofs.run.join_all.Given as goal
 
-abbrev pub invariant-loop-right : goal.invariant-loop-right
-invariant-loop-right l = record {
+abbrev pub invariant-loop-next : goal.invariant-loop-next
+invariant-loop-next l = record {
   kept : IsKept l.fn.interner l.interner;
   counts : l.fn.interner.expansions ≤ l.interner.expansions;
-  held : AreHeld l.interner (l.left ∷ l.trees.items);
-  means : (v : Valuation) → truth_under l.interner l.connective (l.left ∷ l.trees.items) v ≡ truth_under l.fn.interner l.fn.run.connective (trees_of l.fn.run) v;
+  held : AreHeld l.interner (l.joined ∷ l.trees.items);
+  means : (v : Valuation) → truth_under l.interner l.connective (l.joined ∷ l.trees.items) v ≡ truth_under l.fn.interner l.fn.run.connective (trees_of l.fn.run) v;
 }
 
-abbrev pub decreases-loop-right : goal.decreases-loop-right
-decreases-loop-right l = length l.trees.items
+abbrev pub decreases-loop-next : goal.decreases-loop-next
+decreases-loop-next l = length l.trees.items
