@@ -145,6 +145,9 @@ fn join_alike(
     Ok(tree)
 }
 
+// How many trees are joined by halves as they come, since to put them in order takes longer.
+const FEW: usize = 8;
+
 // The tree of what a run says. Trees that ask about the same variable first are joined by halves,
 // and what comes of them from the last variable on: so a tree that asks about later variables
 // alone stands in the next one as it is, and n extras make n nodes.
@@ -158,7 +161,7 @@ pub(crate) fn join_all(interner: &mut Interner, run: Run) -> Result<MarkerTree, 
 {
     let connective = run.connective;
     let mut trees = run.others;
-    if trees.len() < 2 {
+    if trees.len() < FEW {
         return join_by_halves(interner, connective, run.first, trees);
     }
     trees.push_front(run.first)?;
