@@ -20,17 +20,17 @@ pub fn short_cut(a: NodeId, b: NodeId) -> Option<NodeId>
     if a == NodeId::FALSE {
         return Some(a);
     }
-    if b == NodeId::FALSE {
+    if a == NodeId::TRUE {
         return Some(b);
     }
-    if a == b.not() {
-        return Some(NodeId::FALSE);
-    }
-    if a == NodeId::TRUE {
+    if b == NodeId::FALSE {
         return Some(b);
     }
     if b == NodeId::TRUE {
         return Some(a);
+    }
+    if a == b.not() {
+        return Some(NodeId::FALSE);
     }
     if a == b {
         return Some(b);

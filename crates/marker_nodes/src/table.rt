@@ -105,6 +105,7 @@ impl NodeTable {
     /// Where all children are the same, it is that child. Where the first child is a negation, it
     /// is the negation of the node with the other signs. Only memory can run out, and then the
     /// table is as it was.
+    #[inline(always)]
     pub fn place<V: Drop>(
         &mut self,
         branches: Branches<V>,
@@ -126,6 +127,7 @@ impl NodeTable {
 
     /// The id of the node that a choice makes, as `place` of its question with its children. Only
     /// memory can run out, and then the table is as it was.
+    #[inline(always)]
     pub fn place_choice(&mut self, choice: Choice) -> Result<NodeId, AllocError>
         requires { AreChildren markers self.old (asked choice) (chosen choice) }
         ensures id { IfOk result (IsChoice markers self.new (asked choice) (chosen choice)) }

@@ -83,6 +83,7 @@ impl<T: Ord + Drop, V: Drop> Cuts<T, V> {
 
     /// The pieces with these values in order, where neighbors with equal values are joined. There
     /// is a value for each piece. Only memory can run out.
+    #[inline(always)]
     pub fn with_values<W: Eq + Drop>(self, values: Vec<W>) -> Result<Cuts<T, W>, AllocError>
         requires { vec_len values ≡ piece_count self }
         ensures value { IfOk result (λ r. HasValuesInOrder T.cmp W.eq self values.items r) }

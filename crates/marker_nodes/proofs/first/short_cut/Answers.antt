@@ -7,16 +7,16 @@ pub returns-then-eq-clause-short : goal.returns-then-eq-clause-short
 returns-then-eq-clause-short c = λ nodes i j. first_false c.args.a c.args.b nodes i j (sym c.if-eq.ensures)
 
 pub returns-then-eq-2-clause-short : goal.returns-then-eq-2-clause-short
-returns-then-eq-2-clause-short c = λ nodes i j. second_false c.args.a c.args.b nodes i j (sym c.if-eq-2.ensures)
+returns-then-eq-2-clause-short c = λ nodes i j. first_true c.args.a c.args.b nodes i j (sym c.if-eq-2.ensures)
 
 pub returns-then-eq-3-clause-short : goal.returns-then-eq-3-clause-short
-returns-then-eq-3-clause-short c = λ nodes i j. opposites c.args.a c.args.b nodes i j (sym (c.if-eq-3.ensures ∙ ap (same_id c.args.a) c.not.ensures))
+returns-then-eq-3-clause-short c = λ nodes i j. second_false c.args.a c.args.b nodes i j (sym c.if-eq-3.ensures)
 
 pub returns-then-eq-4-clause-short : goal.returns-then-eq-4-clause-short
-returns-then-eq-4-clause-short c = λ nodes i j. first_true c.args.a c.args.b nodes i j (sym c.if-eq-4.ensures)
+returns-then-eq-4-clause-short c = λ nodes i j. second_true c.args.a c.args.b nodes i j (sym c.if-eq-4.ensures)
 
 pub returns-then-eq-5-clause-short : goal.returns-then-eq-5-clause-short
-returns-then-eq-5-clause-short c = λ nodes i j. second_true c.args.a c.args.b nodes i j (sym c.if-eq-5.ensures)
+returns-then-eq-5-clause-short c = λ nodes i j. opposites c.args.a c.args.b nodes i j (sym (c.if-eq-5.ensures ∙ ap (same_id c.args.a) c.not.ensures))
 
 pub returns-clause-other : goal.returns-clause-other
-returns-clause-other c = not_short c.args.a c.args.b (sym c.if-eq.ensures) (sym c.if-eq-2.ensures) (sym (c.if-eq-3.ensures ∙ ap (same_id c.args.a) c.not.ensures)) (sym c.if-eq-4.ensures) (sym c.if-eq-5.ensures) (sym c.if-eq-6.ensures)
+returns-clause-other c = not_short c.args.a c.args.b (sym c.if-eq.ensures) (sym c.if-eq-3.ensures) (sym (c.if-eq-5.ensures ∙ ap (same_id c.args.a) c.not.ensures)) (sym c.if-eq-2.ensures) (sym c.if-eq-4.ensures) (sym c.if-eq-6.ensures)
