@@ -67,7 +67,7 @@ fewer old new (k ∷ ks) h =
     let b : cond (is_some (lookup (same_pair k) new)) 0 1 ≤ cond (is_some (lookup (same_pair k) old)) 0 1 = one_less (is_some (lookup (same_pair k) old)) (is_some (lookup (same_pair k) new)) (h k) in
     omega arith
 
-same_pair_is : (p q : NodeId × NodeId) → same_pair p q ≡ true → p ≡ q
+pub same_pair_is : (p q : NodeId × NodeId) → same_pair p q ≡ true → p ≡ q
 same_pair_is p q e =
     let r = and_parts (same_id p.0 q.0) (same_id p.1 q.1) e in
     ap (λ x. let t : NodeId × NodeId = (x, p.1) in t) (same_id_is p.0 q.0 r.0) ∙ ap (λ x. let t : NodeId × NodeId = (q.0, x) in t) (same_id_is p.1 q.1 r.1)

@@ -1,10 +1,10 @@
 -- Steps of a conjunction: which pairs are still to be computed, and which wait for which.
-use Rattle.std.proofs.Common.{◌≡◌, ℕ, zero, suc, ◌+◌, ◌<◌, ◌≤◌, Bool, true, false, cond, ◌==◌, List, [], ◌∷◌, ◌++◌, length, Option, Some, None, is_some, inl, inr, refl, sym, ap, ◌∙◌, subst, arith, append_assoc}
+use Rattle.std.proofs.Common.{◌≡◌, ℕ, zero, suc, ◌+◌, ◌<◌, ◌≤◌, Bool, true, false, not, cond, ◌==◌, List, [], ◌∷◌, ◌++◌, length, Option, Some, None, is_some, inl, inr, refl, sym, ap, ◌∙◌, subst, arith, append_assoc}
 use Rattle.std.specs.Prelude.{slice_get, IfNone, IfSome}
 use Rattle.std.specs.List.{list_any}
 use Rattle.std.specs.Map.{lookup}
 use Rattle.std.proofs.lemmas.Bool.{false≢true, and_from, eqb-true, eqb-false}
-use Rattle.std.proofs.lemmas.List.{length-append, append-nil}
+use Rattle.std.proofs.lemmas.List.{append-nil}
 use Rattle.marker_environment.specs.Valuation.{Valuation}
 use Rattle.marker_diagrams.specs.declared.node_id.NodeId.{NodeId}
 use Rattle.marker_diagrams.specs.Id.{place_of, is_negated, signed_id, same_id}
@@ -24,10 +24,10 @@ use Rattle.marker_nodes.proofs.ChildLaws.{pair_below}
 use Rattle.marker_nodes.proofs.Descents.{held_kept}
 use Rattle.marker_conjunctions.specs.Contents.{Contents, IsKept, IsWellKept, same_pair}
 use Rattle.marker_conjunctions.specs.Count.{Spends, unknown}
-use Rattle.marker_conjunctions.specs.Step.{Memo, IsKnown, IsSettled, Remembers, IsOpen, IsPair, ArePairs, IsWanted, AreWanted, Waits}
+use Rattle.marker_conjunctions.specs.Step.{Memo, IsKnown, IsSettled, Remembers, IsOpen, IsPair, ArePairs, IsWanted, Waits}
 use Rattle.marker_conjunctions.specs.Branch.{Joins}
 use Rattle.marker_conjunctions.proofs.AndLaws.{Ands, ands_more, ands_length, ands_at, known_is}
-use Rattle.marker_conjunctions.proofs.CountLaws.{or_left, or_right, descends_of, spends_both, all_pairs, pairs_have, fewer_by}
+use Rattle.marker_conjunctions.proofs.CountLaws.{or_left, or_right, descends_of, spends_both, all_pairs, pairs_have, same_pair_is, fewer_by}
 
 -- ---- what is known
 pub open_none : (memo : Memo) (p : NodeId × NodeId) → IsOpen memo p → lookup (same_pair p) memo ≡ None
@@ -59,28 +59,6 @@ pairs_parts nodes a b (p ∷ xs) ys h = let r = pairs_parts nodes a b xs ys h.1 
 pub pairs_popped : (nodes : List Node) (a b : NodeId) (old new : List (NodeId × NodeId)) (p : NodeId × NodeId) → old ≡ new ++ p ∷ [] → ArePairs nodes a b old → ArePairs nodes a b new × IsPair nodes a b p
 pairs_popped nodes a b old new p e h = let r = pairs_parts nodes a b new (p ∷ []) (subst (ArePairs nodes a b) e h) in (r.0, r.1.0)
 
-wanted_parts : (nodes : List Node) (memo : Memo) (a b : NodeId) (xs ys : List (NodeId × NodeId)) → AreWanted nodes memo a b (xs ++ ys) → AreWanted nodes memo a b xs × AreWanted nodes memo a b ys
-wanted_parts nodes memo a b [] ys h = (_, h)
-wanted_parts nodes memo a b (p ∷ xs) ys h = let r = wanted_parts nodes memo a b xs ys h.1 in ((h.0, r.0), r.1)
-
-wanted_both : (nodes : List Node) (memo : Memo) (a b : NodeId) (xs ys : List (NodeId × NodeId)) → AreWanted nodes memo a b xs → AreWanted nodes memo a b ys → AreWanted nodes memo a b (xs ++ ys)
-wanted_both nodes memo a b [] ys h g = g
-wanted_both nodes memo a b (p ∷ xs) ys h g = (h.0, wanted_both nodes memo a b xs ys h.1 g)
-
-wanted_pairs : (nodes : List Node) (memo : Memo) (a b : NodeId) (xs : List (NodeId × NodeId)) → AreWanted nodes memo a b xs → ArePairs nodes a b xs
-wanted_pairs nodes memo a b [] h = _
-wanted_pairs nodes memo a b (p ∷ xs) h = (h.0.pair, wanted_pairs nodes memo a b xs h.1)
-
-pub wanted_popped : (nodes : List Node) (memo : Memo) (a b : NodeId) (old new : List (NodeId × NodeId)) (p : NodeId × NodeId) → old ≡ new ++ p ∷ [] → AreWanted nodes memo a b old → AreWanted nodes memo a b new × IsWanted nodes memo a b p
-wanted_popped nodes memo a b old new p e h = let r = wanted_parts nodes memo a b new (p ∷ []) (subst (AreWanted nodes memo a b) e h) in (r.0, r.1.0)
-
-not_none : {X : Type 0} (xs more : List X) (x : X) → more ≡ xs ++ x ∷ [] → more ≡ [] → ⊥
-not_none xs more x last none =
-    let e : length (xs ++ x ∷ []) ≡ 0 = ap length (sym last ∙ none) in
-    let f : length (xs ++ x ∷ []) ≡ length xs + length (x ∷ []) = length-append xs (x ∷ []) in
-    let g : length (x ∷ []) ≡ 1 = refl in
-    omega (arith, e, f, g)
-
 -- ---- subtrees of subtrees
 pub pair_itself : (nodes : List Node) (a b : NodeId) → IsHeld nodes a → IsHeld nodes b → IsPair nodes a b (a, b)
 pair_itself nodes a b i j = record { left_held = i; right_held = j; left = itself; right = itself }
@@ -100,20 +78,23 @@ module _ (old new : List Node) (k : Keeps markers old new) (descends : Descends 
 pub nothing_waits : (nodes : List Node) (a b : NodeId) (xs : List (NodeId × NodeId)) → Waits nodes a b xs xs
 nothing_waits nodes a b xs = record { more = []; added = sym (append-nil xs); pairs = _ }
 
-module _ (nodes : List Node) (memo : Memo) (descends : Descends markers nodes) (a b : NodeId) (p : NodeId × NodeId) (h : IsPair nodes a b p) where
-  pub more_wait : (old now then_ last wanted less : List (NodeId × NodeId)) (next : NodeId × NodeId) → Waits nodes a b old now → AreWanted nodes memo p.0 p.1 wanted → wanted ≡ less ++ next ∷ [] →
-      then_ ≡ now ++ p ∷ [] → last ≡ then_ ++ less → Waits nodes a b old last
-  more_wait old now then_ last wanted less next w all popped pushed appended = record {
-    more = w.more ++ (p ∷ less);
-    added = appended ∙ ap (λ (x : List (NodeId × NodeId)). x ++ less) (pushed ∙ ap (λ (x : List (NodeId × NodeId)). x ++ p ∷ []) w.added) ∙ append_assoc (old ++ w.more) (p ∷ []) less ∙ append_assoc old w.more (p ∷ less);
-    pairs = pairs_both nodes a b w.more (p ∷ less) w.pairs (h, pairs_under nodes nodes (keeps_itself markers nodes) descends a b p h less (wanted_pairs nodes memo p.0 p.1 less (wanted_popped nodes memo p.0 p.1 wanted less next popped all).0));
+one_waits : (nodes : List Node) (a b : NodeId) (old now last : List (NodeId × NodeId)) (p : NodeId × NodeId) → Waits nodes a b old now → IsPair nodes a b p → last ≡ now ++ p ∷ [] → Waits nodes a b old last
+one_waits nodes a b old now last p w h pushed = record {
+  more = w.more ++ p ∷ [];
+  added = pushed ∙ ap (λ (x : List (NodeId × NodeId)). x ++ p ∷ []) w.added ∙ append_assoc old w.more (p ∷ []);
+  pairs = pairs_both nodes a b w.more (p ∷ []) w.pairs (h, _);
+}
+
+module _ (nodes : List Node) (descends : Descends markers nodes) (a b : NodeId) (p : NodeId × NodeId) (h : IsPair nodes a b p) where
+  pub more_wait : (old now last : List (NodeId × NodeId)) → Waits nodes a b old now → Waits nodes p.0 p.1 now last → Waits nodes a b old last
+  more_wait old now last w v = record {
+    more = w.more ++ v.more;
+    added = v.added ∙ ap (λ (x : List (NodeId × NodeId)). x ++ v.more) w.added ∙ append_assoc old w.more v.more;
+    pairs = pairs_both nodes a b w.more v.more w.pairs (pairs_under nodes nodes (keeps_itself markers nodes) descends a b p h v.more v.pairs);
   }
 
-  pub next_wanted : (wanted less : List (NodeId × NodeId)) (next : NodeId × NodeId) → AreWanted nodes memo p.0 p.1 wanted → wanted ≡ less ++ next ∷ [] →
-      IsPair nodes a b next × (IsOpen memo next × (place_of next.0 + place_of next.1 < place_of p.0 + place_of p.1))
-  next_wanted wanted less next all popped =
-      let r = (wanted_popped nodes memo p.0 p.1 wanted less next popped all).1 in
-      (pair_under nodes nodes (keeps_itself markers nodes) descends a b p h next r.pair, (r.unsettled, r.below))
+  pub next_pair : (q : NodeId × NodeId) → IsPair nodes p.0 p.1 q → IsPair nodes a b q
+  next_pair = pair_under nodes nodes (keeps_itself markers nodes) descends a b p h
 
 -- ---- the children of two ids, one pair after another
 abbrev EachPair : (NodeId × NodeId → Type 0) → List (NodeId × NodeId) → Type 0
@@ -126,28 +107,32 @@ module _ (P : NodeId × NodeId → Type 0) where
   each_from (q ∷ qs) h = (h 0 q refl, each_from qs (λ i. h (suc i)))
 
 module _ (nodes : List Node) (memo : Memo) (a b : NodeId) (x : Variable) (pair : Valuation → NodeId × NodeId) (piece : Valuation → ℕ) (count : ℕ) where
-  -- the pairs that are left of a walk, those that were found open, and the conjunctions of all before, where none was
-  pub record Walk (left found : List (NodeId × NodeId)) (children : List NodeId) : Type 0 where
+  -- a list, the pairs that are left of a walk, the last one that was found open, and the conjunctions of all before, where none was
+  pub record Walk (old now left : List (NodeId × NodeId)) (next : NodeId × NodeId) (children : List NodeId) : Type 0 where
     pub all : List (NodeId × NodeId)
     pub counted : length all ≡ count
     pub at_piece : (v : Valuation) → slice_get all (piece v) ≡ Some (pair v)
     pub branches : EachPair (λ q. (v : Valuation) × HasBranches nodes x a b v q) left
-    pub known : found ≡ [] → (done : List (NodeId × NodeId)) × (all ≡ done ++ left) × Ands nodes a b done children
-    pub wanted : AreWanted nodes memo a b found
+    pub known : next ≡ (a, b) → (done : List (NodeId × NodeId)) × (all ≡ done ++ left) × Ands nodes a b done children
+    pub wanted : (next ≡ (a, b) → ⊥) → IsWanted nodes memo a b next
+    pub stands : IsPair nodes a b next
+    pub waits : Waits nodes a b old now
 
   module _ (has : (v : Valuation) → HasBranches nodes x a b v (pair v)) where
-    pub walk_from : (pairs : List (NodeId × NodeId)) → length pairs ≡ count → ((v : Valuation) → slice_get pairs (piece v) ≡ Some (pair v)) →
-        ((i : ℕ) (p : NodeId × NodeId) → slice_get pairs i ≡ Some p → (v : Valuation) × (pair v ≡ p)) → Walk pairs [] []
-    walk_from pairs counted at_piece inhabited = record {
+    pub walk_from : (old pairs : List (NodeId × NodeId)) → IsHeld nodes a → IsHeld nodes b → length pairs ≡ count → ((v : Valuation) → slice_get pairs (piece v) ≡ Some (pair v)) →
+        ((i : ℕ) (p : NodeId × NodeId) → slice_get pairs i ≡ Some p → (v : Valuation) × (pair v ≡ p)) → Walk old old pairs (a, b) []
+    walk_from old pairs i j counted at_piece inhabited = record {
       all = pairs;
       counted = counted;
       at_piece = at_piece;
       branches = each_from (λ q. (v : Valuation) × HasBranches nodes x a b v q) pairs (λ i p e. let q = inhabited i p e in (q.0, subst (HasBranches nodes x a b q.0) q.1 (has q.0)));
       known = λ e. ([], refl, tt);
-      wanted = _;
+      wanted = λ other. absurd (other refl);
+      stands = pair_itself nodes a b i j;
+      waits = nothing_waits nodes a b old;
     }
 
-    module _ (now found : List (NodeId × NodeId)) (children : List NodeId) (e : now ≡ []) (w : Walk now found children) (none : found ≡ []) where
+    module _ (old now left : List (NodeId × NodeId)) (next : NodeId × NodeId) (children : List NodeId) (e : left ≡ []) (w : Walk old now left next children) (none : next ≡ (a, b)) where
       pub walk_count : length children ≡ count
       walk_count = let k = w.known none in ands_length nodes a b k.0 children k.2 ∙ sym (ap length (k.1 ∙ ap (λ l. k.0 ++ l) e ∙ append-nil k.0)) ∙ w.counted
 
@@ -159,7 +144,7 @@ module _ (nodes : List Node) (memo : Memo) (a b : NodeId) (x : Variable) (pair :
           (subst (λ (s : NodeId). IsAnd nodes (signed_id (is_negated a) (pair v).0) s (child_at children (piece v))) (has v).1
           (ands_at nodes a b k.0 children k.2 (piece v) (pair v) (sym (ap (λ (l : List (NodeId × NodeId)). slice_get l (piece v)) all_done) ∙ w.at_piece v)))
 
-  module _ (first : IsFirst nodes x a b) (store : IsStore markers nodes) (i : IsHeld nodes a) (j : IsHeld nodes b) (now later found : List (NodeId × NodeId)) (children : List NodeId) (q : NodeId × NodeId) (e : now ≡ q ∷ later) (w : Walk now found children)
+  module _ (first : IsFirst nodes x a b) (store : IsStore markers nodes) (i : IsHeld nodes a) (j : IsHeld nodes b) (old now left later : List (NodeId × NodeId)) (next : NodeId × NodeId) (children : List NodeId) (q : NodeId × NodeId) (e : left ≡ q ∷ later) (w : Walk old now left next children)
       (l r : NodeId) (l_is : l ≡ signed_id (is_negated a) q.0) (r_is : r ≡ signed_id (is_negated b) q.1) where
     branches_now : ((v : Valuation) × HasBranches nodes x a b v q) × EachPair (λ s. (v : Valuation) × HasBranches nodes x a b v s) later
     branches_now = subst (EachPair (λ s. (v : Valuation) × HasBranches nodes x a b v s)) e w.branches
@@ -174,7 +159,7 @@ module _ (nodes : List Node) (memo : Memo) (a b : NodeId) (x : Variable) (pair :
         let n : place_of r ≡ place_of q.1 = ap place_of r_is in
         (omega arith, omega arith)
 
-    pub walk_known : (t : NodeId) (more : List NodeId) → more ≡ children ++ t ∷ [] → (IsHeld nodes l → IsHeld nodes r → IsAnd nodes l r t) → Walk later found more
+    pub walk_known : (t : NodeId) (more : List NodeId) → more ≡ children ++ t ∷ [] → (IsHeld nodes l → IsHeld nodes r → IsAnd nodes l r t) → Walk old now later next more
     walk_known t more last h = record {
       all = w.all;
       counted = w.counted;
@@ -189,16 +174,20 @@ module _ (nodes : List Node) (memo : Memo) (a b : NodeId) (x : Variable) (pair :
                 (subst (λ (s : NodeId). IsAnd nodes s (signed_id (is_negated b) q.1) t) l_is (subst (λ (s : NodeId). IsAnd nodes l s t) r_is (h held_both.0 held_both.1)))),
           );
       wanted = w.wanted;
+      stands = w.stands;
+      waits = w.waits;
     }
 
-    pub walk_open : (more : List (NodeId × NodeId)) → more ≡ found ++ (l, r) ∷ [] → IsOpen memo (l, r) → Walk later more children
-    walk_open more last h = record {
+    pub walk_open : (last : List (NodeId × NodeId)) → last ≡ now ++ next ∷ [] → IsOpen memo (l, r) → Walk old last later (l, r) children
+    walk_open last pushed h = record {
       all = w.all;
       counted = w.counted;
       at_piece = w.at_piece;
       branches = branches_now.1;
-      known = λ none. absurd (not_none found more (l, r) last none);
-      wanted = subst (AreWanted nodes memo a b) (sym last) (wanted_both nodes memo a b found ((l, r) ∷ []) w.wanted (one, _));
+      known = λ none. absurd (not_above none);
+      wanted = λ other. one;
+      stands = one.pair;
+      waits = one_waits nodes a b old now last next w.waits w.stands pushed;
     }
       where
         one : IsWanted nodes memo a b (l, r)
@@ -220,6 +209,26 @@ module _ (nodes : List Node) (memo : Memo) (a b : NodeId) (x : Variable) (pair :
               below = omega arith;
               unsettled = h;
             }
+
+        not_above : ◌≡◌ {A = NodeId × NodeId} (l, r) (a, b) → ⊥
+        not_above same =
+            let below : place_of l + place_of r < place_of a + place_of b = one.below in
+            let first : place_of l ≡ place_of a = ap (λ (p : NodeId × NodeId). place_of p.0) same in
+            let second : place_of r ≡ place_of b = ap (λ (p : NodeId × NodeId). place_of p.1) same in
+            omega arith
+
+-- ---- whether a pair is that of two ids
+pub is_same : (p : NodeId × NodeId) (a b : NodeId) (told : Bool) → told ≡ not (same_pair p (a, b)) → told ≡ false → p ≡ (a, b)
+is_same p a b told e f = same_pair_is p (a, b) (not_false (same_pair p (a, b)) (sym e ∙ f))
+  where
+    not_false : (z : Bool) → not z ≡ false → z ≡ true
+    not_false true e = refl
+    not_false false e = absurd (false≢true (sym e))
+
+pub is_other : (p : NodeId × NodeId) (a b : NodeId) (told : Bool) → told ≡ not (same_pair p (a, b)) → told ≡ true → p ≡ (a, b) → ⊥
+is_other p a b told e f same =
+    let one : same_pair p (a, b) ≡ true = ap (λ (q : NodeId × NodeId). same_pair q (a, b)) same ∙ and_from (same_id a a) (same_id b b) (same_id_itself a) (same_id_itself b) in
+    false≢true (sym (ap not one) ∙ sym e ∙ f)
 
 -- a choice that has the conjunctions as its children
 pub choice_joins : (nodes : List Node) (a b : NodeId) (x : Variable) (child : Valuation → NodeId) (choice : Choice) → IsFirst nodes x a b → ((v : Valuation) → IsAnd nodes (branch nodes x a v) (branch nodes x b v) (child v)) →

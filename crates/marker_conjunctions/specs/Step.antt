@@ -7,6 +7,9 @@ use Rattle.marker_diagrams.specs.Diagram.{IsHeld}
 use Rattle.marker_diagrams.specs.Residue.{IsSubtree}
 use Rattle.marker_nodes.specs.And.{IsShort}
 use Rattle.marker_nodes.specs.Node.{Node, markers}
+use Rattle.marker_conjunctions.specs.declared.conjunctions.Step.{Step}
+use Rattle.marker_conjunctions.specs.declared.conjunctions.Step.TheVariants.{Made, Open}
+use Rattle.marker_conjunctions.specs.Branch.{Joins}
 use Rattle.marker_conjunctions.specs.Contents.{same_pair}
 
 abbrev pub Memo : Type 0
@@ -48,10 +51,10 @@ pub record IsWanted (nodes : List Node) (memo : Memo) (a b : NodeId) (p : NodeId
   pub below : place_of p.0 + place_of p.1 < place_of a + place_of b
   pub unsettled : IsOpen memo p
 
-abbrev pub AreWanted : List Node → Memo → NodeId → NodeId → List (NodeId × NodeId) → Type 0
-AreWanted nodes memo a b [] = ⊤
-AreWanted nodes memo a b (p ∷ pairs) =
-    IsWanted nodes memo a b p × AreWanted nodes memo a b pairs
+-- what a look at the children of two ids found: their conjunction, or the pair to look at next
+abbrev pub IsStep : List Node → Memo → NodeId → NodeId → Step → Type 0
+IsStep nodes memo a b (Made choice) = Joins nodes a b choice
+IsStep nodes memo a b (Open left right) = IsWanted nodes memo a b (left, right)
 
 -- pairs of subtrees of a and b were added to a list
 pub record Waits (nodes : List Node) (a b : NodeId) (old new : List (NodeId × NodeId))

@@ -8,7 +8,7 @@ ghost use Rattle.marker_nodes.specs.Node.{markers, Node};
 ghost use Rattle.marker_conjunctions.specs.Branch.{Joins};
 ghost use Rattle.marker_conjunctions.specs.Contents.{contents, nothing, IsWellKept};
 ghost use Rattle.marker_conjunctions.specs.Count.{IsCounted, Spends};
-ghost use Rattle.marker_conjunctions.specs.Step.{ArePairs, AreWanted, IsKnown, IsOpen, IsPair, IsSettled, Remembers, Waits};
+ghost use Rattle.marker_conjunctions.specs.Step.{ArePairs, IsKnown, IsOpen, IsPair, IsSettled, IsStep, Remembers, Waits};
 
 use marker_nodes::{Choice, NodeId, NodeTable, short_cut};
 use node_hasher::NodeState;
@@ -23,6 +23,15 @@ pub struct Conjunctions {
     memo: HashMap<(NodeId, NodeId), NodeId, NodeState>,
     // How many conjunctions of nodes were computed.
     expansions: u64,
+}
+
+// What a look at the children of two ids finds out about their conjunction.
+#[derive(Drop)]
+enum Step {
+    // It is this choice among those of their children.
+    Made(Choice),
+    // It waits for that of these two, which are children of theirs.
+    Open(NodeId, NodeId),
 }
 
 impl Conjunctions {
@@ -141,55 +150,50 @@ impl Conjunctions {
             (Waits nodes.now first.0 first.1 pending.old.items pending.new.items) }
     {
         let mut pair = first;
-        let mut wanted = Vec::new(nodes.allocator());
         loop {
-            if let Some(choice) = self.look(nodes, pair.0, pair.1, &mut wanted)? {
-                return Ok((pair, choice));
+            match self.look(nodes, pending, pair.0, pair.1)? {
+                Step::Made(choice) => return Ok((pair, choice)),
+                Step::Open(left, right) => pair = (left, right),
             }
-            let Some(next) = wanted.pop() else {
-                // Without a choice there is such a pair.
-                unreachable!()
-            };
-            pending.push(pair)?;
-            pending.append(&mut wanted)?;
-            pair = next;
         }
     }
 
     // The conjunction of two ids as a choice among those of their children, where these are known;
-    // else the pairs of children whose conjunction is still to be computed are added to the list.
+    // else the last pair of children whose conjunction is still to be computed. The two ids and the
+    // other such pairs are then added to the list.
     fn look(
         &self,
         nodes: &NodeTable,
+        pending: &mut Vec<(NodeId, NodeId)>,
         a: NodeId,
         b: NodeId,
-        wanted: &mut Vec<(NodeId, NodeId)>,
-    ) -> Result<Option<Choice>, AllocError>
+    ) -> Result<Step, AllocError>
         requires rules { IsWellKept (contents nodes.now self.now) }
         requires a { IsHeld nodes.now a }
         requires b { IsHeld nodes.now b }
         requires unsettled { IsOpen self.now.memo.entries (a, b) }
-        requires none { wanted.old.items ≡ [] }
-        ensures joins { IfOk result (λ r. IfSome r (Joins nodes.now a b)) }
-        ensures wanted { OnOk result
-            (AreWanted nodes.now self.now.memo.entries a b wanted.new.items) }
-        ensures some { IfOk result (λ r. IfNone r (wanted.new.items ≡ [] → ⊥)) }
+        ensures step { IfOk result (IsStep nodes.now self.now.memo.entries a b) }
+        ensures waits { OnOk result (Waits nodes.now a b pending.old.items pending.new.items) }
     {
         let sides = &nodes.side_by_side(a, b);
         let mut children = SmallVec::new(nodes.allocator());
+        let mut next = (a, b);
         for (left, right) in sides.pairs() {
             let left = left.negate(a);
             let right = right.negate(b);
             match self.look_up(left, right) {
                 Some(child) => children.push(child)?,
-                None => wanted.push((left, right))?,
+                None => {
+                    pending.push(next)?;
+                    next = (left, right);
+                }
             }
         }
-        if !wanted.is_empty() {
-            return Ok(None);
+        if next != (a, b) {
+            return Ok(Step::Open(next.0, next.1));
         }
         let choice = sides.choice(nodes.allocator(), children)?;
-        Ok(Some(choice))
+        Ok(Step::Made(choice))
     }
 
     // Makes the conjunction of two ids known, and answers it. The choice is among those of their

@@ -1,43 +1,39 @@
+use Rattle.std.proofs.Common.{subst}
 use Rattle.marker_conjunctions.specs.Contents.{contents}
+use Rattle.marker_conjunctions.specs.Step.{IsStep, IsWanted}
 use Rattle.marker_conjunctions.proofs.CountLaws.{descends_of}
-use Rattle.marker_conjunctions.proofs.StepLaws.{pair_itself, nothing_waits, next_wanted, more_wait}
+use Rattle.marker_conjunctions.proofs.StepLaws.{pair_itself, nothing_waits, next_pair, more_wait}
 use Rattle.marker_conjunctions.proofs.conjunctions.Conjunctions.descend.Goals as goal
 
-pub loop-wanted-init : goal.loop-wanted-init
-loop-wanted-init c = record {
+pub loop-choice-init : goal.loop-choice-init
+loop-choice-init c = record {
   pair = pair_itself c.args.nodes.now c.args.first.0 c.args.first.1 c.requires.left c.requires.right;
   unsettled = c.requires.unsettled;
-  none = c.new-wanted.ensures.items;
   waits = nothing_waits c.args.nodes.now c.args.first.0 c.args.first.1 c.args.pending.now.items;
 }
 
 pub look-requires-clause-a : goal.look-requires-clause-a
-look-requires-clause-a c = c.loop-wanted.invariant.pair.left_held
+look-requires-clause-a c = c.loop-choice.invariant.pair.left_held
 
 pub look-requires-clause-b : goal.look-requires-clause-b
-look-requires-clause-b c = c.loop-wanted.invariant.pair.right_held
+look-requires-clause-b c = c.loop-choice.invariant.pair.right_held
 
 pub look-requires-clause-unsettled : goal.look-requires-clause-unsettled
-look-requires-clause-unsettled c = c.loop-wanted.invariant.unsettled
+look-requires-clause-unsettled c = c.loop-choice.invariant.unsettled
 
-pub look-requires-clause-none : goal.look-requires-clause-none
-look-requires-clause-none c = c.loop-wanted.invariant.none
+pub returns-in-Made-clause-waits : goal.returns-in-Made-clause-waits
+returns-in-Made-clause-waits c =
+    more_wait c.args.nodes.now (descends_of (contents c.args.nodes.now c.args.self.now) c.requires.rules) c.args.first.0 c.args.first.1 c.loop-choice.pair c.loop-choice.invariant.pair
+    c.args.pending.now.items c.loop-choice.pending.items c.look.new.pending.items c.loop-choice.invariant.waits c.in_ok-choice.ensures.waits
 
-pub loop-wanted-preserved : goal.loop-wanted-preserved
-loop-wanted-preserved c =
+pub loop-choice-preserved : goal.loop-choice-preserved
+loop-choice-preserved c =
     let descends = descends_of (contents c.args.nodes.now c.args.self.now) c.requires.rules in
-    let next =
-    next_wanted c.args.nodes.now c.args.self.now.memo.entries descends c.args.first.0 c.args.first.1 c.loop-wanted.pair c.loop-wanted.invariant.pair c.look.new.wanted.items c.pop.new.self.items c.in-Some-pop.next
-    c.in_ok-choice.ensures.wanted c.in-Some-pop.ensures.items in
+    let next : IsWanted c.args.nodes.now c.args.self.now.memo.entries c.loop-choice.pair.0 c.loop-choice.pair.1 (c.in-Open.left, c.in-Open.right) =
+    subst (IsStep c.args.nodes.now c.args.self.now.memo.entries c.loop-choice.pair.0 c.loop-choice.pair.1) c.in-Open.is c.in_ok-choice.ensures.step in
     record {
-      pair = next.0;
-      unsettled = next.1.0;
-      none = c.in_ok-append.ensures.other_items;
-      waits = more_wait c.args.nodes.now c.args.self.now.memo.entries descends c.args.first.0 c.args.first.1 c.loop-wanted.pair c.loop-wanted.invariant.pair c.args.pending.now.items c.loop-wanted.pending.items c.push.new.self.items
-          c.append.new.self.items c.look.new.wanted.items c.pop.new.self.items c.in-Some-pop.next c.loop-wanted.invariant.waits c.in_ok-choice.ensures.wanted c.in-Some-pop.ensures.items c.in_ok-push.ensures.items c.in_ok-append.ensures.items;
+      pair = next_pair c.args.nodes.now descends c.args.first.0 c.args.first.1 c.loop-choice.pair c.loop-choice.invariant.pair (c.in-Open.left, c.in-Open.right) next.pair;
+      unsettled = next.unsettled;
+      waits = more_wait c.args.nodes.now descends c.args.first.0 c.args.first.1 c.loop-choice.pair c.loop-choice.invariant.pair
+          c.args.pending.now.items c.loop-choice.pending.items c.look.new.pending.items c.loop-choice.invariant.waits c.in_ok-choice.ensures.waits;
     }
-
-pub loop-wanted-smaller : goal.loop-wanted-smaller
-loop-wanted-smaller c =
-    (next_wanted c.args.nodes.now c.args.self.now.memo.entries (descends_of (contents c.args.nodes.now c.args.self.now) c.requires.rules) c.args.first.0 c.args.first.1 c.loop-wanted.pair c.loop-wanted.invariant.pair
-    c.look.new.wanted.items c.pop.new.self.items c.in-Some-pop.next c.in_ok-choice.ensures.wanted c.in-Some-pop.ensures.items).1.1

@@ -1,15 +1,14 @@
-use Rattle.std.proofs.Common.{◌≡◌, ◌+◌, []}
+use Rattle.std.proofs.Common.{◌+◌}
 use Rattle.marker_diagrams.specs.Id.{place_of}
 use Rattle.marker_conjunctions.specs.Step.{IsOpen, IsPair, Waits}
 use Rattle.marker_conjunctions.proofs.conjunctions.Conjunctions.descend.Given as goal
 
-abbrev pub invariant-loop-wanted : goal.invariant-loop-wanted
-invariant-loop-wanted l = record {
+abbrev pub invariant-loop-choice : goal.invariant-loop-choice
+invariant-loop-choice l = record {
   pair : IsPair l.nodes l.fn.first.0 l.fn.first.1 l.pair;
   unsettled : IsOpen l.self.memo.entries l.pair;
-  none : l.wanted.items ≡ [];
   waits : Waits l.nodes l.fn.first.0 l.fn.first.1 l.initial.pending.items l.pending.items;
 }
 
-abbrev pub decreases-loop-wanted : goal.decreases-loop-wanted
-decreases-loop-wanted l = place_of l.pair.0 + place_of l.pair.1
+abbrev pub decreases-loop-choice : goal.decreases-loop-choice
+decreases-loop-choice l = place_of l.pair.0 + place_of l.pair.1
