@@ -175,7 +175,9 @@ impl Conjunctions {
         ensures step { IfOk result (IsStep nodes.now self.now.memo.entries a b) }
         ensures waits { OnOk result (Waits nodes.now a b pending.old.items pending.new.items) }
     {
-        let sides = &nodes.side_by_side(a, b);
+        let unsigned_a = a.negate(a);
+        let unsigned_b = b.negate(b);
+        let sides = &nodes.side_by_side(&unsigned_a, &unsigned_b);
         let mut children = SmallVec::new(nodes.allocator());
         let mut next = (a, b);
         for (left, right) in sides.pairs() {

@@ -61,7 +61,9 @@ fn tell_within(nodes: &NodeTable, steps: &mut usize, a: NodeId, b: NodeId) -> Op
     ensures { IfSome result (TellsDisjoint nodes.now a b) }
 {
     *steps = steps.checked_sub(1)?;
-    for (left, right) in nodes.side_by_side(a, b).pairs() {
+    let unsigned_a = a.negate(a);
+    let unsigned_b = b.negate(b);
+    for (left, right) in nodes.side_by_side(&unsigned_a, &unsigned_b).pairs() {
         let left = left.negate(a);
         let right = right.negate(b);
         let answer = match short_cut(left, right) {
@@ -127,7 +129,9 @@ fn all_but_last(
     ensures apart { AreApart nodes.now apart.new }
 {
     let mut last = (NodeId::FALSE, NodeId::FALSE);
-    for (left, right) in nodes.side_by_side(a, b).pairs() {
+    let unsigned_a = a.negate(a);
+    let unsigned_b = b.negate(b);
+    for (left, right) in nodes.side_by_side(&unsigned_a, &unsigned_b).pairs() {
         let left = left.negate(a);
         let right = right.negate(b);
         match recall(apart, left, right) {

@@ -10,6 +10,8 @@ use Rattle.std.proofs.lemmas.Bool.{true≢false, false≢true}
 use Rattle.std.proofs.lemmas.Cmp.{alike_right}
 use Rattle.version_ranges.specs.declared.cut.Cut.{Cut}
 use Rattle.version_ranges.specs.declared.cuts.Cuts.{Cuts}
+use Rattle.version_ranges.specs.declared.lent.CutsRef.{CutsRef}
+use Rattle.version_ranges.specs.Lent as lent
 use Rattle.version_ranges.specs.Point.{Point, bottom, at, above, point_map, point_cmp, point_lt}
 use Rattle.version_ranges.specs.Cut.{cut_cmp, cut_point, stands_before}
 use Rattle.version_ranges.specs.Cuts.{value_by, value_of, piece_by, piece_of}
@@ -133,6 +135,10 @@ module _ {T K : Type 0} (f : T → K) (cmp : T → T → Ordering) (cmp' : K →
 
     pub piece_by_name : (p : Point T) → piece_by f cmp' cuts (point_map f p) ≡ piece_of cmp cuts p
     piece_by_name p = piece_at_same _ _ (named_before p) cuts.rest.items
+
+  -- the same of a function that is lent
+  pub lent_by_name : {V : Type 0} {a : _} {b : _} {c : _} (l : CutsRef T V a b c) (p : Point T) → lent.value_by f cmp' l (point_map f p) ≡ lent.value_of cmp l p
+  lent_by_name l p = value_at_same _ _ (named_before p) l.first.now l.rest.now
 
   -- what holds of the values and the pieces of three functions at each point, as lists, holds of them at each point by other names
   module _ {V W U : Type 0} (v : V) (w : W) (u : U) (left : List (Cut T × V)) (right : List (Cut T × W)) (both : List (Cut T × U)) where

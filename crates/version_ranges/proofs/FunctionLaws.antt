@@ -12,6 +12,8 @@ use Rattle.version_ranges.specs.Point.{Point, bottom, at, above, point_map, poin
 use Rattle.version_ranges.specs.Cut.{cut_cmp, stands_before}
 use Rattle.version_ranges.specs.Steps.{is_before, ascends, value_at, piece_at, is_merged}
 use Rattle.version_ranges.specs.Cuts.{value_by, value_of, piece_by, piece_count, neighbors_differ, IsMerged}
+use Rattle.version_ranges.specs.declared.lent.CutsRef.{CutsRef}
+use Rattle.version_ranges.specs.Lent as lent
 use Rattle.version_ranges.specs.Pairs.{count_of_both, piece_of_both, piece_of_both_by, steps_of_both}
 use Rattle.version_ranges.proofs.StepLaws.{same_steps, value_from_low, value_from_later, before_itself}
 use Rattle.version_ranges.proofs.PointLaws.{cut_total, point_of, place_point, place_before, value_at_place, value_at_point, bottom_before}
@@ -49,7 +51,7 @@ module _ {T K V : Type 0} (f : T → K) (cmp : K → K → Ordering) {a : _} {b 
 
 -- ---- pieces of two functions side by side
 
-module _ {T K V W : Type 0} (cmp : T → T → Ordering) (f : T → K) (named : K → K → Ordering) {a : _} {b : _} {c : _} {a' : _} {b' : _} {c' : _} (left : Cuts T V a b c) (right : Cuts T W a' b' c') where
+module _ {T K V W : Type 0} (cmp : T → T → Ordering) (f : T → K) (named : K → K → Ordering) {a : _} {b : _} {c : _} {a' : _} {b' : _} {c' : _} (left : CutsRef T V a b c) (right : CutsRef T W a' b' c') where
   -- a point lies in one of them
   pub both_within : (p : Point K) → piece_of_both_by cmp f named left right p < count_of_both cmp left right
   both_within p = let h = piece_bound (stands_before f named p) (steps_of_both cmp left right) in omega arith
@@ -60,16 +62,16 @@ module _ {T K V W : Type 0} (cmp : T → T → Ordering) (f : T → K) (named : 
 
   module _ (o : IsTotalOrder cmp) (o' : IsTotalOrder named) (same_order : (x y : T) → cmp x y ≡ named (f x) (f y)) where
     -- what holds of both values at each point, and of the piece that it lies in, holds of them at each point by other names
-    pub pairs_at_names : (P : V → W → ℕ → Type 0) → ((p : Point T) → P (value_of cmp left p) (value_of cmp right p) (piece_of_both cmp left right p)) →
-        (q : Point K) → P (value_by f named left q) (value_by f named right q) (piece_of_both_by cmp f named left right q)
+    pub pairs_at_names : (P : V → W → ℕ → Type 0) → ((p : Point T) → P (lent.value_of cmp left p) (lent.value_of cmp right p) (piece_of_both cmp left right p)) →
+        (q : Point K) → P (lent.value_by f named left q) (lent.value_by f named right q) (piece_of_both_by cmp f named left right q)
     pairs_at_names P =
-        steps_at_names f cmp named o o' same_order left.first right.first (left.first, right.first) left.rest.items right.rest.items (steps_of_both cmp left right) (λ v i w j u k. P v w k)
+        steps_at_names f cmp named o o' same_order left.first.now right.first.now (left.first.now, right.first.now) left.rest.now right.rest.now (steps_of_both cmp left right) (λ v i w j u k. P v w k)
 
     -- and so of the value of another function there
     pub value_at_names : {U : Type 0} {a'' : _} {b'' : _} {c'' : _} (made : Cuts T U a'' b'' c'') (P : U → ℕ → Type 0) → ((p : Point T) → P (value_of cmp made p) (piece_of_both cmp left right p)) →
         (q : Point K) → P (value_by f named made q) (piece_of_both_by cmp f named left right q)
     value_at_names made P =
-        steps_at_names f cmp named o o' same_order made.first made.first (left.first, right.first) made.rest.items made.rest.items (steps_of_both cmp left right) (λ v i w j u k. P v k)
+        steps_at_names f cmp named o o' same_order made.first made.first (left.first.now, right.first.now) made.rest.items made.rest.items (steps_of_both cmp left right) (λ v i w j u k. P v k)
 
 -- ---- neighbors
 

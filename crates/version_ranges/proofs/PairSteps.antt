@@ -1,5 +1,5 @@
 -- The values of two functions side by side, and the points that have them.
-use Rattle.std.proofs.Common.{◌≡◌, ℕ, suc, ◌+◌, ◌<◌, ◌≤◌, true, List, [], ◌∷◌, length, map, vec_len, None, Some, sym, ap, ◌∙◌, arith}
+use Rattle.std.proofs.Common.{◌≡◌, ℕ, suc, ◌+◌, ◌<◌, ◌≤◌, true, List, [], ◌∷◌, length, map, None, Some, sym, ap, ◌∙◌, arith}
 use Rattle.std.specs.Prelude.{slice_get}
 use Rattle.std.specs.Ordering.{match_ordering}
 use Rattle.std.specs.declared.cmp.Ordering.{Ordering}
@@ -7,10 +7,10 @@ use Rattle.std.specs.declared.cmp.Ordering.TheVariants.{Less, Equal, Greater}
 use Rattle.std.specs.Cmp.{IsTotalOrder}
 use Rattle.std.proofs.lemmas.List.{length-map}
 use Rattle.version_ranges.specs.declared.cut.Cut.{Cut}
-use Rattle.version_ranges.specs.declared.cuts.Cuts.{Cuts}
+use Rattle.version_ranges.specs.declared.lent.CutsRef.{CutsRef}
 use Rattle.version_ranges.specs.Point.{Point, point_cmp}
 use Rattle.version_ranges.specs.Cut.{cut_cmp, stands_before}
-use Rattle.version_ranges.specs.Cuts.{value_of}
+use Rattle.version_ranges.specs.Lent.{value_of}
 use Rattle.version_ranges.specs.Pairs.{AreInPieces, ArePairs}
 use Rattle.version_ranges.specs.Steps.{ascends, piece_at}
 use Rattle.version_ranges.specs.Sweep.{overlay, overlay_step}
@@ -37,44 +37,42 @@ module _ {C V W : Type 0} (cmp : C → C → Ordering) where
   overlay_length v [] w ys = let k : length (overlay cmp v [] w ys) ≡ length ys = length-map ys (λ y. (y.0, (v, y.1))) in omega arith
   overlay_length v (x ∷ xs) w ys = step_length v x (overlay cmp x.1 xs) (length xs) (λ u zs. overlay_length x.1 xs u zs) w ys
 
-module _ {T V W : Type 0} (cmp : T → T → Ordering) (o : IsTotalOrder cmp) {a : _} {b : _} {c : _} {a' : _} {b' : _} {c' : _} (left : Cuts T V a b c) (right : Cuts T W a' b' c')
-    (left_up : ascends (cut_cmp cmp) None left.rest.items ≡ true) (right_up : ascends (cut_cmp cmp) None right.rest.items ≡ true) where
+module _ {T V W : Type 0} (cmp : T → T → Ordering) (o : IsTotalOrder cmp) {a : _} {b : _} {c : _} {a' : _} {b' : _} {c' : _} (left : CutsRef T V a b c) (right : CutsRef T W a' b' c')
+    (left_up : ascends (cut_cmp cmp) None left.rest.now ≡ true) (right_up : ascends (cut_cmp cmp) None right.rest.now ≡ true) where
   abbrev both : List (Cut T × (V × W))
-  both = overlay (cut_cmp cmp) left.first left.rest.items right.first right.rest.items
+  both = overlay (cut_cmp cmp) left.first.now left.rest.now right.first.now right.rest.now
 
   abbrev index : Point T → ℕ
   index p = piece_at (stands_before (λ v. v) cmp p) both
 
-  values_at : (p : Point T) → ◌≡◌ {A = V × W} (value_from (cut_cmp cmp) (left.first, right.first) both (place p)) (value_of cmp left p, value_of cmp right p)
+  values_at : (p : Point T) → ◌≡◌ {A = V × W} (value_from (cut_cmp cmp) (left.first.now, right.first.now) both (place p)) (value_of cmp left p, value_of cmp right p)
   values_at p =
-      overlay_value (cut_total o) left.first left.rest.items right.first right.rest.items (place p)
-      ∙ ap (λ v. let q : V × W = (v, value_from (cut_cmp cmp) right.first right.rest.items (place p)) in q) (sym (value_at_place cmp left.first left.rest.items p))
-      ∙ ap (λ w. let q : V × W = (value_of cmp left p, w) in q) (sym (value_at_place cmp right.first right.rest.items p))
+      overlay_value (cut_total o) left.first.now left.rest.now right.first.now right.rest.now (place p)
+      ∙ ap (λ v. let q : V × W = (v, value_from (cut_cmp cmp) right.first.now right.rest.now (place p)) in q) (sym (value_at_place cmp left.first.now left.rest.now p))
+      ∙ ap (λ w. let q : V × W = (value_of cmp left p, w) in q) (sym (value_at_place cmp right.first.now right.rest.now p))
 
-  covers : (p : Point T) → slice_get ((left.first, right.first) ∷ map (λ s. s.1) both) (index p) ≡ Some (value_of cmp left p, value_of cmp right p)
+  covers : (p : Point T) → slice_get ((left.first.now, right.first.now) ∷ map (λ s. s.1) both) (index p) ≡ Some (value_of cmp left p, value_of cmp right p)
   covers p =
-      ap (slice_get ((left.first, right.first) ∷ map (λ s. s.1) both)) (piece_at_place cmp both p)
-      ∙ piece_value (cut_cmp cmp) (left.first, right.first) both (place p) ∙ ap Some (values_at p)
+      ap (slice_get ((left.first.now, right.first.now) ∷ map (λ s. s.1) both)) (piece_at_place cmp both p)
+      ∙ piece_value (cut_cmp cmp) (left.first.now, right.first.now) both (place p) ∙ ap Some (values_at p)
 
-  nonempty : (i : ℕ) → i < length ((left.first, right.first) ∷ map (λ s. s.1) both) → (p : Point T) × (index p ≡ i)
+  nonempty : (i : ℕ) → i < length ((left.first.now, right.first.now) ∷ map (λ s. s.1) both) → (p : Point T) × (index p ≡ i)
   nonempty i h =
-      let q = piece_point (cut_cmp cmp) (cut_total o) None both i (overlay_ascends (cut_total o) left.first left.rest.items right.first right.rest.items None left_up right_up)
+      let q = piece_point (cut_cmp cmp) (cut_total o) None both i (overlay_ascends (cut_total o) left.first.now left.rest.now right.first.now right.rest.now None left_up right_up)
       (omega (arith, h, length-map both (λ (s : Cut T × (V × W)). s.1))) in
       (point_of q.0, piece_at_point cmp both q.0 ∙ q.2)
 
   ascending : (p q : Point T) → index p < index q → point_cmp cmp p q ≡ Less
   ascending p q h = let d = between (stands_before (λ v. v) cmp p) (stands_before (λ v. v) cmp q) both h in parted_less cmp o p q d.0 d.1 d.2
 
-  pub are_pairs : (lefts : List (Cut T × V)) (rights : List (Cut T × W)) → lefts ≡ left.rest.items → rights ≡ right.rest.items → vec_len left.rest ≡ length left.rest.items → vec_len right.rest ≡ length right.rest.items →
-      ArePairs cmp left right ((left.first, right.first) ∷ map (λ s. s.1) (overlay (cut_cmp cmp) left.first lefts right.first rights))
-  are_pairs lefts rights e f left_len right_len = rw (e, f) (record {
+  pub are_pairs : ArePairs cmp left right ((left.first.now, right.first.now) ∷ map (λ s. s.1) both)
+  are_pairs = record {
     index = index;
     covers = covers;
     nonempty = nonempty;
     ascending = ascending;
-    count = omega (arith, overlay_length (cut_cmp cmp) left.first left.rest.items right.first right.rest.items, length-map both (λ (s : Cut T × (V × W)). s.1), left_len, right_len);
-  })
+    count = omega (arith, overlay_length (cut_cmp cmp) left.first.now left.rest.now right.first.now right.rest.now, length-map both (λ (s : Cut T × (V × W)). s.1));
+  }
 
-  pub are_in_pieces : (lefts : List (Cut T × V)) (rights : List (Cut T × W)) → lefts ≡ left.rest.items → rights ≡ right.rest.items →
-      AreInPieces cmp left right ((left.first, right.first) ∷ map (λ s. s.1) (overlay (cut_cmp cmp) left.first lefts right.first rights))
-  are_in_pieces lefts rights e f = rw (e, f) (record { count = omega (arith, length-map both (λ (s : Cut T × (V × W)). s.1)); covers = covers; nonempty = nonempty })
+  pub are_in_pieces : AreInPieces cmp left right ((left.first.now, right.first.now) ∷ map (λ s. s.1) both)
+  are_in_pieces = record { count = omega (arith, length-map both (λ (s : Cut T × (V × W)). s.1)); covers = covers; nonempty = nonempty }

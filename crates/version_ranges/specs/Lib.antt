@@ -5,6 +5,7 @@ pub mod Cut
 pub mod Cuts
 pub mod Gather
 pub mod Intervals
+pub mod Lent
 pub mod Pairs
 pub mod Parts
 pub mod Point

@@ -5,10 +5,12 @@ use Rattle.std.specs.declared.cmp.Ordering.{Ordering}
 use Rattle.std.specs.declared.cmp.Ordering.TheVariants.{Less}
 use Rattle.version_ranges.specs.declared.cut.Cut.{Cut}
 use Rattle.version_ranges.specs.declared.cuts.Cuts.{Cuts}
+use Rattle.version_ranges.specs.declared.lent.CutsRef.{CutsRef}
 use Rattle.version_ranges.specs.declared.pairs.Pairs.{Pairs}
 use Rattle.version_ranges.specs.Point.{Point, point_cmp}
 use Rattle.version_ranges.specs.Cut.{cut_cmp, stands_before}
-use Rattle.version_ranges.specs.Cuts.{value_of, piece_count}
+use Rattle.version_ranges.specs.Cuts as cuts
+use Rattle.version_ranges.specs.Lent.{value_of, piece_count}
 use Rattle.version_ranges.specs.Steps.{piece_at}
 use Rattle.version_ranges.specs.Sweep.{overlay}
 
@@ -28,27 +30,27 @@ module _ {T V W : Type 0} (cmp : T → T → Ordering) where
 
   module _ {a : _} {b : _} {c : _} {a' : _} {b' : _} {c' : _} where
     -- the cuts of two functions side by side, each with both values from it on
-    abbrev pub steps_of_both : Cuts T V a b c → Cuts T W a' b' c' → List (Cut T × (V × W))
+    abbrev pub steps_of_both : CutsRef T V a b c → CutsRef T W a' b' c' → List (Cut T × (V × W))
     steps_of_both left right =
-        overlay (cut_cmp cmp) left.first left.rest.items right.first right.rest.items
+        overlay (cut_cmp cmp) left.first.now left.rest.now right.first.now right.rest.now
 
     -- how many pieces they have side by side
-    abbrev pub count_of_both : Cuts T V a b c → Cuts T W a' b' c' → ℕ
+    abbrev pub count_of_both : CutsRef T V a b c → CutsRef T W a' b' c' → ℕ
     count_of_both left right = length (steps_of_both left right) + 1
 
     -- which of these a point lies in, counted from the first, where the values of the order go by
     -- the names that f gives them
     abbrev pub piece_of_both_by : {K : Type 0} → (T → K) → (K → K → Ordering)
-        → Cuts T V a b c → Cuts T W a' b' c' → Point K → ℕ
+        → CutsRef T V a b c → CutsRef T W a' b' c' → Point K → ℕ
     piece_of_both_by f named left right p =
         piece_at (stands_before f named p) (steps_of_both left right)
 
     -- which of these a point lies in, counted from the first
-    abbrev pub piece_of_both : Cuts T V a b c → Cuts T W a' b' c' → Point T → ℕ
+    abbrev pub piece_of_both : CutsRef T V a b c → CutsRef T W a' b' c' → Point T → ℕ
     piece_of_both left right p = piece_of_both_by (λ v. v) cmp left right p
 
     -- these pairs are the values in the pieces of two functions side by side, one for each
-    pub record AreInPieces (left : Cuts T V a b c) (right : Cuts T W a' b' c')
+    pub record AreInPieces (left : CutsRef T V a b c) (right : CutsRef T W a' b' c')
         (pairs : List (V × W)) : Type 0 where
       pub count : length pairs ≡ count_of_both left right
       pub covers : (p : Point T) →
@@ -59,13 +61,13 @@ module _ {T V W : Type 0} (cmp : T → T → Ordering) where
 
     -- a function has these values in the pieces of two functions side by side
     abbrev pub HasValuesOfPairs : {X : Type 0} {a'' : _} {b'' : _} {c'' : _} → (X → X → Bool)
-        → Cuts T V a b c → Cuts T W a' b' c' → List X → Cuts T X a'' b'' c'' → Type 0
+        → CutsRef T V a b c → CutsRef T W a' b' c' → List X → Cuts T X a'' b'' c'' → Type 0
     HasValuesOfPairs {X = X} same left right values new = (p : Point T) (x : X)
         → slice_get values (piece_of_both left right p) ≡ Some x
-        → same (value_of cmp new p) x ≡ true
+        → same (cuts.value_of cmp new p) x ≡ true
 
     -- these pairs are the values of two functions side by side, in order
-    pub record ArePairs (left : Cuts T V a b c) (right : Cuts T W a' b' c')
+    pub record ArePairs (left : CutsRef T V a b c) (right : CutsRef T W a' b' c')
         (pairs : List (V × W)) : Type 0 where
       -- which pair the values at a point are, counted from the first
       pub index : Point T → ℕ

@@ -6,6 +6,7 @@ ghost use Rattle.version_ranges.specs.Pairs.{pairs_left};
 
 use crate::cut::Cut;
 use crate::cuts::Cuts;
+use crate::lent::CutsRef;
 use crate::overlay::next_turn;
 use std::alloc::{AllocError, Global};
 use std::cmp::Ordering;
@@ -83,28 +84,28 @@ fn after<'a, T: Ord, V, W>(
     }
 }
 
-impl<T: Ord, V> Cuts<T, V> {
+impl<'a, T: Ord, V> CutsRef<'a, T, V> {
     ghost use Rattle.version_ranges.specs.Pairs.{pairs_left, AreInPieces, ArePairs};
 
     /// The values of both functions side by side, in ascending order of points: each pair has the
     /// values at some point, and the pair of each point is given. This takes no memory, and one
     /// comparison for each pair.
-    pub fn pairs<'a, W>(&'a self, other: &'a Cuts<T, W>) -> Pairs<'a, T, V, W>
+    pub fn pairs<W>(&self, other: &CutsRef<'a, T, W>) -> Pairs<'a, T, V, W>
         ensures pairs { ArePairs T.cmp self.now other.now (pairs_left T.cmp result) }
         ensures pieces { AreInPieces T.cmp self.now other.now (pairs_left T.cmp result) }
     {
         Pairs {
-            values: Some((&self.first, &other.first)),
-            lefts: &self.rest,
-            rights: &other.rest,
+            values: Some((self.first, other.first)),
+            lefts: self.rest,
+            rights: other.rest,
         }
     }
 }
 
-impl<T: Ord + Clone, V> Cuts<T, V> {
+impl<'a, T: Ord + Clone, V> CutsRef<'a, T, V> {
     ghost use Rattle.std.specs.Prelude.{◌≡◌, IfOk, length};
     ghost use Rattle.std.specs.Set.{ClonesAreEqual};
-    ghost use Rattle.version_ranges.specs.Bounds.{KeepsCutsOfBoth};
+    ghost use Rattle.version_ranges.specs.Lent.{KeepsLentCuts};
     ghost use Rattle.version_ranges.specs.Cuts.{IsMerged};
     ghost use Rattle.version_ranges.specs.Pairs.{count_of_both, HasValuesOfPairs};
 
@@ -114,7 +115,7 @@ impl<T: Ord + Clone, V> Cuts<T, V> {
     pub fn pairs_with_values<W, X: Eq + Copy + Drop>(
         &self,
         alloc: Global,
-        other: &Cuts<T, W>,
+        other: &CutsRef<'a, T, W>,
         values: &[X],
     ) -> Result<Cuts<T, X>, AllocError>
         requires clones { ClonesAreEqual T.eq T.is_clone }
@@ -122,16 +123,16 @@ impl<T: Ord + Clone, V> Cuts<T, V> {
         ensures value { IfOk result
             (HasValuesOfPairs T.cmp X.eq self.now other.now values.now) }
         ensures merged { IfOk result (IsMerged X.eq) }
-        ensures bounds { IfOk result (λ r. KeepsCutsOfBoth T.is_clone self.now other.now r) }
+        ensures bounds { IfOk result (λ r. KeepsLentCuts T.is_clone self.now other.now r) }
     {
         let Some((first, mut later)) = values.split_first() else {
             unreachable!()
         };
         let mut last = *first;
-        let mut left = &self.first;
-        let mut right = &other.first;
-        let mut lefts: &[(Cut<T>, V)] = &self.rest;
-        let mut rights: &[(Cut<T>, W)] = &other.rest;
+        let mut left = self.first;
+        let mut right = other.first;
+        let mut lefts = self.rest;
+        let mut rights = other.rest;
         let mut rest = Vec::with_capacity(alloc, later.len())?;
         while let Some(turn) = next_turn(left, lefts, right, rights) {
             left = turn.left;

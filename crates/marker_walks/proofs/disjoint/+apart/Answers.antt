@@ -1,10 +1,13 @@
+use Rattle.marker_nodes.proofs.SideLaws.{signed_branches, signed_first}
 use Rattle.marker_walks.proofs.Disjoints.{walks, on_left, on_right, on_shared, on_told, on_next, on_end}
 use Rattle.marker_walks.proofs.disjoint.+apart.Goals as goal
 
 pub all_but_last-loop-left-init : goal.all_but_last-loop-left-init
 all_but_last-loop-left-init t c = record {
   apart = c.requires.apart;
-  walk = rw c.into_iter-left-iterator.ensures.into_iter_gives (walks c.args.nodes.now c.requires.rules c.args.a c.args.b c.requires.a c.requires.b c.side_by_side.result c.side_by_side.ensures.first c.side_by_side.ensures.children _ c.pairs-left-items.ensures.value c.pairs-left-items.ensures.inhabited c.requires.a_node);
+  walk = rw c.into_iter-left-iterator.ensures.into_iter_gives (walks c.args.nodes.now c.requires.rules c.args.a c.args.b c.requires.a c.requires.b c.side_by_side.result
+      (signed_first c.args.nodes.now _ c.args.a c.args.b _ _ c.negate-unsigned_a.ensures c.negate-unsigned_b.ensures c.side_by_side.ensures.first)
+      (λ v. signed_branches c.args.nodes.now _ c.args.a c.args.b _ _ c.negate-unsigned_a.ensures c.negate-unsigned_b.ensures v _ (c.side_by_side.ensures.children v)) _ c.pairs-left-items.ensures.value c.pairs-left-items.ensures.inhabited c.requires.a_node);
 }
 
 pub all_but_last-loop-left-preserved-in-Some-true : goal.all_but_last-loop-left-preserved-in-Some-true

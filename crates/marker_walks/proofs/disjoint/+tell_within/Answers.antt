@@ -1,11 +1,14 @@
 use Rattle.std.proofs.Common.{arith, ◌∙◌, subst, sym}
 use Rattle.marker_walks.specs.Disjoint.{TellsDisjoint}
+use Rattle.marker_nodes.proofs.SideLaws.{signed_branches, signed_first}
 use Rattle.marker_walks.proofs.Disjoints.{tells_no, tells_short, walks, on_smaller, on_left, on_right, on_shared, on_told, on_all}
 use Rattle.marker_walks.proofs.disjoint.+tell_within.Goals.{in-Some-short_cut, in-None-short_cut+in_ok-answer-in-None-short_cut}
 use Rattle.marker_walks.proofs.disjoint.+tell_within.Goals as goal
 
 pub loop-left-init : goal.loop-left-init
-loop-left-init t c = rw c.into_iter-left-iterator.ensures.into_iter_gives (walks c.args.nodes.now c.requires.rules c.args.a c.args.b c.requires.a c.requires.b c.side_by_side.result c.side_by_side.ensures.first c.side_by_side.ensures.children _ c.pairs-left-items.ensures.value c.pairs-left-items.ensures.inhabited c.requires.a_node)
+loop-left-init t c = rw c.into_iter-left-iterator.ensures.into_iter_gives (walks c.args.nodes.now c.requires.rules c.args.a c.args.b c.requires.a c.requires.b c.side_by_side.result
+    (signed_first c.args.nodes.now _ c.args.a c.args.b _ _ c.negate-unsigned_a.ensures c.negate-unsigned_b.ensures c.side_by_side.ensures.first)
+    (λ v. signed_branches c.args.nodes.now _ c.args.a c.args.b _ _ c.negate-unsigned_a.ensures c.negate-unsigned_b.ensures v _ (c.side_by_side.ensures.children v)) _ c.pairs-left-items.ensures.value c.pairs-left-items.ensures.inhabited c.requires.a_node)
 
 pub tell_within-requires : goal.tell_within-requires
 tell_within-requires t c =

@@ -1,30 +1,19 @@
-use Rattle.std.proofs.Common.{ap, sym, ◌∙◌, length, arith}
+use Rattle.std.proofs.Common.{ap, refl, sym, ◌∙◌, arith}
 use Rattle.std.proofs.lemmas.Bool.{and_parts, not-true, not-false}
 use Rattle.version_ranges.specs.Cut.{cut_cmp}
-use Rattle.version_ranges.specs.Sweep.{overlay}
 use Rattle.version_ranges.proofs.BoundLaws.{passes, passes_more, overlay_passes}
 use Rattle.version_ranges.proofs.Labels.{label_init, label_keep, label_pass, label_end, labelled_ascends, labelled_merged, labelled_value}
 use Rattle.version_ranges.proofs.PointLaws.{cut_total, clone_tied}
 use Rattle.version_ranges.proofs.StepLaws.{overlay_ascends}
-use Rattle.version_ranges.proofs.cuts.Cuts.pairs_with_values.Goals as goal
+use Rattle.version_ranges.proofs.lent.CutsRef.pairs_with_values.Goals as goal
 
 pub loop-turn-init : goal.loop-turn-init
 loop-turn-init g c =
-    let o = cut_total g.met.T.Ord.total in
-    let f = c.args.self.now in
-    let h = c.args.other.now in
-    let steps =
-    ap (λ l. overlay (cut_cmp g.T.Ord.cmp) f.first l h.first c.deref-rights.result.now) c.deref-lefts.ensures.value
-    ∙ ap (λ l. overlay (cut_cmp g.T.Ord.cmp) f.first f.rest.items h.first l) c.deref-rights.ensures.value in
     let len = c.in-Some.ensures.cases.1 in
     let count = c.requires.count in
-    let same = ap length steps in
     record {
-      labelled = label_init o g.met.X.Eq.laws _ _ _ _ _ (omega arith) c.in_ok-rest.ensures.items steps;
-      bounds = λ test k m n. (
-        ap (passes (λ d. test d.value)) c.in_ok-rest.ensures.items,
-        overlay_passes (λ d. test d.value) (cut_cmp g.T.Ord.cmp) _ _ _ _ (ap (passes (λ d. test d.value)) c.deref-lefts.ensures.value ∙ m) (ap (passes (λ d. test d.value)) c.deref-rights.ensures.value ∙ n),
-      );
+      labelled = label_init (cut_total g.met.T.Ord.total) g.met.X.Eq.laws _ _ _ _ _ (omega arith) c.in_ok-rest.ensures.items refl;
+      bounds = λ test k m n. (ap (passes (λ d. test d.value)) c.in_ok-rest.ensures.items, overlay_passes (λ d. test d.value) (cut_cmp g.T.Ord.cmp) _ _ _ _ m n);
     }
 
 pub loop-turn-preserved-then-ne : goal.loop-turn-preserved-then-ne
@@ -54,7 +43,7 @@ invariant_of-result g c =
     let h = c.args.other.now in
     record {
       ascending = labelled_ascends o g.met.X.Eq.laws _ _ _ _ (label_end o g.met.X.Eq.laws _ _ _ _ _ _ _ c.loop-turn.invariant.labelled c.in_default-next_turn.ensures.next)
-          (overlay_ascends o f.first f.rest.items h.first h.rest.items _ f.ascending h.ascending);
+          (overlay_ascends o f.first.now f.rest.now h.first.now h.rest.now _ f.ascending h.ascending);
     }
 
 pub returns-clause-merged : goal.returns-clause-merged
@@ -63,7 +52,7 @@ returns-clause-merged g c =
     let f = c.args.self.now in
     let h = c.args.other.now in
     labelled_merged o g.met.X.Eq.laws _ _ _ _ (label_end o g.met.X.Eq.laws _ _ _ _ _ _ _ c.loop-turn.invariant.labelled c.in_default-next_turn.ensures.next)
-    (overlay_ascends o f.first f.rest.items h.first h.rest.items _ f.ascending h.ascending)
+    (overlay_ascends o f.first.now f.rest.now h.first.now h.rest.now _ f.ascending h.ascending)
 
 pub returns-clause-value : goal.returns-clause-value
 returns-clause-value g c =
@@ -71,5 +60,5 @@ returns-clause-value g c =
     let f = c.args.self.now in
     let h = c.args.other.now in
     labelled_value g.met.T.Ord.total g.met.X.Eq.laws _ _ _ _ (label_end o g.met.X.Eq.laws _ _ _ _ _ _ _ c.loop-turn.invariant.labelled c.in_default-next_turn.ensures.next)
-    (overlay_ascends o f.first f.rest.items h.first h.rest.items _ f.ascending h.ascending) _ c.in-Some.ensures.cases.0
+    (overlay_ascends o f.first.now f.rest.now h.first.now h.rest.now _ f.ascending h.ascending) _ c.in-Some.ensures.cases.0
     (let e = c.in-Some.ensures.cases.1 in let n = c.requires.count in omega arith)
