@@ -8,7 +8,7 @@ import subprocess
 from collections.abc import Callable
 from pathlib import Path
 
-from checks import edits
+from checks import copies, edits
 from checks.edits import BadEdit, Edit
 from checks.kit import Repository
 from checks.unproved import quick_kit, workspace
@@ -16,6 +16,8 @@ from checks.unproved import quick_kit, workspace
 # What an edit names in place of a test: the lines of the program `markers`, with their replies.
 STORED_RUN = "stored run"
 PROGRAM = "markers"
+# How many edits stand in one build of tests. So many take some 2 GB.
+TOGETHER = 20
 
 
 def tester_of(edit: Edit) -> str:
@@ -24,8 +26,8 @@ def tester_of(edit: Edit) -> str:
 
 
 class Trial:
-    """The edits that the tests of one crate, or the stored run, must catch, one after another in
-    a copy of the repository."""
+    """The edits that the tests of one crate, or the stored run, must catch. That nothing fails
+    without an edit is shown by `rt ci` and `.ci/tests`."""
 
     def __init__(
         self, repository: Repository, tester: str, tried: list[Edit], room: Path, tell: Callable
@@ -33,61 +35,77 @@ class Trial:
         self.repository = repository
         self.tester = tester
         self.edits = tried
-        self.copy = room / tester
+        self.room = room
+        self.builds = 0
         self.rt = quick_kit(room / f"kit-{tester}")
         self.tell = tell
 
     def run(self) -> bool:
-        """Tries every edit. Answers whether all were caught. That nothing fails without an edit is
-        shown by `rt ci` and `.ci/tests`."""
-        workspace(self.repository, [self.tester], self.copy)
-        return all([self.is_caught(edit) for edit in self.edits])
+        """Tries every edit. Answers whether all were caught."""
+        together = 1 if self.tester == PROGRAM else TOGETHER
+        groups = [self.edits[at : at + together] for at in range(0, len(self.edits), together)]
+        return all([all(self.check(group)) for group in groups])
 
-    def is_caught(self, edit: Edit) -> bool:
-        """Makes an edit, runs what must catch it, and puts the files back."""
-        folder = self.copy / "crates" / edit.crate
+    def check(self, group: list[Edit]) -> list[bool]:
+        """Tries edits in one build, and those of which it does not tell once more alone."""
+        self.builds += 1
+        copy = self.room / f"{self.tester}-{self.builds}"
+        meet = self.replies if self.tester == PROGRAM else self.tests
         try:
-            changed = edits.texts([edit], folder)
-            test = edit.field("test")
+            told = meet(group, copy)
         except (BadEdit, OSError) as error:
-            self.tell(f"{edit.name}: {error}")
-            return False
-        for file, text in changed.items():
-            (folder / file).write_text(text, encoding="utf-8")
-        caught, said = self.replies_differ() if test == STORED_RUN else self.test_fails(test)
-        for file in changed:
-            shutil.copy(self.repository.folder(edit.crate) / file, folder / file)
-        self.tell(f"{edit.name}: {said}")
-        return caught
+            told = [(None, str(error)) for _ in group]
+        shutil.rmtree(copy, ignore_errors=True)
+        answers = []
+        for edit, (is_caught, said) in zip(group, told):
+            if is_caught is None and len(group) > 1:
+                answers += self.check([edit])
+            else:
+                self.tell(f"{edit.name}: {said}")
+                answers.append(bool(is_caught))
+        return answers
 
-    def test_fails(self, test: str) -> tuple[bool, str]:
-        """Whether the test fails, where the tests of its crate were built."""
-        said = self.tried("--test")
-        if re.search(rf"^test {re.escape(test)} \.\.\. FAILED$", said, re.M):
-            return True, f"caught by {test} of {self.tester}"
-        if re.search(rf"^test {re.escape(test)} \.\.\. ok$", said, re.M):
-            return False, f"NOT CAUGHT by {test} of {self.tester}"
-        return False, f"{test} of {self.tester} was not run: {last_lines(said)}"
+    def tests(self, group: list[Edit], copy: Path) -> list[tuple[bool | None, str]]:
+        """Whether the test of each edit fails, each over an edit of its own, and what to say of
+        it. Where a test was not run it is not known."""
+        copies.workspace_of(self.repository, self.tester, group, copy)
+        said = self.tried(copy, "--test")
+        ended = dict(re.findall(r"^test (\S+) \.\.\. (\w+)$", said, re.M))
+        told: list[tuple[bool | None, str]] = []
+        for place, edit in enumerate(group):
+            test = f"{edit.field('test')} of {self.tester}"
+            match ended.get(f"{copies.mark(place)}::{edit.field('test')}"):
+                case "FAILED":
+                    told.append((True, f"caught by {test}"))
+                case "ok":
+                    told.append((False, f"NOT CAUGHT by {test}"))
+                case _:
+                    told.append((None, f"{test} was not run: {last_lines(said)}"))
+        return told
 
-    def replies_differ(self) -> tuple[bool, str]:
-        """Whether the program, built, answers a stored line otherwise, or ends before the last."""
-        cases = self.copy / "cases"
-        cases.mkdir(exist_ok=True)
-        folder = self.repository.folder(PROGRAM)
+    def replies(self, group: list[Edit], copy: Path) -> list[tuple[bool | None, str]]:
+        """Whether the program, built with an edit, answers a stored line otherwise, or ends before
+        the last."""
+        (edit,) = group
+        workspace(self.repository, [PROGRAM], copy)
+        folder = self.repository.folder(edit.crate)
+        copies.write(edits.texts([edit], folder), copy / "crates" / edit.crate)
+        cases = copy / "cases"
+        cases.mkdir()
         for name, file in (("lines", "stdin"), ("lines.stdout", "stdout")):
-            shutil.copy(folder / file, cases / name)
-        said = self.tried("--cases", str(cases))
+            shutil.copy(self.repository.folder(PROGRAM) / file, cases / name)
+        said = self.tried(copy, "--cases", str(cases))
         if re.search(r"^case=lines run=ended .*\boutput=same\b", said, re.M):
-            return False, "NOT CAUGHT by the stored run"
+            return [(False, "NOT CAUGHT by the stored run")]
         if re.search(r"^case=lines ", said, re.M):
-            return True, "caught by the stored run"
-        return False, f"the stored run was not made: {last_lines(said)}"
+            return [(True, "caught by the stored run")]
+        return [(None, f"the stored run was not made: {last_lines(said)}")]
 
-    def tried(self, *words: str) -> str:
+    def tried(self, copy: Path, *words: str) -> str:
         """What `rt try` says, which builds without any proof."""
         ran = subprocess.run(
             [self.rt, "try", *words],
-            cwd=self.copy / "crates" / self.tester,
+            cwd=copy / "crates" / self.tester,
             stdin=subprocess.DEVNULL,
             stdout=subprocess.PIPE,
             stderr=subprocess.STDOUT,
