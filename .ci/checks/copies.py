@@ -44,24 +44,36 @@ def renamed(text: str, crates: Iterable[str], by: str) -> str:
     return re.sub(rf"\b({'|'.join(crates)})(?=::)", rf"\1_{by}", text)
 
 
-def with_one_test(text: str, test: str) -> str:
-    """A text without the other tests."""
-    return TEST.sub(lambda it: it[0] if it[2] == test else "", text)
-
-
-def as_module(texts: dict[str, str], test: str, by: str) -> dict[str, str]:
-    """The texts of a crate of tests as those of a module of another one, with one test."""
+def with_one_test(texts: dict[str, str], test: str) -> dict[str, str]:
+    """The texts of a crate of tests without its other tests."""
     module, _, function = test.rpartition("::")
     holder = f"{module.replace('::', '/') or 'lib'}.rt"
+    kept = lambda file, it: it[0] if (file, it[2]) == (holder, function) else ""
+    return {file: TEST.sub(lambda it: kept(file, it), text) for file, text in texts.items()}
+
+
+def as_module(texts: dict[str, str], by: str) -> dict[str, str]:
+    """The texts of a crate as those of a module of another one, by its files below `src`."""
     made = {}
-    for name, text in texts.items():
-        text = with_one_test(text, function if name == holder else "")
+    for file, text in texts.items():
         text = re.sub(r"\bcrate::", f"crate::{by}::", text)
-        if name == "lib.rt":
-            name = "mod.rt"
+        if file == "lib.rt":
+            file = "mod.rt"
             text = "".join(it for it in text.splitlines(True) if not it.startswith("#!["))
-        made[name] = text
+        made[f"{by}/{file}"] = text
     return made
+
+
+def write_tests(
+    modules: dict[str, dict[str, str]], uses: Iterable[str], crate: str, room: Path
+) -> None:
+    """Writes a crate of tests into a repository, of the modules that other ones become."""
+    texts = {"lib.rt": "".join(f"#[cfg(test)]\nmod {by};\n" for by in modules)}
+    for by, its in modules.items():
+        texts |= as_module(its, by)
+    write(texts, room / "crates" / crate / "src")
+    with (room / "crates.txt").open("a", encoding="utf-8") as listed:
+        listed.write(f"{crate}: {' '.join(dict.fromkeys(uses))}\n")
 
 
 def write(texts: dict[str, str], folder: Path) -> None:
@@ -71,39 +83,35 @@ def write(texts: dict[str, str], folder: Path) -> None:
         file.write_text(text, encoding="utf-8")
 
 
-def place_copies(repository: Repository, edit: Edit, by: str, tester: str, room: Path) -> list[str]:
-    """Writes the copies for an edit, and answers the lines of `crates.txt` for those of libraries
-    and, last, for the tester."""
-    copied = between(repository, edit.crate, tester)
-    if not copied:
-        raise BadEdit(f"{edit.name}: {tester} does not use {edit.crate}")
+def place_copies(
+    repository: Repository, edit: Edit, by: str, copied: list[str], room: Path
+) -> None:
+    """Writes the copies of libraries for an edit, into a repository."""
     changed = edits.texts([edit], repository.folder(edit.crate))
-    lines = []
-    for name in copied:
-        texts = sources(repository, name)
-        if name == edit.crate:
-            texts |= {file.removeprefix("src/"): text for file, text in changed.items()}
-        texts = {file: renamed(text, copied, by) for file, text in texts.items()}
-        used = [f"{it}_{by}" if it in copied else it for it in repository.uses[name]]
-        if name == tester:
-            write(as_module(texts, edit.field("test"), by), room / "crates" / tester / "src" / by)
-            lines.append(f"{tester}: {' '.join(used)}")
-        else:
+    with (room / "crates.txt").open("a", encoding="utf-8") as listed:
+        for name in copied:
+            texts = sources(repository, name)
+            if name == edit.crate:
+                texts |= {file.removeprefix("src/"): text for file, text in changed.items()}
+            texts = {file: renamed(text, copied, by) for file, text in texts.items()}
             write(texts, room / "crates" / f"{name}_{by}" / "src")
-            lines.append(f"{name}_{by}: {' '.join(used)}")
-    return lines
+            used = [f"{it}_{by}" if it in copied else it for it in repository.uses[name]]
+            listed.write(f"{name}_{by}: {' '.join(used)}\n")
 
 
 def workspace_of(repository: Repository, tester: str, tried: list[Edit], room: Path) -> None:
     """Makes a repository in which the tester has a module for each edit, with the test that must
     catch it."""
     workspace(repository, repository.below(tester), room)
+    modules: dict[str, dict[str, str]] = {}
     used: list[str] = []
-    with (room / "crates.txt").open("a", encoding="utf-8") as listed:
-        for place, edit in enumerate(tried):
-            *lines, last = place_copies(repository, edit, mark(place), tester, room)
-            listed.writelines(f"{line}\n" for line in lines)
-            used += last.partition(":")[2].split()
-        listed.write(f"{tester}: {' '.join(dict.fromkeys(used))}\n")
-    modules = [f"#[cfg(test)]\nmod {mark(place)};\n" for place in range(len(tried))]
-    write({"lib.rt": "".join(modules)}, room / "crates" / tester / "src")
+    for place, edit in enumerate(tried):
+        by = mark(place)
+        *copied, _ = between(repository, edit.crate, tester) or [tester]
+        if not copied:
+            raise BadEdit(f"{edit.name}: {tester} does not use {edit.crate}")
+        place_copies(repository, edit, by, copied, room)
+        tests = with_one_test(sources(repository, tester), edit.field("test"))
+        modules[by] = {file: renamed(text, copied, by) for file, text in tests.items()}
+        used += [f"{it}_{by}" if it in copied else it for it in repository.uses[tester]]
+    write_tests(modules, used, tester, room)
