@@ -1,5 +1,5 @@
 -- The values of two functions side by side, one pair after another.
-use Rattle.std.specs.Prelude.{◌≡◌, ℕ, ◌+◌, ◌<◌, ◌≤◌, Bool, true, Option, Some, None, List, [], ◌∷◌, length, map, slice_get}
+use Rattle.std.specs.Prelude.{◌≡◌, ℕ, ◌+◌, ◌<◌, ◌≤◌, Bool, true, Some, List, [], ◌∷◌, length, map, slice_get, if◌then◌else◌}
 use Rattle.std.specs.Borrow.{Bor}
 use Rattle.std.specs.declared.cmp.Ordering.{Ordering}
 use Rattle.std.specs.declared.cmp.Ordering.TheVariants.{Less}
@@ -12,21 +12,17 @@ use Rattle.version_ranges.specs.Cut.{cut_cmp, stands_before}
 use Rattle.version_ranges.specs.Cuts as cuts
 use Rattle.version_ranges.specs.Lent.{value_of, piece_count}
 use Rattle.version_ranges.specs.Steps.{piece_at}
-use Rattle.version_ranges.specs.Sweep.{overlay}
+use Rattle.version_ranges.specs.Sweep.{overlay, steps_left}
 
 -- what an item lends
 abbrev pub pair_of : {V W : Type 0} → Bor V × Bor W → V × W
 pair_of q = (q.0.now, q.1.now)
 
 module _ {T V W : Type 0} (cmp : T → T → Ordering) where
-  abbrev pub pairs_if : Option (Bor V × Bor W) → List (Cut T × V) → List (Cut T × W) → List (V × W)
-  pairs_if None lefts rights = []
-  pairs_if (Some q) lefts rights =
-      pair_of q ∷ map (λ s. s.1) (overlay (cut_cmp cmp) q.0.now lefts q.1.now rights)
-
   -- what an iterator has left
   abbrev pub pairs_left : Pairs T V W → List (V × W)
-  pairs_left it = pairs_if it.values it.lefts.now it.rights.now
+  pairs_left it = if it.is_done then []
+      else (it.sweep.left.now, it.sweep.right.now) ∷ map (λ s. s.1) (steps_left cmp it.sweep)
 
   module _ {a : _} {b : _} {c : _} {a' : _} {b' : _} {c' : _} where
     -- the cuts of two functions side by side, each with both values from it on

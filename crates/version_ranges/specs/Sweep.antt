@@ -1,7 +1,10 @@
 -- What the sweeps over cuts give, step by step: for the contracts of private functions.
-use Rattle.std.specs.Prelude.{Bool, List, [], ◌∷◌, map, if◌then◌else◌}
+use Rattle.std.specs.Prelude.{◌≡◌, ℕ, ◌+◌, Bool, List, [], ◌∷◌, length, map, if◌then◌else◌}
 use Rattle.std.specs.Ordering.{match_ordering}
 use Rattle.std.specs.declared.cmp.Ordering.{Ordering}
+use Rattle.version_ranges.specs.declared.cut.Cut.{Cut}
+use Rattle.version_ranges.specs.declared.sweep.Sweep.{Sweep}
+use Rattle.version_ranges.specs.Cut.{cut_cmp}
 
 module _ {C V W : Type 0} (cmp : C → C → Ordering) where
   -- x and the steps after it, which `more` overlays, with the steps ys
@@ -18,6 +21,20 @@ module _ {C V W : Type 0} (cmp : C → C → Ordering) where
   abbrev pub overlay : V → List (C × V) → W → List (C × W) → List (C × (V × W))
   overlay v [] w ys = map (λ y. (y.0, (v, y.1))) ys
   overlay v (x ∷ xs) w ys = overlay_step v x (overlay x.1 xs) w ys
+
+module _ {T V W : Type 0} where
+  -- how many cuts of both functions a sweep has left
+  abbrev pub cuts_left : Sweep T V W → ℕ
+  cuts_left s = length s.lefts.now + length s.rights.now
+
+  -- what a sweep has left of both functions side by side
+  abbrev pub steps_left : (T → T → Ordering) → Sweep T V W → List (Cut T × (V × W))
+  steps_left cmp s = overlay (cut_cmp cmp) s.left.now s.lefts.now s.right.now s.rights.now
+
+  -- a sweep passes its next cut, and has the values from it on
+  abbrev pub Passes : (T → T → Ordering) → Cut T → Sweep T V W → Sweep T V W → Type 0
+  Passes cmp cut old new =
+      steps_left cmp old ≡ (cut, (new.left.now, new.right.now)) ∷ steps_left cmp new
 
 -- the steps, without those that change nothing
 abbrev pub merge_steps : {C V : Type 0} → (V → V → Bool) → V → List (C × V) → List (C × V)

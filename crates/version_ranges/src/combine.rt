@@ -2,10 +2,9 @@
 ghost use Rattle.std.specs.Prelude.{◌≡◌};
 ghost use Rattle.version_ranges.specs.Taken.{takes};
 
-use crate::cut::Cut;
 use crate::cuts::Cuts;
-use crate::overlay::next_turn;
 use crate::ranges::Ranges;
+use crate::sweep::Sweep;
 use std::alloc::{AllocError, Global};
 
 /// Which points of two sets are taken: those in one set at least, in both sets, or in one set
@@ -49,22 +48,20 @@ impl<T: Ord + Clone> Ranges<T> {
             (contains_point T.cmp self.now p, contains_point T.cmp other.now p))) }
         ensures bounds { IfOk result (λ r. KeepsBoundsOfBoth T.is_clone self.now other.now r) }
     {
-        let mut left = &self.cuts.first;
-        let mut right = &other.cuts.first;
-        let mut lefts: &[(Cut<T>, bool)] = &self.cuts.rest;
-        let mut rights: &[(Cut<T>, bool)] = &other.cuts.rest;
-        let most = lefts.len().checked_add(rights.len()).ok_or(AllocError)?;
-        let mut rest = Vec::with_capacity(alloc, most)?;
-        let first = taken.takes(*left, *right);
+        let mut sweep = Sweep {
+            left: &self.cuts.first,
+            right: &other.cuts.first,
+            lefts: &self.cuts.rest,
+            rights: &other.cuts.rest,
+        };
+        let most = sweep.lefts.len().checked_add(sweep.rights.len());
+        let mut rest = Vec::with_capacity(alloc, most.ok_or(AllocError)?)?;
+        let first = taken.takes(*sweep.left, *sweep.right);
         let mut inside = first;
-        while let Some(turn) = next_turn(left, lefts, right, rights) {
-            left = turn.left;
-            right = turn.right;
-            lefts = turn.lefts;
-            rights = turn.rights;
-            let next = taken.takes(*left, *right);
+        while let Some((cut, _)) = sweep.next() {
+            let next = taken.takes(*sweep.left, *sweep.right);
             if next != inside {
-                rest.push((turn.cut.clone()?, next))?;
+                rest.push((cut.clone()?, next))?;
                 inside = next;
             }
         }

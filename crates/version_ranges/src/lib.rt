@@ -20,6 +20,7 @@ mod overlay;
 mod pairs;
 mod pieces;
 mod ranges;
+mod sweep;
 
 pub use clamp::has_point;
 pub use cuts::Cuts;

@@ -1,86 +1,7 @@
 //! Two functions side by side.
-ghost use Rattle.std.specs.Prelude.{◌≡◌, ◌+◌, ◌<◌, ◌≤◌, [], ◌∷◌, length, MatchOption, IfSome};
-ghost use Rattle.version_ranges.specs.Cut.{cut_cmp};
-ghost use Rattle.version_ranges.specs.Sweep as sweep;
-
-use crate::cut::Cut;
 use crate::cuts::Cuts;
+use crate::sweep::Sweep;
 use std::alloc::{AllocError, Global};
-use std::cmp::Ordering;
-
-// The next cut of two functions side by side, the values from it on, what is left of both, and how
-// many cuts were compared to tell.
-#[derive(Drop)]
-pub(crate) struct Turn<'a, T, V, W> {
-    pub(crate) cut: &'a Cut<T>,
-    pub(crate) left: &'a V,
-    pub(crate) right: &'a W,
-    pub(crate) lefts: &'a [(Cut<T>, V)],
-    pub(crate) rights: &'a [(Cut<T>, W)],
-    comparisons: usize,
-}
-
-pub(crate) fn next_turn<'a, T: Ord, V, W>(
-    left: &'a V,
-    lefts: &'a [(Cut<T>, V)],
-    right: &'a W,
-    rights: &'a [(Cut<T>, W)],
-) -> Option<Turn<'a, T, V, W>>
-    ensures next { MatchOption result
-        (sweep.overlay (cut_cmp T.cmp) left.now lefts.now right.now rights.now ≡ [])
-        (λ t. sweep.overlay (cut_cmp T.cmp) left.now lefts.now right.now rights.now
-        ≡ (t.cut.now, (t.left.now, t.right.now))
-        ∷ sweep.overlay (cut_cmp T.cmp) t.left.now t.lefts.now t.right.now t.rights.now) }
-    ensures fewer { IfSome result (λ t.
-        length t.lefts.now + length t.rights.now < length lefts.now + length rights.now) }
-    ensures comparisons { IfSome result (λ t. t.comparisons ≤ 1) }
-{
-    match (lefts.split_first(), rights.split_first()) {
-        (None, None) => None,
-        (Some((x, lefts)), None) => Some(Turn {
-            cut: &x.0,
-            left: &x.1,
-            right,
-            lefts,
-            rights,
-            comparisons: 0,
-        }),
-        (None, Some((y, rights))) => Some(Turn {
-            cut: &y.0,
-            left,
-            right: &y.1,
-            lefts,
-            rights,
-            comparisons: 0,
-        }),
-        (Some((x, later_lefts)), Some((y, later_rights))) => match x.0.cmp(&y.0) {
-            Ordering::Less => Some(Turn {
-                cut: &x.0,
-                left: &x.1,
-                right,
-                lefts: later_lefts,
-                rights,
-                comparisons: 1,
-            }),
-            Ordering::Equal => Some(Turn {
-                cut: &x.0,
-                left: &x.1,
-                right: &y.1,
-                lefts: later_lefts,
-                rights: later_rights,
-                comparisons: 1,
-            }),
-            Ordering::Greater => Some(Turn {
-                cut: &y.0,
-                left,
-                right: &y.1,
-                lefts,
-                rights: later_rights,
-                comparisons: 1,
-            }),
-        },
-    }
-}
 
 impl<T: Ord + Clone, V: Eq + Clone> Cuts<T, V> {
     ghost use Rattle.version_ranges.specs.Point.{Point};
@@ -118,18 +39,15 @@ impl<T: Ord + Clone, V: Eq + Clone> Cuts<T, V> {
         let mut rest = Vec::with_capacity(alloc, most)?;
         let first = (self.first.clone()?, other.first.clone()?);
         let mut comparisons = 0;
-        let mut left = &self.first;
-        let mut right = &other.first;
-        let mut lefts: &[(Cut<T>, V)] = &self.rest;
-        let mut rights: &[(Cut<T>, W)] = &other.rest;
-        while let Some(turn) = next_turn(left, lefts, right, rights) {
-            let cut = turn.cut.clone()?;
-            left = turn.left;
-            right = turn.right;
-            lefts = turn.lefts;
-            rights = turn.rights;
-            comparisons += turn.comparisons;
-            rest.push((cut, (left.clone()?, right.clone()?)))?;
+        let mut sweep = Sweep {
+            left: &self.first,
+            right: &other.first,
+            lefts: &self.rest,
+            rights: &other.rest,
+        };
+        while let Some((cut, compared)) = sweep.next() {
+            rest.push((cut.clone()?, (sweep.left.clone()?, sweep.right.clone()?)))?;
+            comparisons += compared;
         }
         Ok((Cuts { first, rest }, comparisons))
     }

@@ -1,24 +1,16 @@
 //! The values of two functions side by side, one pair after another.
-ghost use Rattle.std.specs.Prelude.{◌≡◌, map};
-ghost use Rattle.version_ranges.specs.Cut.{cut_cmp};
-ghost use Rattle.version_ranges.specs.Sweep.{overlay};
-ghost use Rattle.version_ranges.specs.Pairs.{pairs_left};
-
-use crate::cut::Cut;
 use crate::cuts::Cuts;
 use crate::lent::CutsRef;
-use crate::overlay::next_turn;
+use crate::sweep::Sweep;
 use std::alloc::{AllocError, Global};
-use std::cmp::Ordering;
 
 /// The values of two functions side by side, in ascending order of points: one pair from each cut
 /// of either function on.
 #[derive(Drop)]
 pub struct Pairs<'a, T, V, W> {
-    // The values before the cuts that are left; where the last pair was given, none.
-    values: Option<(&'a V, &'a W)>,
-    lefts: &'a [(Cut<T>, V)],
-    rights: &'a [(Cut<T>, W)],
+    sweep: Sweep<'a, T, V, W>,
+    // Whether the last pair was given.
+    is_done: bool,
 }
 
 impl<'a, T: Ord, V, W> Iterator for Pairs<'a, T, V, W> {
@@ -32,55 +24,12 @@ impl<'a, T: Ord, V, W> Iterator for Pairs<'a, T, V, W> {
     ghost remaining = { item_count (pairs_left T.cmp) };
 
     fn next(&mut self) -> Option<(&'a V, &'a W)> {
-        let (left, right) = self.values?;
-        *self = after(left, self.lefts, right, self.rights);
-        Some((left, right))
-    }
-}
-
-// The pairs from the next cut of either function on, which takes one comparison.
-fn after<'a, T: Ord, V, W>(
-    left: &'a V,
-    lefts: &'a [(Cut<T>, V)],
-    right: &'a W,
-    rights: &'a [(Cut<T>, W)],
-) -> Pairs<'a, T, V, W>
-    ensures { pairs_left T.cmp result
-        ≡ map (λ s. s.1) (overlay (cut_cmp T.cmp) left.now lefts.now right.now rights.now) }
-{
-    match (lefts.split_first(), rights.split_first()) {
-        (None, None) => Pairs {
-            values: None,
-            lefts,
-            rights,
-        },
-        (Some((x, lefts)), None) => Pairs {
-            values: Some((&x.1, right)),
-            lefts,
-            rights,
-        },
-        (None, Some((y, rights))) => Pairs {
-            values: Some((left, &y.1)),
-            lefts,
-            rights,
-        },
-        (Some((x, later_lefts)), Some((y, later_rights))) => match x.0.cmp(&y.0) {
-            Ordering::Less => Pairs {
-                values: Some((&x.1, right)),
-                lefts: later_lefts,
-                rights,
-            },
-            Ordering::Equal => Pairs {
-                values: Some((&x.1, &y.1)),
-                lefts: later_lefts,
-                rights: later_rights,
-            },
-            Ordering::Greater => Pairs {
-                values: Some((left, &y.1)),
-                lefts,
-                rights: later_rights,
-            },
-        },
+        if self.is_done {
+            return None;
+        }
+        let pair = (self.sweep.left, self.sweep.right);
+        self.is_done = self.sweep.next().is_none();
+        Some(pair)
     }
 }
 
@@ -95,9 +44,13 @@ impl<'a, T: Ord, V> CutsRef<'a, T, V> {
         ensures pieces { AreInPieces T.cmp self.now other.now (pairs_left T.cmp result) }
     {
         Pairs {
-            values: Some((self.first, other.first)),
-            lefts: self.rest,
-            rights: other.rest,
+            sweep: Sweep {
+                left: self.first,
+                right: other.first,
+                lefts: self.rest,
+                rights: other.rest,
+            },
+            is_done: false,
         }
     }
 }
@@ -129,22 +82,20 @@ impl<'a, T: Ord + Clone, V> CutsRef<'a, T, V> {
             unreachable!()
         };
         let mut last = *first;
-        let mut left = self.first;
-        let mut right = other.first;
-        let mut lefts = self.rest;
-        let mut rights = other.rest;
         let mut rest = Vec::with_capacity(alloc, later.len())?;
-        while let Some(turn) = next_turn(left, lefts, right, rights) {
-            left = turn.left;
-            right = turn.right;
-            lefts = turn.lefts;
-            rights = turn.rights;
+        let mut sweep = Sweep {
+            left: self.first,
+            right: other.first,
+            lefts: self.rest,
+            rights: other.rest,
+        };
+        while let Some((cut, _)) = sweep.next() {
             let Some((value, others)) = later.split_first() else {
                 unreachable!()
             };
             later = others;
             if *value != last {
-                rest.push((turn.cut.clone()?, *value))?;
+                rest.push((cut.clone()?, *value))?;
                 last = *value;
             }
         }

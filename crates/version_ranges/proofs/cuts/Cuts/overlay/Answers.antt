@@ -6,54 +6,54 @@ use Rattle.version_ranges.proofs.PointLaws.{cut_total, clone_tied}
 use Rattle.version_ranges.proofs.Sides.{sides_init, sides_step, sides_end, sides_ascend, point_left, point_right}
 use Rattle.version_ranges.proofs.cuts.Cuts.overlay.Goals as goal
 
-pub loop-turn-init : goal.loop-turn-init
-loop-turn-init g c = record {
-  alike = sides_init g.met.V.Eq.laws g.met.W.Eq.laws (cut_total g.met.T.Ord.total) _ _ _ _ _ _ _ c.in_ok-rest.ensures.items c.deref-lefts.ensures.value c.deref-rights.ensures.value;
-  pieces = omega (arith, c.in_ok-rest.ensures.len, c.deref-lefts.ensures.len, c.deref-rights.ensures.len);
-  comparisons = omega (arith, c.deref-lefts.ensures.len, c.deref-rights.ensures.len);
+pub loop-cut-init : goal.loop-cut-init
+loop-cut-init g c = record {
+  alike = sides_init g.met.V.Eq.laws g.met.W.Eq.laws (cut_total g.met.T.Ord.total) _ _ _ _ _ _ _ c.in_ok-rest.ensures.items c.deref.ensures.value c.deref-2.ensures.value;
+  pieces = omega (arith, c.in_ok-rest.ensures.len, c.deref.ensures.len, c.deref-2.ensures.len);
+  comparisons = omega (arith, c.deref.ensures.len, c.deref-2.ensures.len);
   bounds = λ test k h m. (
     ap (passes (λ d. test d.value)) c.in_ok-rest.ensures.items,
-    overlay_passes (λ d. test d.value) (cut_cmp g.T.Ord.cmp) _ _ _ _ (ap (passes (λ d. test d.value)) c.deref-lefts.ensures.value ∙ h) (ap (passes (λ d. test d.value)) c.deref-rights.ensures.value ∙ m),
+    overlay_passes (λ d. test d.value) (cut_cmp g.T.Ord.cmp) _ _ _ _ (ap (passes (λ d. test d.value)) c.deref.ensures.value ∙ h) (ap (passes (λ d. test d.value)) c.deref-2.ensures.value ∙ m),
   );
 }
 
-pub loop-turn-preserved : goal.loop-turn-preserved
-loop-turn-preserved g c =
+pub loop-cut-preserved : goal.loop-cut-preserved
+loop-cut-preserved g c =
     let left = g.met.V.Eq.laws in
     let right = g.met.W.Eq.laws in
     record {
-      alike = sides_step left right (cut_total g.met.T.Ord.total) _ _ _ _ _ _ _ _ _ c.loop-turn.invariant.alike c.in-Some.ensures.next c.in_ok-push.ensures.items
-          (clone_tied g.met.T.Ord.total g.T.PartialEq.eq g.met.T.Ord.matches_eq c.in-Some.turn.cut.now c.in_ok-cut.cut (c.requires.clones _ _ c.in_ok-cut.ensures.cases.0) c.in_ok-cut.ensures.cases.1)
-          (left.symm _ _ ∙ c.requires.left_clones _ _ c.in_ok-clone-3.ensures.cases) (right.symm _ _ ∙ c.requires.right_clones _ _ c.in_ok-clone-4.ensures.cases);
+      alike = sides_step left right (cut_total g.met.T.Ord.total) _ _ _ _ _ _ _ _ _ c.loop-cut.invariant.alike c.in-Some.ensures.next c.in_ok-push.ensures.items
+          (clone_tied g.met.T.Ord.total g.T.PartialEq.eq g.met.T.Ord.matches_eq c.in-Some.cut.now c.in_ok-clone-3.field-0 (c.requires.clones _ _ c.in_ok-clone-3.ensures.cases.0) c.in_ok-clone-3.ensures.cases.1)
+          (left.symm _ _ ∙ c.requires.left_clones _ _ c.in_ok-clone-4.ensures.cases) (right.symm _ _ ∙ c.requires.right_clones _ _ c.in_ok-clone-5.ensures.cases);
       pieces = omega (arith, c.in-Some.ensures.fewer, c.in_ok-push.ensures.len);
       comparisons = omega (arith, c.in-Some.ensures.fewer, c.in-Some.ensures.comparisons);
       bounds = λ test k h m.
-          let old = c.loop-turn.invariant.bounds test k h m in
+          let old = c.loop-cut.invariant.bounds test k h m in
           let next = and_parts _ _ (ap (passes (λ d. test d.value)) (sym c.in-Some.ensures.next) ∙ old.1) in
-          (passes_more (λ d. test d.value) _ _ _ c.in_ok-push.ensures.items old.0 (k _ _ c.in_ok-cut.ensures.cases.0 next.0), next.1);
+          (passes_more (λ d. test d.value) _ _ _ c.in_ok-push.ensures.items old.0 (k _ _ c.in_ok-clone-3.ensures.cases.0 next.0), next.1);
     }
 
 pub invariant_of-result : goal.invariant_of-result
 invariant_of-result g c =
     let o = cut_total g.met.T.Ord.total in
-    let end = sides_end g.met.V.Eq.laws g.met.W.Eq.laws o _ _ _ c.loop-turn.invariant.alike c.in_default.ensures.next in
+    let end = sides_end g.met.V.Eq.laws g.met.W.Eq.laws o _ _ _ c.loop-cut.invariant.alike c.in_default.ensures.next in
     record { ascending = sides_ascend g.met.V.Eq.laws g.met.W.Eq.laws o _ _ _ _ _ end c.args.self.now.ascending c.args.other.now.ascending }
 
 pub returns-clause-left : goal.returns-clause-left
 returns-clause-left g c =
     let f = c.args.self.now in
     let h = c.args.other.now in
-    let end = sides_end g.met.V.Eq.laws g.met.W.Eq.laws (cut_total g.met.T.Ord.total) _ _ _ c.loop-turn.invariant.alike c.in_default.ensures.next in
-    point_left g.met.T.Ord.total g.met.V.Eq.laws g.met.W.Eq.laws f.first h.first (c.in_ok-clone.field-0, c.in_ok-clone-2.field-0) f.rest.items h.rest.items c.loop-turn.rest.items
+    let end = sides_end g.met.V.Eq.laws g.met.W.Eq.laws (cut_total g.met.T.Ord.total) _ _ _ c.loop-cut.invariant.alike c.in_default.ensures.next in
+    point_left g.met.T.Ord.total g.met.V.Eq.laws g.met.W.Eq.laws f.first h.first (c.in_ok-clone.field-0, c.in_ok-clone-2.field-0) f.rest.items h.rest.items c.loop-cut.rest.items
     (c.requires.left_clones _ _ c.in_ok-clone.ensures.cases) (c.requires.right_clones _ _ c.in_ok-clone-2.ensures.cases) end
 
 pub returns-clause-right : goal.returns-clause-right
 returns-clause-right g c =
     let f = c.args.self.now in
     let h = c.args.other.now in
-    let end = sides_end g.met.V.Eq.laws g.met.W.Eq.laws (cut_total g.met.T.Ord.total) _ _ _ c.loop-turn.invariant.alike c.in_default.ensures.next in
-    point_right g.met.T.Ord.total g.met.V.Eq.laws g.met.W.Eq.laws f.first h.first (c.in_ok-clone.field-0, c.in_ok-clone-2.field-0) f.rest.items h.rest.items c.loop-turn.rest.items
+    let end = sides_end g.met.V.Eq.laws g.met.W.Eq.laws (cut_total g.met.T.Ord.total) _ _ _ c.loop-cut.invariant.alike c.in_default.ensures.next in
+    point_right g.met.T.Ord.total g.met.V.Eq.laws g.met.W.Eq.laws f.first h.first (c.in_ok-clone.field-0, c.in_ok-clone-2.field-0) f.rest.items h.rest.items c.loop-cut.rest.items
     (c.requires.left_clones _ _ c.in_ok-clone.ensures.cases) (c.requires.right_clones _ _ c.in_ok-clone-2.ensures.cases) end
 
 pub returns-clause-bounds : goal.returns-clause-bounds
-returns-clause-bounds g c = λ test k h m. (c.loop-turn.invariant.bounds test k h m).0
+returns-clause-bounds g c = λ test k h m. (c.loop-cut.invariant.bounds test k h m).0
