@@ -1,5 +1,5 @@
 -- What the loop of `gather` keeps, and what it leaves.
-use Rattle.std.proofs.Common.{◌≡◌, ℕ, zero, suc, ◌+◌, ◌<◌, ◌≤◌, Bool, true, false, not, cond, List, [], ◌∷◌, ◌++◌, map, take, length, get_or, Some, None, refl, sym, ap, ◌∙◌, subst, slice_get, eqb}
+use Rattle.std.proofs.Common.{◌≡◌, ℕ, ◌+◌, ◌<◌, ◌≤◌, Bool, true, false, not, cond, List, [], ◌∷◌, ◌++◌, map, take, length, get_or, Some, None, refl, sym, ap, ◌∙◌, subst, slice_get, eqb}
 use mathlib.Core.Bool.{beq}
 use Rattle.std.specs.List.{list_any}
 use Rattle.std.specs.Borrow.{Bor}
@@ -16,14 +16,12 @@ use Rattle.version_ranges.specs.Point.{Point}
 use Rattle.version_ranges.specs.Cut.{cut_cmp, stands_before, lower_of}
 use Rattle.version_ranges.specs.Steps.{ascends, last_value, value_at}
 use Rattle.version_ranges.specs.Parts.{parts_from}
-use Rattle.version_ranges.specs.Gather.{first_seen, IsGathered, IsPast, IsTurned}
-use Rattle.version_ranges.proofs.StepLaws.{Alike}
-use Rattle.version_ranges.proofs.PieceLaws.{same_some, none_some}
+use Rattle.version_ranges.specs.Gather.{first_seen, IsGathered, IsPast, IsPlace, IsTurned}
 use Rattle.version_ranges.proofs.PointLaws.{cut_total, place, value_at_place}
 use Rattle.version_ranges.proofs.Seen.{found_seen, found_place, seen_apart, AreApart}
 use Rattle.version_ranges.proofs.Gathers.{sees_value}
 use Rattle.version_ranges.proofs.Merges.{last_value_append}
-use Rattle.version_ranges.proofs.Places.{Gathers, IsPlace, any_key, placed, all_past, turned, turned_place, keys_kept, places_apart}
+use Rattle.version_ranges.proofs.Places.{Gathers, any_key, placed, all_past, turned, turned_place, keys_kept, places_apart}
 use Rattle.version_ranges.proofs.Turns.{prefix_more, taken_ascends, stays, value_found}
 
 -- the values of the pieces
@@ -42,19 +40,6 @@ module _ {T V : Type 0} {a : _} {b : _} {c : _} (cmp : T → T → Ordering) (sa
       (keys ≡ map (λ q. q.0) pairs) × IsHeld (v ∷ map (λ y. y.1) (take i steps)) v (take i steps) pairs × IsPlace same (λ q. q.0.now) pairs current (last_value v (take i steps))
 
   module _ (o : IsTotalOrder cmp) (s : IsEquivalence same) where
-    only_set : (v : Bor V) (full : Ranges T a b c) → full.cuts.first ≡ true → full.cuts.rest.items ≡ [] → (i : ℕ) (q : Bor V × Ranges T a b c) → slice_get ((v, full) ∷ []) i ≡ Some q →
-        (q.1.cuts.first ≡ same q.0.now v.now) × Alike (cut_cmp cmp) (λ x y. x ≡ y) q.1.cuts.rest.items []
-    only_set v full first_is rest_is zero q k =
-        subst (λ r. (r.1.cuts.first ≡ same r.0.now v.now) × Alike (cut_cmp cmp) (λ x y. x ≡ y) r.1.cuts.rest.items []) (same_some _ q k)
-        (first_is ∙ sym (s.refl v.now), subst (λ l. Alike (cut_cmp cmp) (λ x y. x ≡ y) l []) (sym rest_is) tt)
-    only_set v full first_is rest_is (suc i) q k = none_some q k
-
-    pub kept_init : (v : Bor V) (full : Ranges T a b c) (steps : List (Cut T × V)) (keys : List (Bor V)) (none pairs : List (Bor V × Ranges T a b c)) (current : ℕ) → full.cuts.first ≡ true → full.cuts.rest.items ≡ [] → none ≡ [] →
-        pairs ≡ cond (list_any (λ q. same v.now q.0.now) none) none (none ++ (v, full) ∷ []) → keys ≡ map (λ q. q.0) pairs → IsPlace same (λ q. q.0.now) pairs current v.now → Kept v.now steps 0 keys pairs current
-    kept_init v full steps keys none pairs current first_is rest_is e f h place_is =
-        let only : pairs ≡ (v, full) ∷ [] = f ∙ ap (λ l. cond (list_any (λ q. same v.now q.0.now) l) l (l ++ (v, full) ∷ [])) e in
-        (h, record { values = ap (map (λ q. q.0.now)) only; sets = λ i q k. only_set v full first_is rest_is i q (ap (λ l. slice_get l i) (sym only) ∙ k) }, place_is)
-
     module _ (v : V) (steps items : List (Cut T × V)) (items_are : items ≡ steps) (rises : ascends (cut_cmp cmp) None steps ≡ true) (i : ℕ) (x : Cut T × V) (within : i < length items) (read : x ≡ get_or items i x) (none : Ranges T a b c) (first_is : none.cuts.first ≡ false) (rest_is : none.cuts.rest.items ≡ []) where
       prefix : take (i + 1) items ≡ take i items ++ x ∷ []
       prefix = prefix_more items i x within read

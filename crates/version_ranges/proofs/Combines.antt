@@ -44,14 +44,6 @@ module _ {C : Type 0} {cmp : C → C → Ordering} (o : IsTotalOrder cmp) (g : B
       subst (λ b. Alike cmp SameFlag (out ++ cond b (merge_steps beq last (combined_steps rest)) ((d, g x) ∷ merge_steps beq (g x) (combined_steps rest))) (merge_steps beq first (combined_steps all))) kept start in
       rw k (rw f (alike_moved o SameFlag trans out c d (g x) (g x) (merge_steps beq (g x) (combined_steps rest)) (merge_steps beq first (combined_steps all)) m (flags_equal.refl (g x)) cut))
 
-  -- where it does not, the cut is passed over
-  pub combine_pass : (first last : Bool) (out : List (C × Bool)) (d : C) (x : Bool × Bool) (v : Bool) (more rest all : List (C × (Bool × Bool))) →
-      Combined first last out more all → more ≡ (d, x) ∷ rest → v ≡ g x → beq v last ≡ true → Combined first last out rest all
-  combine_pass first last out d x v more rest all a e f h =
-      let start : Combined first last out ((d, x) ∷ rest) all = rw e at a in
-      let same : beq last (g x) ≡ true = flags_equal.symm last (g x) ∙ (rw f at h) in
-      subst (λ b. Alike cmp SameFlag (out ++ cond b (merge_steps beq last (combined_steps rest)) ((d, g x) ∷ merge_steps beq (g x) (combined_steps rest))) (merge_steps beq first (combined_steps all))) same start
-
   pub combine_end : (first last : Bool) (out : List (C × Bool)) (more all : List (C × (Bool × Bool))) → Combined first last out more all → more ≡ [] →
       Alike cmp SameFlag out (merge_steps beq first (combined_steps all))
   combine_end first last out more all a e = rw (← append-nil out) (rw e at a)

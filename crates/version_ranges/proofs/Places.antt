@@ -13,7 +13,7 @@ use Rattle.std.proofs.Math.Nat.{suc-ne-zero}
 use Rattle.std.proofs.lemmas.Cmp.{tied_itself}
 use Rattle.std.proofs.lemmas.List.{map-append}
 use Rattle.version_ranges.specs.Steps.{ascends, last_value}
-use Rattle.version_ranges.specs.Gather.{first_seen}
+use Rattle.version_ranges.specs.Gather.{first_seen, IsPlace}
 use Rattle.version_ranges.proofs.StepLaws.{Alike, alike_ascends}
 use Rattle.version_ranges.proofs.PieceLaws.{same_some, none_some}
 use Rattle.version_ranges.proofs.Seen.{found_seen, seen_more, seen_apart, AllDiffer, AreApart}
@@ -69,10 +69,6 @@ module _ {C V Q : Type 0} (cmp : C → C → Ordering) (same : V → V → Bool)
   pub record Gathers (seen : List V) (v : V) (xs : List (C × V)) (pairs : List Q) : Type 0 where
     pub values : map key pairs ≡ first_seen same seen
     pub sets : (i : ℕ) (q : Q) → slice_get pairs i ≡ Some q → (first q ≡ same (key q) v) × Alike cmp (λ a b. a ≡ b) (rest q) (sees same (key q) v xs)
-
--- the place of a value
-abbrev pub IsPlace : {V Q : Type 0} → (V → V → Bool) → (Q → V) → List Q → ℕ → V → Type 0
-IsPlace {Q = Q} same key pairs i v = (q : Q) × (slice_get pairs i ≡ Some q) × (same v (key q) ≡ true)
 
 module _ {C : Type 0} {cmp : C → C → Ordering} (o : IsTotalOrder cmp) where
   turned_flags : (a b last : Bool) (us ws : List (C × Bool)) (c d : C) → last ≡ a → Alike cmp (λ a b. a ≡ b) us ws → cmp d c ≡ Equal →

@@ -35,13 +35,6 @@ module _ {T : Type 0} {cmp : T → T → Ordering} (o : IsTotalOrder cmp) (eq : 
           let q = unequal_point o flags_equal eq ties first false xs (spots (v ∷ [])) asc rises merged refl e in
           absurd (flags_differ _ _ q.1 (h q.0 ∙ or_false (is_at o q.0 v) ∙ sym (spots_value o None (v ∷ []) q.0 rises)))
 
-  pub only_first : (v : T) → IsOnly v → first ≡ false
-  only_first v h = by_test first ((and_parts (beq first false) _ (shape v h)).0)
-    where
-      by_test : (b : Bool) → beq b false ≡ true → b ≡ false
-      by_test true e = absurd (false≢true e)
-      by_test false e = refl
-
   two_of : (ys : List (Cut T × Bool)) (v : T) → same_steps (cut_eq eq) beq ys (spots (v ∷ [])) ≡ true → length ys ≡ 2
   two_of [] v e = absurd (false≢true e)
   two_of (x ∷ []) v e = absurd (false≢true (sym (always_false _) ∙ e))

@@ -1,5 +1,5 @@
 -- Tests that the values at bounds pass.
-use Rattle.std.specs.Prelude.{◌≡◌, Bool, true, ◌&&◌}
+use Rattle.std.specs.Prelude.{◌≡◌, Bool, true, ◌&&◌, List}
 use Rattle.std.specs.List.{list_all}
 use Rattle.std.specs.declared.ops.Bound.{Bound}
 use Rattle.std.specs.declared.ops.Bound.TheVariants.{Included, Excluded, Unbounded}
@@ -11,6 +11,18 @@ module _ {T : Type 0} where
   abbrev pub IsKeptByClones : (T → T → Type 0) → (T → Bool) → Type 0
   IsKeptByClones C test = (x y : T) → C x y → test x ≡ true → test y ≡ true
 
+  -- the values of y are values of x, as far as tests can tell, where `all` and `each` say whether
+  -- all values of x and of y pass one
+  abbrev pub HasValuesOf : {X Y : Type 0}
+      → ((T → Bool) → X → Bool) → X → ((T → Bool) → Y → Bool) → Y → Type 0
+  HasValuesOf all x each y = (test : T → Bool) → all test x ≡ true → each test y ≡ true
+
+  -- or clones of them
+  abbrev pub HasClonesOf : {X Y : Type 0} → (T → T → Type 0)
+      → ((T → Bool) → X → Bool) → X → ((T → Bool) → Y → Bool) → Y → Type 0
+  HasClonesOf C all x each y =
+      (test : T → Bool) → IsKeptByClones C test → all test x ≡ true → each test y ≡ true
+
   -- whether the value of a bound passes a test; `Unbounded` has none
   abbrev pub passes_at : (T → Bool) → Bound T → Bool
   passes_at test (Included v) = test v
@@ -21,6 +33,10 @@ module _ {T : Type 0} where
   abbrev pub passes_at_both : (T → Bool) → Bound T × Bound T → Bool
   passes_at_both test i = passes_at test i.0 && passes_at test i.1
 
+  -- and those of each of these
+  abbrev pub all_intervals : (T → Bool) → List (Bound T × Bound T) → Bool
+  all_intervals test intervals = list_all (passes_at_both test) intervals
+
   module _ {a : _} {b : _} {c : _} where
     -- whether the value of each cut passes a test
     abbrev pub all_cuts : {V : Type 0} → (T → Bool) → Cuts T V a b c → Bool
@@ -30,6 +46,10 @@ module _ {T : Type 0} where
     -- `iter` gives
     abbrev pub all_bounds : (T → Bool) → Ranges T a b c → Bool
     all_bounds test ranges = all_cuts test ranges.cuts
+
+    -- whether the value of each bound of these sets passes a test
+    abbrev pub all_sets : {X : Type 0} → (T → Bool) → List (X × Ranges T a b c) → Bool
+    all_sets test pairs = list_all (λ q. all_bounds test q.1) pairs
 
     -- each bound of a set is at a value, as far as tests can tell
     abbrev pub IsBoundedBy : T → Ranges T a b c → Type 0

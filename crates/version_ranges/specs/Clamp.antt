@@ -4,6 +4,8 @@ use Rattle.std.specs.Borrow.{Bor}
 use Rattle.std.specs.Range.Bound.{bound_map}
 use Rattle.std.specs.declared.cmp.Ordering.{Ordering}
 use Rattle.std.specs.declared.ops.Bound.{Bound}
+use Rattle.version_ranges.specs.declared.cuts.Cuts.{Cuts}
+use Rattle.version_ranges.specs.Cuts.{value_of}
 use Rattle.version_ranges.specs.Point.{Point, begin_point, point_lt, is_from, is_until, is_in_bounds}
 
 module _ {T : Type 0} where
@@ -34,3 +36,9 @@ module _ {T : Type 0} where
       pub above : (p : Point T) → is_until cmp upper p ≡ false →
           (q : Point T) × IsBetween q ×
           ((r : Point T) → IsBetween r → point_lt cmp r q ≡ false → same (new p) (old r) ≡ true)
+
+-- one function is another one, whose points are moved between two bounds that are lent
+abbrev pub IsMovedInto : {T V : Type 0} {a : _} {b : _} {c : _} → (T → T → Ordering)
+    → (V → V → Bool) → Bound (Bor T) → Bound (Bor T) → Cuts T V a b c → Cuts T V a b c → Type 0
+IsMovedInto cmp same lower upper old new =
+    IsClamped cmp (bound_of lower) (bound_of upper) same (value_of cmp old) (value_of cmp new)

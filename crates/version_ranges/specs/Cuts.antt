@@ -38,6 +38,10 @@ module _ {T V : Type 0} {a : _} {b : _} {c : _} where
   DifferSomewhere cmp same f g =
       (p : Point T) × (same (value_of cmp f p) (value_of cmp g p) ≡ false)
 
+  -- each point of the piece at an index has a value
+  abbrev pub IsValueOfPiece : (T → T → Ordering) → Cuts T V a b c → ℕ → V → Type 0
+  IsValueOfPiece cmp cuts i v = (p : Point T) → piece_of cmp cuts p ≡ i → value_of cmp cuts p ≡ v
+
   -- how many pieces there are
   abbrev pub piece_count : Cuts T V a b c → ℕ
   piece_count cuts = vec_len cuts.rest + 1
@@ -51,6 +55,16 @@ module _ {T V : Type 0} {a : _} {b : _} {c : _} where
   IsMerged same cuts = neighbors_differ same cuts ≡ true
 
 module _ {T V W : Type 0} {a : _} {b : _} {c : _} where
+  -- how many pieces two functions have together
+  abbrev pub pieces_of_both : Cuts T V a b c → Cuts T W a b c → ℕ
+  pieces_of_both f g = piece_count f + piece_count g
+
+  -- what get reads of the values of one function are the values of another one
+  abbrev pub HasValuesBy :
+      (V → W) → (T → T → Ordering) → (W → W → Bool) → Cuts T V a b c → Cuts T W a b c → Type 0
+  HasValuesBy get cmp same f g =
+      (p : Point T) → same (get (value_of cmp f p)) (value_of cmp g p) ≡ true
+
   -- a function has these values at the points of the pieces of another one, in order
   abbrev pub HasValuesInOrder :
       (T → T → Ordering) → (W → W → Bool) → Cuts T V a b c → List W → Cuts T W a b c → Type 0

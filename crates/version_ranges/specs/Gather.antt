@@ -1,11 +1,14 @@
 -- The values of a function, each with the set of the points that have it.
-use Rattle.std.specs.Prelude.{◌≡◌, ℕ, Bool, true, not, List, [], ◌∷◌, ◌++◌, None, Some, map, filter, slice_get, if◌then◌else◌}
+use Rattle.std.specs.Prelude.{◌≡◌, ℕ, Bool, true, not, List, [], ◌∷◌, ◌++◌, None, Some, map, filter, slice_get, eqb, if◌then◌else◌}
+use mathlib.Core.Bool.{beq}
+use Rattle.std.specs.List.{list_any}
 use Rattle.std.specs.Borrow.{Bor}
 use Rattle.std.specs.declared.cmp.Ordering.{Ordering}
 use Rattle.std.specs.declared.cmp.Ordering.TheVariants.{Equal}
 use Rattle.version_ranges.specs.declared.cut.Cut.{Cut}
 use Rattle.version_ranges.specs.declared.cuts.Cuts.{Cuts}
 use Rattle.version_ranges.specs.declared.ranges.Ranges.{Ranges}
+use Rattle.version_ranges.specs.Bounds.{IsKeptByClones, all_sets}
 use Rattle.version_ranges.specs.Point.{Point}
 use Rattle.version_ranges.specs.Cut.{cut_cmp}
 use Rattle.version_ranges.specs.Cuts.{value_of}
@@ -37,6 +40,23 @@ module _ {T V : Type 0} {a : _} {b : _} {c : _} {a' : _} {b' : _} {c' : _}
         slice_get pairs i ≡ Some q → slice_get pairs j ≡ Some r →
         same q.0.now r.0.now ≡ true → i ≡ j
 
+-- a value is at a place of a list, where key reads it
+abbrev pub IsPlace : {V Q : Type 0} → (V → V → Bool) → (Q → V) → List Q → ℕ → V → Type 0
+IsPlace {Q = Q} same key pairs i v = (q : Q) × (slice_get pairs i ≡ Some q) × (same v (key q) ≡ true)
+
+module _ {T V : Type 0} {a : _} {b : _} {c : _} where
+  -- one value inside a set, and another one outside
+  abbrev pub IsSplitBy : (T → T → Ordering) → (V → V → Bool)
+      → Ranges T a b c → V → V → Cuts T V a b c → Type 0
+  IsSplitBy cmp same set inside outside f = (p : Point T)
+      → same (value_of cmp f p) (if contains_point cmp set p then inside else outside) ≡ true
+
+  -- these pairs, with one more where its value is not there yet
+  abbrev pub with_pair : (V → V → Bool) → List (Bor V × Ranges T a b c)
+      → Bor V × Ranges T a b c → List (Bor V × Ranges T a b c)
+  with_pair same pairs p =
+      if list_any (λ q. same p.0.now q.0.now) pairs then pairs else pairs ++ p ∷ []
+
 module _ {T : Type 0} {a : _} {b : _} {c : _} where
   -- the cuts of a set, and a later one, from which on the points are in it that were not
   abbrev pub with_turn : Ranges T a b c → Cut T → List (Cut T × Bool)
@@ -53,3 +73,16 @@ module _ {T : Type 0} {a : _} {b : _} {c : _} (cmp : T → T → Ordering) where
     pub first : new.cuts.first ≡ old.cuts.first
     pub rest : (d : Cut T) × (cut_cmp cmp cut d ≡ Equal) ×
         (new.cuts.rest.items ≡ (if turns then with_turn old d else old.cuts.rest.items))
+
+  -- the sets at two places end or begin at a cut, where these are two, and all else stays
+  abbrev pub AreTurned : {V : Type 0} → ℕ → ℕ → Cut T
+      → List (Bor V × Ranges T a b c) → List (Bor V × Ranges T a b c) → Type 0
+  AreTurned {V = V} from to cut old new = (i : ℕ) (q r : Bor V × Ranges T a b c)
+      → slice_get old i ≡ Some q → slice_get new i ≡ Some r
+      → (r.0 ≡ q.0) × IsTurned (not (beq (eqb i from) (eqb i to))) cut q.1 r.1
+
+-- each bound of these sets is one of theirs before, or at a clone of a value
+abbrev pub KeepsSets : {T V : Type 0} {a : _} {b : _} {c : _} → (T → T → Type 0) → T
+    → List (Bor V × Ranges T a b c) → List (Bor V × Ranges T a b c) → Type 0
+KeepsSets {T = T} C v old new = (test : T → Bool) → IsKeptByClones C test
+    → test v ≡ true → all_sets test old ≡ true → all_sets test new ≡ true

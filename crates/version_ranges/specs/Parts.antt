@@ -68,8 +68,12 @@ module _ {T V : Type 0} where
   parts_left it = parts_if (bound_map (λ v. v.now) it.lower) (option_copied it.value) it.rest.now
 
   -- whether a point lies between the bounds of a piece
+  abbrev pub is_in : (T → T → Ordering) → Part T V → Point T → Bool
+  is_in cmp part p = is_in_bounds cmp part.lower part.upper p
+
+  -- a point lies between the bounds of a piece
   abbrev pub IsIn : (T → T → Ordering) → Part T V → Point T → Type 0
-  IsIn cmp part p = is_in_bounds cmp part.lower part.upper p ≡ true
+  IsIn cmp part p = is_in cmp part p ≡ true
 
   module _ {a : _} {b : _} {c : _} where
     -- all pieces

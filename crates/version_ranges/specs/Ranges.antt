@@ -1,5 +1,5 @@
 -- What a `Ranges` is as a set of points.
-use Rattle.std.specs.Prelude.{◌≡◌, ◌≢◌, Bool, not}
+use Rattle.std.specs.Prelude.{◌≡◌, ◌≢◌, Bool, ◌&&◌, ◌||◌, not}
 use Rattle.std.specs.declared.cmp.Ordering.{Ordering}
 use Rattle.std.specs.declared.ops.Bound.{Bound}
 use Rattle.version_ranges.specs.declared.ranges.Ranges.{Ranges}
@@ -28,6 +28,16 @@ module _ {T : Type 0} {a : _} {b : _} {c : _} where
   -- a set has the points that another one has not
   abbrev pub IsComplement : (T → T → Ordering) → Ranges T a b c → Ranges T a b c → Type 0
   IsComplement cmp old new = IsSet cmp new (λ p. not (contains_point cmp old p))
+
+  -- a set has the points that are in one of two others at least
+  abbrev pub IsUnion :
+      (T → T → Ordering) → Ranges T a b c → Ranges T a b c → Ranges T a b c → Type 0
+  IsUnion cmp r s new = IsSet cmp new (λ p. contains_point cmp r p || contains_point cmp s p)
+
+  -- a set has the points that are in both of two others
+  abbrev pub IsIntersection :
+      (T → T → Ordering) → Ranges T a b c → Ranges T a b c → Ranges T a b c → Type 0
+  IsIntersection cmp r s new = IsSet cmp new (λ p. contains_point cmp r p && contains_point cmp s p)
 
   -- two sets have the same points
   abbrev pub HaveSamePoints : (T → T → Ordering) → Ranges T a b c → Ranges T a b c → Type 0

@@ -2,10 +2,10 @@
 ghost use Rattle.std.specs.Prelude.{◌≡◌, IfOk, true, false};
 ghost use Rattle.std.specs.Set.{ClonesAreEqual};
 ghost use Rattle.version_ranges.specs.Bounds.{KeepsCuts};
-ghost use Rattle.version_ranges.specs.Point.{at, begin_point, is_in_bounds, is_until, point_lt};
-ghost use Rattle.version_ranges.specs.Cut.{cut_point};
-ghost use Rattle.version_ranges.specs.Cuts.{value_of};
-ghost use Rattle.version_ranges.specs.Clamp.{HasPoint, IsBare, IsClamped, bound_of};
+ghost use Rattle.version_ranges.specs.Point.{at, begin_point, is_until};
+ghost use Rattle.version_ranges.specs.Cut.{cut_point, stands_before};
+ghost use Rattle.version_ranges.specs.Parts.{is_in, part_of};
+ghost use Rattle.version_ranges.specs.Clamp.{HasPoint, IsBare, IsMovedInto, bound_of};
 
 use crate::cut::Cut;
 use crate::cuts::Cuts;
@@ -41,8 +41,7 @@ fn begins_within<T: Ord>(lower: Bound<&T>, upper: Bound<&T>) -> bool
 impl<T: Ord> Cut<T> {
     // Whether this cut lies after the first point of a range with this lower bound.
     fn is_after_begin(&self, lower: Bound<&T>) -> bool
-        ensures { result
-            ≡ point_lt T.cmp (begin_point (bound_of lower.entry)) (cut_point (λ v. v) self.now) }
+        ensures { result ≡ stands_before (λ v. v) T.cmp (begin_point (bound_of lower.entry)) self.now }
     {
         match lower {
             Bound::Included(first) => self.is_after(first),
@@ -80,8 +79,7 @@ impl<T: Ord + Clone, V: Eq + Clone> Cuts<T, V> {
         requires clones { ClonesAreEqual T.eq T.is_clone }
         requires value_clones { ClonesAreEqual V.eq V.is_clone }
         requires point { HasPoint T.cmp (bound_of lower) (bound_of upper) }
-        ensures clamped { IfOk result (λ r. IsClamped T.cmp (bound_of lower.entry)
-            (bound_of upper.entry) V.eq (value_of T.cmp self.now) (value_of T.cmp r)) }
+        ensures clamped { IfOk result (IsMovedInto T.cmp V.eq lower.entry upper.entry self.now) }
         ensures bounds { IfOk result (λ r. KeepsCuts T.is_clone self.now r) }
     {
         let steps: &[(Cut<T>, V)] = &self.rest;
@@ -104,8 +102,7 @@ impl<T: Ord + Clone, V: Eq + Clone> Cuts<T, V> {
 impl<T: Ord, V> Piece<'_, T, V> {
     /// Whether a value lies in the piece. This takes no memory.
     pub fn contains(&self, value: &T) -> bool
-        ensures { result ≡ is_in_bounds T.cmp
-            (bound_of self.now.lower) (bound_of self.now.upper) (at value.now) }
+        ensures { result ≡ is_in T.cmp (part_of self.now) (at value.now) }
     {
         let is_from = match self.lower {
             Bound::Included(first) => first <= value,

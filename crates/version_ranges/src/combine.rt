@@ -33,7 +33,8 @@ impl<T: Ord + Clone> Ranges<T> {
     ghost use Rattle.std.specs.Prelude.{IfOk};
     ghost use Rattle.std.specs.Set.{ClonesAreEqual};
     ghost use Rattle.version_ranges.specs.Bounds.{KeepsBoundsOfBoth};
-    ghost use Rattle.version_ranges.specs.Ranges.{contains_point, IsSet};
+    ghost use Rattle.version_ranges.specs.Ranges.{IsSet};
+    ghost use Rattle.version_ranges.specs.Taken.{is_taken};
 
     // The points of two sets that are taken. A cut is cloned only where the taken points begin or
     // end.
@@ -44,8 +45,7 @@ impl<T: Ord + Clone> Ranges<T> {
         taken: Taken,
     ) -> Result<Self, AllocError>
         requires clones { ClonesAreEqual T.eq T.is_clone }
-        ensures set { IfOk result (λ r. IsSet T.cmp r (λ p. takes taken
-            (contains_point T.cmp self.now p, contains_point T.cmp other.now p))) }
+        ensures set { IfOk result (λ r. IsSet T.cmp r (is_taken T.cmp taken self.now other.now)) }
         ensures bounds { IfOk result (λ r. KeepsBoundsOfBoth T.is_clone self.now other.now r) }
     {
         let mut sweep = Sweep {

@@ -20,7 +20,7 @@ impl<T: Ord, V> Cuts<T, V> {
     ghost use Rattle.std.specs.Prelude.{◌≡◌, ◌+◌, ◌<◌, Bool, true, vec_len};
     ghost use Rattle.version_ranges.specs.Bounds.{all_cuts};
     ghost use Rattle.version_ranges.specs.Point.{Point, at};
-    ghost use Rattle.version_ranges.specs.Cuts.{value_of, piece_of, piece_count};
+    ghost use Rattle.version_ranges.specs.Cuts.{value_of, piece_count, IsValueOfPiece};
 
     /// The same value at every point.
     pub fn constant(alloc: Global, value: V) -> Self
@@ -52,8 +52,7 @@ impl<T: Ord, V> Cuts<T, V> {
     // The value of the piece at an index.
     pub(crate) fn piece_value(&self, index: usize) -> &V
         requires { index < piece_count self.now }
-        ensures { (p : Point T)
-            → piece_of T.cmp self.now p ≡ index → value_of T.cmp self.now p ≡ result.now }
+        ensures { IsValueOfPiece T.cmp self.now index result.now }
     {
         if index == 0 {
             &self.first
@@ -77,8 +76,8 @@ impl<V> Cuts<String, V> {
 }
 
 impl<T: Ord + Drop, V: Drop> Cuts<T, V> {
-    ghost use Rattle.std.specs.Prelude.{IfOk, ◌≡◌, Bool, true, vec_len};
-    ghost use Rattle.version_ranges.specs.Bounds.{all_cuts};
+    ghost use Rattle.std.specs.Prelude.{IfOk, ◌≡◌, vec_len};
+    ghost use Rattle.version_ranges.specs.Bounds.{HasValuesOf, all_cuts};
     ghost use Rattle.version_ranges.specs.Cuts.{piece_count, HasValuesInOrder, IsMerged};
 
     /// The pieces with these values in order, where neighbors with equal values are joined. There
@@ -88,8 +87,7 @@ impl<T: Ord + Drop, V: Drop> Cuts<T, V> {
         requires { vec_len values ≡ piece_count self }
         ensures value { IfOk result (λ r. HasValuesInOrder T.cmp W.eq self values.items r) }
         ensures merged { IfOk result (IsMerged W.eq) }
-        ensures bounds { IfOk result (λ r. (test : T → Bool)
-            → all_cuts test self ≡ true → all_cuts test r ≡ true) }
+        ensures bounds { IfOk result (HasValuesOf all_cuts self all_cuts) }
     {
         let Cuts {
             first: _,

@@ -1,13 +1,9 @@
 //! Functions made of sets of points.
-ghost use Rattle.std.specs.Prelude.{◌≡◌, ◌<◌, ◌++◌, ◌∷◌, [], ℕ, Bool, Some, true, not, map, slice_get, IfOk, OnOk, vec_len, if◌then◌else◌, eqb};
-ghost use mathlib.Core.Bool.{beq};
-ghost use Rattle.std.specs.List.{list_all, list_any};
+ghost use Rattle.std.specs.Prelude.{◌≡◌, ◌<◌, [], ℕ, Some, map, slice_get, IfOk, OnOk, vec_len, if◌then◌else◌};
 ghost use Rattle.std.specs.Set.{ClonesAreEqual};
-ghost use Rattle.version_ranges.specs.Bounds.{IsKeptByClones, all_bounds, all_cuts};
-ghost use Rattle.version_ranges.specs.Point.{Point};
-ghost use Rattle.version_ranges.specs.Cuts.{value_of, IsMerged};
-ghost use Rattle.version_ranges.specs.Ranges.{contains_point};
-ghost use Rattle.version_ranges.specs.Gather.{IsGathered, IsPast, IsTurned, with_turn};
+ghost use Rattle.version_ranges.specs.Bounds.{HasClonesOf, HasValuesOf, all_bounds, all_cuts, all_sets};
+ghost use Rattle.version_ranges.specs.Cuts.{IsMerged};
+ghost use Rattle.version_ranges.specs.Gather.{AreTurned, IsGathered, IsPast, IsPlace, IsSplitBy, KeepsSets, with_pair, with_turn};
 
 use crate::cut::Cut;
 use crate::cuts::{Cuts, last_of};
@@ -21,11 +17,9 @@ impl<T: Ord + Drop, V: Eq + Clone> Cuts<T, V> {
     /// into the function. Only memory can run out.
     pub fn from_ranges(ranges: Ranges<T>, inside: V, outside: V) -> Result<Self, AllocError>
         requires value_clones { ClonesAreEqual V.eq V.is_clone }
-        ensures value { IfOk result (λ r. (p : Point T) → V.eq (value_of T.cmp r p)
-            (if contains_point T.cmp ranges p then inside else outside) ≡ true) }
+        ensures value { IfOk result (IsSplitBy T.cmp V.eq ranges inside outside) }
         ensures merged { IfOk result (IsMerged V.eq) }
-        ensures bounds { IfOk result (λ r. (test : T → Bool)
-            → all_bounds test ranges ≡ true → all_cuts test r ≡ true) }
+        ensures bounds { IfOk result (HasValuesOf all_bounds ranges all_cuts) }
     {
         let Cuts {
             first: is_first_inside,
@@ -59,8 +53,8 @@ impl<T: Ord + Clone, V: Eq + Hash> Cuts<T, V> {
     pub fn gather(&self, alloc: Global) -> Result<Vec<(&V, Ranges<T>)>, AllocError>
         requires clones { ClonesAreEqual T.eq T.is_clone }
         ensures gathered { IfOk result (λ r. IsGathered T.cmp V.eq self.now r.items) }
-        ensures bounds { IfOk result (λ r. (test : T → Bool) → IsKeptByClones T.is_clone test
-            → all_cuts test self.now ≡ true → list_all (λ q. all_bounds test q.1) r.items ≡ true) }
+        ensures bounds { IfOk result (λ r.
+            HasClonesOf T.is_clone all_cuts self.now all_sets r.items) }
     {
         let mut places = IndexSet::new(alloc);
         let mut pairs = Vec::new(alloc);
@@ -93,11 +87,9 @@ fn place_of<'a, T: Ord + Drop, V: Eq + Hash>(
 ) -> Result<usize, AllocError>
     requires { places.old.keys ≡ map (λ q. q.0) pairs.old.items }
     ensures keys { OnOk result (places.new.keys ≡ map (λ q. q.0) pairs.new.items) }
-    ensures pairs { OnOk result (pairs.new.items
-        ≡ (if list_any (λ q. V.eq value.now q.0.now) pairs.old.items
-        then pairs.old.items else pairs.old.items ++ (value.entry, set) ∷ [])) }
-    ensures found { IfOk result (λ i. (q : _) × (slice_get pairs.new.items i ≡ Some q)
-        × (V.eq value.now q.0.now ≡ true)) }
+    ensures pairs { OnOk result
+        (pairs.new.items ≡ with_pair V.eq pairs.old.items (value.entry, set)) }
+    ensures found { IfOk result (λ i. IsPlace V.eq (λ q. q.0.now) pairs.new.items i value.now) }
 {
     let (place, added) = match places.insert_full(value) {
         Ok(answer) => answer,
@@ -122,12 +114,9 @@ fn pass<T: Ord + Clone, V>(
     requires past { (i : ℕ) (q : _)
         → slice_get pairs.old.items i ≡ Some q → IsPast T.cmp q.1 cut.now }
     ensures len { OnOk result (vec_len pairs.new ≡ vec_len pairs.old) }
-    ensures each { OnOk result ((i : ℕ) (q r : _)
-        → slice_get pairs.old.items i ≡ Some q → slice_get pairs.new.items i ≡ Some r
-        → (r.0 ≡ q.0) × IsTurned T.cmp (not (beq (eqb i from) (eqb i to))) cut.now q.1 r.1) }
-    ensures bounds { OnOk result ((test : T → Bool) → IsKeptByClones T.is_clone test
-        → test cut.now.value ≡ true → list_all (λ q. all_bounds test q.1) pairs.old.items ≡ true
-        → list_all (λ q. all_bounds test q.1) pairs.new.items ≡ true) }
+    ensures each { OnOk result (AreTurned T.cmp from to cut.now pairs.old.items pairs.new.items) }
+    ensures bounds { OnOk result
+        (KeepsSets T.is_clone cut.now.value pairs.old.items pairs.new.items) }
 {
     if from == to {
         return Ok(());

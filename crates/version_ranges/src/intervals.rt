@@ -32,11 +32,10 @@ impl<'a, T> Iterator for Intervals<'a, T> {
 }
 
 impl<T: Ord> Ranges<T> {
-    ghost use Rattle.std.specs.List.{list_all};
     ghost use Rattle.std.specs.Option.{option_map};
-    ghost use Rattle.std.specs.Prelude.{◌≡◌, Bool, true};
-    ghost use Rattle.version_ranges.specs.Bounds.{all_bounds, passes_at_both};
-    ghost use Rattle.std.specs.Range.Bound.{bound_map};
+    ghost use Rattle.std.specs.Prelude.{◌≡◌};
+    ghost use Rattle.version_ranges.specs.Bounds.{HasValuesOf, all_bounds, all_intervals};
+    ghost use Rattle.version_ranges.specs.Clamp.{bound_of};
     ghost use Rattle.version_ranges.specs.Intervals.{interval_of, intervals_of, intervals_left, lower_from, span_of, upper_after, AreApart, AreIntervals};
 
     /// The intervals of the set, in ascending order: none is empty, and no two touch.
@@ -44,8 +43,7 @@ impl<T: Ord> Ranges<T> {
         ensures items { intervals_left result ≡ intervals_of self.now }
         ensures intervals { AreIntervals T.cmp self.now (intervals_of self.now) }
         ensures apart { AreApart T.cmp (intervals_of self.now) }
-        ensures bounds { (test : T → Bool) → all_bounds test self.now ≡ true
-            → list_all (passes_at_both test) (intervals_of self.now) ≡ true }
+        ensures bounds { HasValuesOf all_bounds self.now all_intervals (intervals_of self.now) }
     {
         Intervals {
             pieces: self.cuts.pieces(),
@@ -64,7 +62,7 @@ impl<T: Ord> Ranges<T> {
 
     // The lower bound of the first interval, if there is one.
     fn first_lower(&self) -> Option<Bound<&T>>
-        ensures { option_map (bound_map (λ v. v.now)) result
+        ensures { option_map bound_of result
             ≡ lower_from self.now.cuts.first self.now.cuts.rest.items }
     {
         if self.cuts.first {
@@ -78,7 +76,7 @@ impl<T: Ord> Ranges<T> {
 
     // The upper bound of the last interval, if there is one.
     fn last_upper(&self) -> Bound<&T>
-        ensures { bound_map (λ v. v.now) result ≡ upper_after self.now.cuts.rest.items }
+        ensures { bound_of result ≡ upper_after self.now.cuts.rest.items }
     {
         match self.cuts.rest.split_last() {
             Some((step, _)) => {

@@ -4,10 +4,9 @@ use crate::sweep::Sweep;
 use std::alloc::{AllocError, Global};
 
 impl<T: Ord + Clone, V: Eq + Clone> Cuts<T, V> {
-    ghost use Rattle.version_ranges.specs.Point.{Point};
-    ghost use Rattle.version_ranges.specs.Cuts.{value_of, piece_count};
+    ghost use Rattle.version_ranges.specs.Cuts.{piece_count, pieces_of_both, HasValuesBy};
     ghost use Rattle.std.specs.Set.{ClonesAreEqual};
-    ghost use Rattle.std.specs.Prelude.{◌≡◌, ◌+◌, ◌≤◌, true, IfOk};
+    ghost use Rattle.std.specs.Prelude.{◌+◌, ◌≤◌, IfOk};
     ghost use Rattle.version_ranges.specs.Bounds.{KeepsCutsOfBoth};
 
     /// Both functions side by side, as one whose value at each point is the pair of theirs, and how
@@ -21,14 +20,10 @@ impl<T: Ord + Clone, V: Eq + Clone> Cuts<T, V> {
         requires clones { ClonesAreEqual T.eq T.is_clone }
         requires left_clones { ClonesAreEqual V.eq V.is_clone }
         requires right_clones { ClonesAreEqual W.eq W.is_clone }
-        ensures left { IfOk result (λ r. (p : Point T)
-            → V.eq (value_of T.cmp r.0 p).0 (value_of T.cmp self.now p) ≡ true) }
-        ensures right { IfOk result (λ r. (p : Point T)
-            → W.eq (value_of T.cmp r.0 p).1 (value_of T.cmp other.now p) ≡ true) }
-        ensures pieces { IfOk result (λ r.
-            piece_count r.0 + 1 ≤ piece_count self.now + piece_count other.now) }
-        ensures comparisons { IfOk result (λ r.
-            r.1 + 2 ≤ piece_count self.now + piece_count other.now) }
+        ensures left { IfOk result (λ r. HasValuesBy (λ v. v.0) T.cmp V.eq r.0 self.now) }
+        ensures right { IfOk result (λ r. HasValuesBy (λ v. v.1) T.cmp W.eq r.0 other.now) }
+        ensures pieces { IfOk result (λ r. piece_count r.0 + 1 ≤ pieces_of_both self.now other.now) }
+        ensures comparisons { IfOk result (λ r. r.1 + 2 ≤ pieces_of_both self.now other.now) }
         ensures bounds { IfOk result (λ r. KeepsCutsOfBoth T.is_clone self.now other.now r.0) }
     {
         let most = self

@@ -81,8 +81,8 @@ impl<T: Ord> Ranges<T> {
 }
 
 impl<T: Ord + Drop> Ranges<T> {
-    ghost use Rattle.std.specs.Prelude.{◌≡◌, ◌&&◌, Bool, true, false, not, IfOk, if◌then◌else◌};
-    ghost use Rattle.version_ranges.specs.Bounds.{all_bounds, IsBoundedAt, IsBoundedBy};
+    ghost use Rattle.std.specs.Prelude.{◌≡◌, ◌&&◌, not, IfOk, if◌then◌else◌};
+    ghost use Rattle.version_ranges.specs.Bounds.{IsBoundedAt, IsBoundedBy};
     ghost use Rattle.std.specs.declared.cmp.Ordering.TheVariants.{Less};
     ghost use Rattle.std.specs.declared.ops.Bound.TheVariants.{Included, Excluded, Unbounded};
     ghost use Rattle.version_ranges.specs.Cut.{cut_cmp, stands_before};
@@ -162,8 +162,7 @@ impl<T: Ord + Drop> Ranges<T> {
         requires { cut_cmp T.cmp begin end ≡ Less }
         ensures set { IfOk result (λ r. IsSet T.cmp r (λ p.
             not (stands_before (λ v. v) T.cmp p begin) && stands_before (λ v. v) T.cmp p end)) }
-        ensures bounds { IfOk result (λ r. (test : T → Bool)
-            → test begin.value ≡ true → test end.value ≡ true → all_bounds test r ≡ true) }
+        ensures bounds { IfOk result (IsBoundedAt (Included begin.value) (Included end.value)) }
     {
         let mut rest = Vec::with_capacity(alloc, 2)?;
         rest.push((begin, true))?;
@@ -175,19 +174,18 @@ impl<T: Ord + Drop> Ranges<T> {
 }
 
 impl<T: Ord + Clone> Ranges<T> {
-    ghost use Rattle.std.specs.Prelude.{◌≡◌, ◌&&◌, ◌||◌, Bool, true, false, not, IfOk};
+    ghost use Rattle.std.specs.Prelude.{IfOk};
     ghost use Rattle.std.specs.List.{list_all};
     ghost use Rattle.std.specs.Set.{ClonesAreEqual};
-    ghost use Rattle.version_ranges.specs.Bounds.{IsKeptByClones, KeepsBounds, KeepsBoundsOfBoth, all_bounds};
+    ghost use Rattle.version_ranges.specs.Bounds.{HasClonesOf, KeepsBounds, KeepsBoundsOfBoth, all_bounds};
     ghost use Rattle.version_ranges.specs.Point.{is_one_of, is_value};
-    ghost use Rattle.version_ranges.specs.Ranges.{contains_point, IsComplement, IsSet};
+    ghost use Rattle.version_ranges.specs.Ranges.{IsComplement, IsIntersection, IsSet, IsUnion};
 
     /// The set of one value, which is cloned for its other bound. Only memory can run out.
     pub fn singleton(alloc: Global, value: T) -> Result<Self, AllocError>
         requires clones { ClonesAreEqual T.eq T.is_clone }
         ensures set { IfOk result (λ r. IsSet T.cmp r (is_value T.cmp value)) }
-        ensures bounds { IfOk result (λ r. (test : T → Bool) → IsKeptByClones T.is_clone test
-            → test value ≡ true → all_bounds test r ≡ true) }
+        ensures bounds { IfOk result (HasClonesOf T.is_clone (λ test. test) value all_bounds) }
     {
         let lower = value.clone()?;
         Ranges::from_range_bounds(alloc, (Bound::Included(lower), Bound::Included(value)))
@@ -198,8 +196,7 @@ impl<T: Ord + Clone> Ranges<T> {
     pub fn from_points(points: Vec<T>) -> Result<Self, AllocError>
         requires clones { ClonesAreEqual T.eq T.is_clone }
         ensures set { IfOk result (λ r. IsSet T.cmp r (is_one_of T.cmp points.items)) }
-        ensures bounds { IfOk result (λ r. (test : T → Bool) → IsKeptByClones T.is_clone test
-            → list_all test points.items ≡ true → all_bounds test r ≡ true) }
+        ensures bounds { IfOk result (HasClonesOf T.is_clone list_all points.items all_bounds) }
     {
         let mut points = points;
         points.sort()?;
@@ -232,8 +229,7 @@ impl<T: Ord + Clone> Ranges<T> {
     /// The points that are in one of two sets or in both. Only memory can run out.
     pub fn union(&self, alloc: Global, other: &Self) -> Result<Self, AllocError>
         requires clones { ClonesAreEqual T.eq T.is_clone }
-        ensures set { IfOk result (λ r. IsSet T.cmp r
-            (λ p. contains_point T.cmp self.now p || contains_point T.cmp other.now p)) }
+        ensures set { IfOk result (IsUnion T.cmp self.now other.now) }
         ensures bounds { IfOk result (λ r. KeepsBoundsOfBoth T.is_clone self.now other.now r) }
     {
         self.taken_points(alloc, other, Taken::InEither)
@@ -242,8 +238,7 @@ impl<T: Ord + Clone> Ranges<T> {
     /// The points that are in both of two sets. Only memory can run out.
     pub fn intersection(&self, alloc: Global, other: &Self) -> Result<Self, AllocError>
         requires clones { ClonesAreEqual T.eq T.is_clone }
-        ensures set { IfOk result (λ r. IsSet T.cmp r
-            (λ p. contains_point T.cmp self.now p && contains_point T.cmp other.now p)) }
+        ensures set { IfOk result (IsIntersection T.cmp self.now other.now) }
         ensures bounds { IfOk result (λ r. KeepsBoundsOfBoth T.is_clone self.now other.now r) }
     {
         self.taken_points(alloc, other, Taken::InBoth)
