@@ -1,6 +1,6 @@
 -- Points that stand alike to some points: what compares a point with these alone tells no two such
 -- points apart.
-use Rattle.std.specs.Prelude.{◌≡◌, ◌≢◌, ⊤, List, [], ◌∷◌}
+use Rattle.std.specs.Prelude.{◌≡◌, ◌≢◌, ⊤, true, false, List, [], ◌∷◌}
 use Rattle.std.specs.declared.cmp.Ordering.{Ordering}
 use Rattle.std.specs.declared.cmp.Ordering.TheVariants.{Equal}
 use Rattle.version_ranges.specs.Point.{Point, point_cmp, point_lt}
@@ -15,3 +15,9 @@ module _ {T : Type 0} (cmp : T → T → Ordering) where
   abbrev pub AreAlike : Point T → Point T → List (Point T) → Type 0
   AreAlike p q [] = ⊤
   AreAlike p q (end ∷ ends) = (point_lt cmp p end ≡ point_lt cmp q end) × AreAlike p q ends
+
+  -- there is a point before another one, and not before a lower one, that stands before the same of
+  -- these
+  abbrev pub HasPointAlike : Point T → Point T → List (Point T) → Type 0
+  HasPointAlike low p ends = (q : Point T)
+      × (point_lt cmp q low ≡ false) × (point_lt cmp q p ≡ true) × AreAlike q p ends

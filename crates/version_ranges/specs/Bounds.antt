@@ -18,9 +18,9 @@ module _ {T : Type 0} where
   HasValuesOf all x each y = (test : T → Bool) → all test x ≡ true → each test y ≡ true
 
   -- or clones of them
-  abbrev pub HasClonesOf : {X Y : Type 0} → (T → T → Type 0)
+  abbrev pub IsCloned : {X Y : Type 0} → (T → T → Type 0)
       → ((T → Bool) → X → Bool) → X → ((T → Bool) → Y → Bool) → Y → Type 0
-  HasClonesOf C all x each y =
+  IsCloned C all x each y =
       (test : T → Bool) → IsKeptByClones C test → all test x ≡ true → each test y ≡ true
 
   -- whether the value of a bound passes a test; `Unbounded` has none

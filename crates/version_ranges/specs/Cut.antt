@@ -1,5 +1,5 @@
 -- Cuts of an ordered set: where a piece begins.
-use Rattle.std.specs.Prelude.{Bool, if◌then◌else◌}
+use Rattle.std.specs.Prelude.{Bool, ◌&&◌, not, if◌then◌else◌}
 use Rattle.std.specs.Ordering.{then_cmp, on, bool_cmp}
 use Rattle.std.specs.declared.cmp.Ordering.{Ordering}
 use Rattle.std.specs.declared.ops.Bound.{Bound}
@@ -19,6 +19,16 @@ cut_point f c = if c.above then above (f c.value) else at (f c.value)
 -- whether a point stands before a cut
 abbrev pub stands_before : {T K : Type 0} → (T → K) → (K → K → Ordering) → Point K → Cut T → Bool
 stands_before f cmp p c = point_lt cmp p (cut_point f c)
+
+module _ {T : Type 0} (cmp : T → T → Ordering) where
+  -- whether a point is one of those before a cut, or of the others where `first` is false
+  abbrev pub is_in_half : Bool → Cut T → Point T → Bool
+  is_in_half first c p = if stands_before (λ v. v) cmp p c then first else not first
+
+  -- whether a point stands from a cut on, and before another
+  abbrev pub is_in_span : Cut T → Cut T → Point T → Bool
+  is_in_span begin end p =
+      not (stands_before (λ v. v) cmp p begin) && stands_before (λ v. v) cmp p end
 
 -- the lower bound of what begins at a cut
 abbrev pub lower_of : {T : Type 0} → Cut T → Bound T

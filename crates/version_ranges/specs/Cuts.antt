@@ -4,7 +4,7 @@ use Rattle.std.specs.Cmp.Lexicographic.{slice_cmp}
 use Rattle.std.specs.Ordering.{nat_cmp}
 use Rattle.std.specs.declared.cmp.Ordering.{Ordering}
 use Rattle.version_ranges.specs.declared.cuts.Cuts.{Cuts}
-use Rattle.version_ranges.specs.Point.{Point}
+use Rattle.version_ranges.specs.Point.{Point, point_map}
 use Rattle.version_ranges.specs.Cut.{stands_before}
 use Rattle.version_ranges.specs.Steps.{value_at, piece_at, is_merged}
 
@@ -56,8 +56,8 @@ module _ {T V : Type 0} {a : _} {b : _} {c : _} where
 
 module _ {T V W : Type 0} {a : _} {b : _} {c : _} where
   -- how many pieces two functions have together
-  abbrev pub pieces_of_both : Cuts T V a b c → Cuts T W a b c → ℕ
-  pieces_of_both f g = piece_count f + piece_count g
+  abbrev pub piece_sum : Cuts T V a b c → Cuts T W a b c → ℕ
+  piece_sum f g = piece_count f + piece_count g
 
   -- what get reads of the values of one function are the values of another one
   abbrev pub HasValuesBy :
@@ -83,6 +83,20 @@ module _ {T V : Type 0} {a : _} {b : _} {c : _} (name : T → List ℕ) where
   -- which piece it lies in, counted from the first
   abbrev pub named_piece : Cuts T V a b c → Point (List ℕ) → ℕ
   named_piece cuts q = piece_by name (slice_cmp nat_cmp) cuts q
+
+module _ {T V W : Type 0} {a : _} {b : _} {c : _} where
+  -- a point has the same values in two functions by its name
+  abbrev pub IsNamed : (T → T → Ordering) → (T → List ℕ)
+      → Cuts T V a b c → Cuts T W a b c → Point T → Type 0
+  IsNamed cmp name f g p = (named_value name f (point_map name p) ≡ value_of cmp f p)
+      × (named_value name g (point_map name p) ≡ value_of cmp g p)
+
+  -- two functions cannot tell a point by a name from some point of the order
+  abbrev pub FindsPoint : (T → T → Ordering) → (T → List ℕ)
+      → Cuts T V a b c → Cuts T W a b c → Point (List ℕ) → Type 0
+  FindsPoint cmp name f g q = (p : Point T)
+      × (named_value name f q ≡ value_of cmp f p) × (named_piece name f q ≡ piece_of cmp f p)
+      × (named_value name g q ≡ value_of cmp g p) × (named_piece name g q ≡ piece_of cmp g p)
 
 module _ {A V : Type 0} {a : _} {b : _} {c : _} where
   -- the value at a point that is known by bytes, of a function of texts

@@ -52,9 +52,9 @@ module _ {T V : Type 0} {a : _} {b : _} {c : _} where
       → same (value_of cmp f p) (if contains_point cmp set p then inside else outside) ≡ true
 
   -- these pairs, with one more where its value is not there yet
-  abbrev pub with_pair : (V → V → Bool) → List (Bor V × Ranges T a b c)
+  abbrev pub joined : (V → V → Bool) → List (Bor V × Ranges T a b c)
       → Bor V × Ranges T a b c → List (Bor V × Ranges T a b c)
-  with_pair same pairs p =
+  joined same pairs p =
       if list_any (λ q. same p.0.now q.0.now) pairs then pairs else pairs ++ p ∷ []
 
 module _ {T : Type 0} {a : _} {b : _} {c : _} where
@@ -67,6 +67,11 @@ module _ {T : Type 0} {a : _} {b : _} {c : _} (cmp : T → T → Ordering) where
   -- a cut stands after all cuts of a set
   abbrev pub IsPast : Ranges T a b c → Cut T → Type 0
   IsPast set cut = ascends (cut_cmp cmp) None (set.cuts.rest.items ++ (cut, true) ∷ []) ≡ true
+
+  -- after all cuts of each of these sets
+  abbrev pub ArePast : {V : Type 0} → List (Bor V × Ranges T a b c) → Cut T → Type 0
+  ArePast {V = V} pairs cut =
+      (i : ℕ) (q : Bor V × Ranges T a b c) → slice_get pairs i ≡ Some q → IsPast q.1 cut
 
   -- one set is another one, and ends or begins at a cut too where `turns`
   pub record IsTurned (turns : Bool) (cut : Cut T) (old new : Ranges T a b c) : Type 0 where
@@ -81,8 +86,8 @@ module _ {T : Type 0} {a : _} {b : _} {c : _} (cmp : T → T → Ordering) where
       → slice_get old i ≡ Some q → slice_get new i ≡ Some r
       → (r.0 ≡ q.0) × IsTurned (not (beq (eqb i from) (eqb i to))) cut q.1 r.1
 
--- each bound of these sets is one of theirs before, or at a clone of a value
-abbrev pub KeepsSets : {T V : Type 0} {a : _} {b : _} {c : _} → (T → T → Type 0) → T
+-- each bound of these sets is one of theirs before, or at a clone of the value of a cut
+abbrev pub KeepsSets : {T V : Type 0} {a : _} {b : _} {c : _} → (T → T → Type 0) → Cut T
     → List (Bor V × Ranges T a b c) → List (Bor V × Ranges T a b c) → Type 0
-KeepsSets {T = T} C v old new = (test : T → Bool) → IsKeptByClones C test
-    → test v ≡ true → all_sets test old ≡ true → all_sets test new ≡ true
+KeepsSets {T = T} C cut old new = (test : T → Bool) → IsKeptByClones C test
+    → test cut.value ≡ true → all_sets test old ≡ true → all_sets test new ≡ true

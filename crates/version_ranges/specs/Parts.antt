@@ -89,6 +89,10 @@ module _ {T V : Type 0} where
     HoldsOfPieces holds cuts =
         (i : ℕ) (part : Part T V) → IsPiece cuts i part → holds part.value ≡ true
 
+    -- what holds of the value at each point
+    abbrev pub HoldsOfPoints : (T → T → Ordering) → (V → Bool) → Cuts T V a b c → Type 0
+    HoldsOfPoints cmp holds cuts = (p : Point T) → holds (value_of cmp cuts p) ≡ true
+
     -- these parts are the pieces of a function, in order
     pub record ArePieces (cmp : T → T → Ordering) (cuts : Cuts T V a b c)
         (parts : List (Part T V)) : Type 0 where

@@ -1,9 +1,9 @@
 //! Functions made of sets of points.
-ghost use Rattle.std.specs.Prelude.{◌≡◌, ◌<◌, [], ℕ, Some, map, slice_get, IfOk, OnOk, vec_len, if◌then◌else◌};
+ghost use Rattle.std.specs.Prelude.{◌≡◌, ◌<◌, [], map, IfOk, OnOk, vec_len, if◌then◌else◌};
 ghost use Rattle.std.specs.Set.{ClonesAreEqual};
-ghost use Rattle.version_ranges.specs.Bounds.{HasClonesOf, HasValuesOf, all_bounds, all_cuts, all_sets};
+ghost use Rattle.version_ranges.specs.Bounds.{IsCloned, HasValuesOf, all_bounds, all_cuts, all_sets};
 ghost use Rattle.version_ranges.specs.Cuts.{IsMerged};
-ghost use Rattle.version_ranges.specs.Gather.{AreTurned, IsGathered, IsPast, IsPlace, IsSplitBy, KeepsSets, with_pair, with_turn};
+ghost use Rattle.version_ranges.specs.Gather.{ArePast, AreTurned, IsGathered, IsPast, IsPlace, IsSplitBy, KeepsSets, joined, with_turn};
 
 use crate::cut::Cut;
 use crate::cuts::{Cuts, last_of};
@@ -53,8 +53,7 @@ impl<T: Ord + Clone, V: Eq + Hash> Cuts<T, V> {
     pub fn gather(&self, alloc: Global) -> Result<Vec<(&V, Ranges<T>)>, AllocError>
         requires clones { ClonesAreEqual T.eq T.is_clone }
         ensures gathered { IfOk result (λ r. IsGathered T.cmp V.eq self.now r.items) }
-        ensures bounds { IfOk result (λ r.
-            HasClonesOf T.is_clone all_cuts self.now all_sets r.items) }
+        ensures bounds { IfOk result (λ r. IsCloned T.is_clone all_cuts self.now all_sets r.items) }
     {
         let mut places = IndexSet::new(alloc);
         let mut pairs = Vec::new(alloc);
@@ -87,8 +86,7 @@ fn place_of<'a, T: Ord + Drop, V: Eq + Hash>(
 ) -> Result<usize, AllocError>
     requires { places.old.keys ≡ map (λ q. q.0) pairs.old.items }
     ensures keys { OnOk result (places.new.keys ≡ map (λ q. q.0) pairs.new.items) }
-    ensures pairs { OnOk result
-        (pairs.new.items ≡ with_pair V.eq pairs.old.items (value.entry, set)) }
+    ensures pairs { OnOk result (pairs.new.items ≡ joined V.eq pairs.old.items (value.entry, set)) }
     ensures found { IfOk result (λ i. IsPlace V.eq (λ q. q.0.now) pairs.new.items i value.now) }
 {
     let (place, added) = match places.insert_full(value) {
@@ -111,12 +109,10 @@ fn pass<T: Ord + Clone, V>(
     requires clones { ClonesAreEqual T.eq T.is_clone }
     requires from { from < vec_len pairs.old }
     requires to { to < vec_len pairs.old }
-    requires past { (i : ℕ) (q : _)
-        → slice_get pairs.old.items i ≡ Some q → IsPast T.cmp q.1 cut.now }
+    requires past { ArePast T.cmp pairs.old.items cut.now }
     ensures len { OnOk result (vec_len pairs.new ≡ vec_len pairs.old) }
     ensures each { OnOk result (AreTurned T.cmp from to cut.now pairs.old.items pairs.new.items) }
-    ensures bounds { OnOk result
-        (KeepsSets T.is_clone cut.now.value pairs.old.items pairs.new.items) }
+    ensures bounds { OnOk result (KeepsSets T.is_clone cut.now pairs.old.items pairs.new.items) }
 {
     if from == to {
         return Ok(());

@@ -1,12 +1,12 @@
 //! Laws of functions and sets. A call of one does nothing: what it promises is its contract.
-ghost use Rattle.std.specs.Prelude.{◌≡◌, ℕ, Bool, List, false, true};
+ghost use Rattle.std.specs.Prelude.{◌≡◌, ℕ, Bool, List, true};
 ghost use Rattle.std.specs.String.{string_eq};
 ghost use Rattle.std.specs.declared.cmp.Ordering.TheVariants.{Less};
-ghost use Rattle.version_ranges.specs.Alike.{AreAlike, TiesWithNone};
-ghost use Rattle.version_ranges.specs.Point.{Point, point_cmp, point_lt, point_map};
-ghost use Rattle.version_ranges.specs.Cuts.{value_of, piece_of, AgreeEverywhere, IsMerged, AgreeOnTexts, IsOrderOfNames, named_piece, named_value, text_value};
+ghost use Rattle.version_ranges.specs.Alike.{HasPointAlike, TiesWithNone};
+ghost use Rattle.version_ranges.specs.Point.{Point, point_cmp};
+ghost use Rattle.version_ranges.specs.Cuts.{value_of, AgreeEverywhere, AgreeOnTexts, FindsPoint, IsMerged, IsNamed, IsOrderOfNames, text_value};
 ghost use Rattle.version_ranges.specs.Ranges.{HaveSamePoints};
-ghost use Rattle.version_ranges.specs.Parts.{Part, parts_of, same_parts, HoldsOfPieces, IsIn, IsPiece};
+ghost use Rattle.version_ranges.specs.Parts.{Part, parts_of, same_parts, HoldsOfPieces, HoldsOfPoints, IsIn, IsPiece};
 ghost use Rattle.version_ranges.specs.Intervals.{intervals_of, same_intervals};
 
 use crate::cuts::Cuts;
@@ -51,10 +51,8 @@ pub fn point_lies_in_one_piece<T: Ord, V>(cuts: &Cuts<T, V>)
 /// What holds of the value of each piece holds of the value at each point, and the other way round:
 /// each piece has a point.
 pub fn pieces_have_the_values_of_points<T: Ord, V>(cuts: &Cuts<T, V>)
-    ensures points { (holds : V → Bool) → HoldsOfPieces holds cuts.now
-        → (p : Point T) → holds (value_of T.cmp cuts.now p) ≡ true }
-    ensures pieces { (holds : V → Bool) → ((p : Point T) → holds (value_of T.cmp cuts.now p) ≡ true)
-        → HoldsOfPieces holds cuts.now }
+    ensures points { (t : V → Bool) → HoldsOfPieces t cuts.now → HoldsOfPoints T.cmp t cuts.now }
+    ensures pieces { (t : V → Bool) → HoldsOfPoints T.cmp t cuts.now → HoldsOfPieces t cuts.now }
     ensures inhabited { (i : ℕ) (part : Part T V) → IsPiece cuts.now i part
         → (p : Point T) × IsIn T.cmp part p × (value_of T.cmp cuts.now p ≡ part.value) }
 {}
@@ -63,15 +61,10 @@ pub fn pieces_have_the_values_of_points<T: Ord, V>(cuts: &Cuts<T, V>)
 /// point of the order has the same value by its name, and two functions cannot tell a point by any
 /// name, which need be the name of no value, from some point of the order.
 pub fn names_have_the_values_of_points<T: Ord, V, W>(left: &Cuts<T, V>, right: &Cuts<T, W>)
-    ensures named { (name : T → List ℕ) → IsOrderOfNames T.cmp name → (p : Point T)
-        → (named_value name left.now (point_map name p) ≡ value_of T.cmp left.now p)
-        × (named_value name right.now (point_map name p) ≡ value_of T.cmp right.now p) }
-    ensures found { (name : T → List ℕ) → IsOrderOfNames T.cmp name → (q : Point (List ℕ))
-        → (p : Point T)
-        × (named_value name left.now q ≡ value_of T.cmp left.now p)
-        × (named_piece name left.now q ≡ piece_of T.cmp left.now p)
-        × (named_value name right.now q ≡ value_of T.cmp right.now p)
-        × (named_piece name right.now q ≡ piece_of T.cmp right.now p) }
+    ensures named { (name : T → List ℕ) → IsOrderOfNames T.cmp name
+        → (p : Point T) → IsNamed T.cmp name left.now right.now p }
+    ensures found { (name : T → List ℕ) → IsOrderOfNames T.cmp name
+        → (q : Point (List ℕ)) → FindsPoint T.cmp name left.now right.now q }
 {}
 
 /// What these laws say of functions of texts, whose points are known by bytes: two functions with
@@ -100,8 +93,6 @@ pub fn functions_of_texts<V: Eq>(left: &Cuts<String, V>, right: &Cuts<String, V>
 /// before the same of them. So what compares points with finitely many points alone changes at
 /// these alone.
 pub fn point_before_is_alike<T: Ord>()
-    ensures { (ends : List (Point T)) (low p : Point T)
-        → TiesWithNone T.cmp p ends → point_cmp T.cmp low p ≡ Less
-        → (q : Point T) × (point_lt T.cmp q low ≡ false) × (point_lt T.cmp q p ≡ true)
-        × AreAlike T.cmp q p ends }
+    ensures { (ends : List (Point T)) (low p : Point T) → TiesWithNone T.cmp p ends
+        → point_cmp T.cmp low p ≡ Less → HasPointAlike T.cmp low p ends }
 {}

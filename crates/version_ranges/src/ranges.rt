@@ -81,11 +81,11 @@ impl<T: Ord> Ranges<T> {
 }
 
 impl<T: Ord + Drop> Ranges<T> {
-    ghost use Rattle.std.specs.Prelude.{◌≡◌, ◌&&◌, not, IfOk, if◌then◌else◌};
+    ghost use Rattle.std.specs.Prelude.{◌≡◌, IfOk};
     ghost use Rattle.version_ranges.specs.Bounds.{IsBoundedAt, IsBoundedBy};
     ghost use Rattle.std.specs.declared.cmp.Ordering.TheVariants.{Less};
     ghost use Rattle.std.specs.declared.ops.Bound.TheVariants.{Included, Excluded, Unbounded};
-    ghost use Rattle.version_ranges.specs.Cut.{cut_cmp, stands_before};
+    ghost use Rattle.version_ranges.specs.Cut.{cut_cmp, is_in_half, is_in_span};
     ghost use Rattle.version_ranges.specs.Ranges.{IsInterval, IsSet};
 
     /// The set between two bounds, which is empty where they leave no point. Only memory can run
@@ -146,8 +146,7 @@ impl<T: Ord + Drop> Ranges<T> {
 
     // The points before a cut where `first` is true, and else those from it on.
     fn half_line(alloc: Global, first: bool, cut: Cut<T>) -> Result<Self, AllocError>
-        ensures set { IfOk result (λ r. IsSet T.cmp r
-            (λ p. if stands_before (λ v. v) T.cmp p cut then first else not first)) }
+        ensures set { IfOk result (λ r. IsSet T.cmp r (is_in_half T.cmp first cut)) }
         ensures bounds { IfOk result (λ r. IsBoundedBy cut.value r) }
     {
         let mut rest = Vec::with_capacity(alloc, 1)?;
@@ -160,8 +159,7 @@ impl<T: Ord + Drop> Ranges<T> {
     // The points from one cut to a later one.
     fn between(alloc: Global, begin: Cut<T>, end: Cut<T>) -> Result<Self, AllocError>
         requires { cut_cmp T.cmp begin end ≡ Less }
-        ensures set { IfOk result (λ r. IsSet T.cmp r (λ p.
-            not (stands_before (λ v. v) T.cmp p begin) && stands_before (λ v. v) T.cmp p end)) }
+        ensures set { IfOk result (λ r. IsSet T.cmp r (is_in_span T.cmp begin end)) }
         ensures bounds { IfOk result (IsBoundedAt (Included begin.value) (Included end.value)) }
     {
         let mut rest = Vec::with_capacity(alloc, 2)?;
@@ -177,7 +175,7 @@ impl<T: Ord + Clone> Ranges<T> {
     ghost use Rattle.std.specs.Prelude.{IfOk};
     ghost use Rattle.std.specs.List.{list_all};
     ghost use Rattle.std.specs.Set.{ClonesAreEqual};
-    ghost use Rattle.version_ranges.specs.Bounds.{HasClonesOf, KeepsBounds, KeepsBoundsOfBoth, all_bounds};
+    ghost use Rattle.version_ranges.specs.Bounds.{IsCloned, KeepsBounds, KeepsBoundsOfBoth, all_bounds};
     ghost use Rattle.version_ranges.specs.Point.{is_one_of, is_value};
     ghost use Rattle.version_ranges.specs.Ranges.{IsComplement, IsIntersection, IsSet, IsUnion};
 
@@ -185,7 +183,7 @@ impl<T: Ord + Clone> Ranges<T> {
     pub fn singleton(alloc: Global, value: T) -> Result<Self, AllocError>
         requires clones { ClonesAreEqual T.eq T.is_clone }
         ensures set { IfOk result (λ r. IsSet T.cmp r (is_value T.cmp value)) }
-        ensures bounds { IfOk result (HasClonesOf T.is_clone (λ test. test) value all_bounds) }
+        ensures bounds { IfOk result (IsCloned T.is_clone (λ test. test) value all_bounds) }
     {
         let lower = value.clone()?;
         Ranges::from_range_bounds(alloc, (Bound::Included(lower), Bound::Included(value)))
@@ -196,7 +194,7 @@ impl<T: Ord + Clone> Ranges<T> {
     pub fn from_points(points: Vec<T>) -> Result<Self, AllocError>
         requires clones { ClonesAreEqual T.eq T.is_clone }
         ensures set { IfOk result (λ r. IsSet T.cmp r (is_one_of T.cmp points.items)) }
-        ensures bounds { IfOk result (HasClonesOf T.is_clone list_all points.items all_bounds) }
+        ensures bounds { IfOk result (IsCloned T.is_clone list_all points.items all_bounds) }
     {
         let mut points = points;
         points.sort()?;

@@ -1,5 +1,5 @@
 //! A walk over the cuts of two functions.
-ghost use Rattle.std.specs.Prelude.{◌≡◌, ◌+◌, ◌<◌, ◌≤◌, [], MatchOption, IfSome};
+ghost use Rattle.std.specs.Prelude.{◌≡◌, ◌+◌, ◌<◌, ◌≤◌, [], IfNone, IfSome};
 ghost use Rattle.version_ranges.specs.Sweep.{Passes, cuts_left, steps_left};
 
 use crate::cut::Cut;
@@ -19,8 +19,8 @@ impl<'a, T: Ord, V, W> Sweep<'a, T, V, W> {
     // Moves past the next cut of either function. Returns the cut, and how many pairs of cuts were
     // compared to find it.
     pub(crate) fn next(&mut self) -> Option<(&'a Cut<T>, usize)>
-        ensures next { MatchOption result (steps_left T.cmp self.old ≡ [])
-            (λ r. Passes T.cmp r.0.now self.old self.new) }
+        ensures end { IfNone result (steps_left T.cmp self.old ≡ []) }
+        ensures next { IfSome result (λ r. Passes T.cmp r.0.now self.old self.new) }
         ensures fewer { IfSome result (λ _. cuts_left self.new < cuts_left self.old) }
         ensures comparisons { IfSome result (λ r. r.1 ≤ 1) }
     {

@@ -42,7 +42,7 @@ invariant_of-result g c =
     let f = c.args.self.now in
     let h = c.args.other.now in
     record {
-      ascending = labelled_ascends o g.met.X.Eq.laws _ _ _ _ (label_end o g.met.X.Eq.laws _ _ _ _ _ _ _ c.loop-cut.invariant.labelled c.in_default-next.ensures.next)
+      ascending = labelled_ascends o g.met.X.Eq.laws _ _ _ _ (label_end o g.met.X.Eq.laws _ _ _ _ _ _ _ c.loop-cut.invariant.labelled c.in_default-next.ensures.end)
           (overlay_ascends o f.first.now f.rest.now h.first.now h.rest.now _ f.ascending h.ascending);
     }
 
@@ -51,7 +51,7 @@ returns-clause-merged g c =
     let o = cut_total g.met.T.Ord.total in
     let f = c.args.self.now in
     let h = c.args.other.now in
-    labelled_merged o g.met.X.Eq.laws _ _ _ _ (label_end o g.met.X.Eq.laws _ _ _ _ _ _ _ c.loop-cut.invariant.labelled c.in_default-next.ensures.next)
+    labelled_merged o g.met.X.Eq.laws _ _ _ _ (label_end o g.met.X.Eq.laws _ _ _ _ _ _ _ c.loop-cut.invariant.labelled c.in_default-next.ensures.end)
     (overlay_ascends o f.first.now f.rest.now h.first.now h.rest.now _ f.ascending h.ascending)
 
 pub returns-clause-value : goal.returns-clause-value
@@ -59,6 +59,6 @@ returns-clause-value g c =
     let o = cut_total g.met.T.Ord.total in
     let f = c.args.self.now in
     let h = c.args.other.now in
-    labelled_value g.met.T.Ord.total g.met.X.Eq.laws _ _ _ _ (label_end o g.met.X.Eq.laws _ _ _ _ _ _ _ c.loop-cut.invariant.labelled c.in_default-next.ensures.next)
+    labelled_value g.met.T.Ord.total g.met.X.Eq.laws _ _ _ _ (label_end o g.met.X.Eq.laws _ _ _ _ _ _ _ c.loop-cut.invariant.labelled c.in_default-next.ensures.end)
     (overlay_ascends o f.first.now f.rest.now h.first.now h.rest.now _ f.ascending h.ascending) _ c.in-Some.ensures.cases.0
     (let e = c.in-Some.ensures.cases.1 in let n = c.requires.count in omega arith)

@@ -30,16 +30,16 @@ loop-cut-preserved-then-next-inside g c = record {
 pub invariant_of-result : goal.invariant_of-result
 invariant_of-result g c =
     let o = cut_total g.met.T.Ord.total in
-    let end = combine_end o (takes c.args.taken) _ _ _ _ _ c.loop-cut.invariant.combined c.in_default.ensures.next in
+    let end = combine_end o (takes c.args.taken) _ _ _ _ _ c.loop-cut.invariant.combined c.in_default.ensures.end in
     record { ascending = combined_ascends o (takes c.args.taken) _ _ _ _ _ _ c.takes-first.ensures end c.args.self.now.cuts.ascending c.args.other.now.cuts.ascending }
 
 pub invariant_of-result-2 : goal.invariant_of-result-2
 invariant_of-result-2 g c =
     let o = cut_total g.met.T.Ord.total in
-    let end = combine_end o (takes c.args.taken) _ _ _ _ _ c.loop-cut.invariant.combined c.in_default.ensures.next in
+    let end = combine_end o (takes c.args.taken) _ _ _ _ _ c.loop-cut.invariant.combined c.in_default.ensures.end in
     record { merged = combined_merged o (takes c.args.taken) _ _ _ _ _ _ c.takes-first.ensures end c.args.self.now.cuts.ascending c.args.other.now.cuts.ascending }
 
 pub returns-clause-set : goal.returns-clause-set
 returns-clause-set g c =
-    let end = combine_end (cut_total g.met.T.Ord.total) (takes c.args.taken) _ _ _ _ _ c.loop-cut.invariant.combined c.in_default.ensures.next in
+    let end = combine_end (cut_total g.met.T.Ord.total) (takes c.args.taken) _ _ _ _ _ c.loop-cut.invariant.combined c.in_default.ensures.end in
     combined_value g.met.T.Ord.total (takes c.args.taken) _ _ _ _ _ _ c.takes-first.ensures end c.args.self.now.cuts.ascending c.args.other.now.cuts.ascending
