@@ -42,7 +42,8 @@ module _ {T V : Type 0} {a : _} {b : _} {c : _} {a' : _} {b' : _} {c' : _}
 
 -- a value is at a place of a list, where key reads it
 abbrev pub IsPlace : {V Q : Type 0} → (V → V → Bool) → (Q → V) → List Q → ℕ → V → Type 0
-IsPlace {Q = Q} same key pairs i v = (q : Q) × (slice_get pairs i ≡ Some q) × (same v (key q) ≡ true)
+IsPlace {Q = Q} same key pairs i v =
+    (q : Q) × (slice_get pairs i ≡ Some q) × (same v (key q) ≡ true)
 
 module _ {T V : Type 0} {a : _} {b : _} {c : _} where
   -- one value inside a set, and another one outside

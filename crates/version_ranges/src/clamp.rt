@@ -41,7 +41,8 @@ fn begins_within<T: Ord>(lower: Bound<&T>, upper: Bound<&T>) -> bool
 impl<T: Ord> Cut<T> {
     // Whether this cut lies after the first point of a range with this lower bound.
     fn is_after_begin(&self, lower: Bound<&T>) -> bool
-        ensures { result ≡ stands_before (λ v. v) T.cmp (begin_point (bound_of lower.entry)) self.now }
+        ensures { result
+            ≡ stands_before (λ v. v) T.cmp (begin_point (bound_of lower.entry)) self.now }
     {
         match lower {
             Bound::Included(first) => self.is_after(first),
