@@ -1,7 +1,8 @@
 -- The sets of versions that version specifiers stand for (PEP 440, "Version specifiers"), as sets
 -- of points. That the release alone counts, without epoch, pre-release, post-release, development
 -- release and local part, is this project's own.
-use Rattle.std.specs.Prelude.{◌≡◌, ◌⊎◌, ⊤, ℕ, ◌+◌, ◌-◌, ◌<◌, ◌==◌, Bool, true, not, List, [], ◌∷◌, length, take, None, Option, Some}
+use Rattle.std.specs.Prelude.{◌≡◌, ◌⊎◌, ⊤, IfErr, OnOk, Result, ℕ, ◌+◌, ◌-◌, ◌<◌, ◌==◌, Bool, true, not, List, [], ◌∷◌, length, take, None, Option, Some}
+use Rattle.std.specs.Borrow.{Bor}
 use Rattle.std.specs.Range.Bound.{bound_map}
 use Rattle.std.specs.declared.cmp.Ordering.TheVariants.{Equal}
 use Rattle.std.specs.declared.ops.Bound.{Bound}
@@ -11,6 +12,7 @@ use Rattle.refusal.specs.declared.Refusal.TheVariants.{OutOfMemory, SegmentAtEnd
 use Rattle.version_ranges.specs.declared.ranges.Ranges.{Ranges}
 use Rattle.version_ranges.specs.Bounds.{all_bounds}
 use Rattle.version_ranges.specs.Point.{Point, is_in_bounds}
+use Rattle.version_ranges.specs.Ranges.{IsSet}
 use Rattle.pep440_version.specs.Order.{trimmed, version_cmp}
 use Rattle.pep440_version.specs.Parts.{Parts, release_only}
 use Rattle.pep440_specifier.specs.declared.operator.Operator.{Operator}
@@ -31,6 +33,10 @@ abbrev pub last_number : List ℕ → Option ℕ
 last_number [] = None
 last_number (x ∷ []) = Some x
 last_number (x ∷ y ∷ r) = last_number (y ∷ r)
+
+-- a bound at a release that is lent
+abbrev pub at_numbers : Bound (Bor (List ℕ)) → Bound (List ℕ)
+at_numbers bound = bound_map (λ r. r.now) bound
 
 -- whether a point lies between two bounds that are releases
 abbrev pub is_between : Bound (List ℕ) → Bound (List ℕ) → Point Parts → Bool
@@ -69,6 +75,11 @@ Overflows o r = IsGreatest (raised_number o r)
 abbrev pub IsRefusal : {E : Type 0} → Type 0 → Refusal E → Type 0
 IsRefusal AtEnd e = (e ≡ OutOfMemory) ⊎ ((e ≡ SegmentAtEnd) × AtEnd)
 
+-- it is given only where nothing overflows, and refused where there is no memory, or where
+-- something does
+abbrev pub RefusedWhere : {T E : Type 0} → Result T (Refusal E) → Type 0 → Type 0
+RefusedWhere result overflow = OnOk result (¬ overflow) × IfErr result (IsRefusal overflow)
+
 -- a bound is at a release with a number
 abbrev pub HasNumbers : Bound (List ℕ) → Type 0
 HasNumbers (Included r) = 0 < length r
@@ -90,3 +101,7 @@ module _ {a : _} {b : _} {c : _} where
   -- each bound of a set is written without zeros at the end of its release
   unfoldable pub HasTrimmedBounds : Ranges Parts a b c → Type 0
   HasTrimmedBounds set = all_bounds is_trimmed set ≡ true
+
+  -- a set has these points
+  abbrev pub HasPoints : (Point Parts → Bool) → Ranges Parts a b c → Type 0
+  HasPoints points set = IsSet version_cmp set points

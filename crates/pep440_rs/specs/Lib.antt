@@ -3,3 +3,4 @@ pub mod Bounds
 pub mod PythonVersion
 pub mod Lists
 pub mod Ends
+pub mod Laws

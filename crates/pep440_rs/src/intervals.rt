@@ -1,6 +1,6 @@
 //! The sets of versions that version specifiers stand for, by the release alone.
 
-ghost use Rattle.std.specs.Prelude.{◌≡◌, ◌<◌, ◌≤◌, ℕ, true, length, IfOk, IfErr, OnOk};
+ghost use Rattle.std.specs.Prelude.{◌≡◌, ◌<◌, ◌≤◌, ℕ, true, length, IfOk};
 ghost use Rattle.std.specs.Range.Bound.{bound_map};
 ghost use Rattle.std.specs.declared.cmp.Ordering.TheVariants.{Equal};
 ghost use Rattle.std.specs.declared.ops.Bound.TheVariants.{Included, Excluded};
@@ -8,7 +8,7 @@ ghost use Rattle.version_ranges.specs.Bounds.{passes_at};
 ghost use Rattle.version_ranges.specs.Ranges.{IsComplement, IsSet};
 ghost use Rattle.pep440_version.specs.Order.{trimmed, version_cmp};
 ghost use Rattle.pep440_version.specs.Parts.{release_only};
-ghost use Rattle.pep440_rs.specs.Intervals.{HasNumbers, HasTrimmedBounds, Overflows, IsGreatest, IsRefusal, IsSameBound, is_between, is_in, is_trimmed, last_number, raised};
+ghost use Rattle.pep440_rs.specs.Intervals.{HasNumbers, HasPoints, HasTrimmedBounds, IsGreatest, IsSameBound, Overflows, RefusedWhere, at_numbers, is_between, is_in, is_trimmed, last_number, raised};
 
 use pep440_specifier::{Operator, VersionSpecifier};
 use pep440_version::{Refusal, Version};
@@ -24,16 +24,16 @@ fn trimmed_version(alloc: Global, release: &[u64]) -> Result<Version, AllocError
     ensures same { IfOk result (λ v. version_cmp v (release_only release.now) ≡ Equal) }
     ensures trimmed { IfOk result (λ v. is_trimmed v ≡ true) }
 {
-    Version::new(alloc, release)?.without_trailing_zeros()
+    Version::new_trimmed(alloc, release)
 }
 
 // A bound at these release numbers.
 fn release_bound(alloc: Global, bound: Bound<&[u64]>) -> Result<Bound<Version>, AllocError>
-    requires { HasNumbers (bound_map (λ r. r.now) bound) }
+    requires { HasNumbers (at_numbers bound) }
     ensures value { IfOk result (λ b.
         b ≡ bound_map (λ r. release_only (trimmed r.now)) bound.entry) }
     ensures same { IfOk result (λ b. IsSameBound b
-        (bound_map release_only (bound_map (λ r. r.now) bound.entry))) }
+        (bound_map release_only (at_numbers bound.entry))) }
     ensures trimmed { IfOk result (λ b. passes_at is_trimmed b ≡ true) }
 {
     match bound {
@@ -49,10 +49,10 @@ pub(crate) fn between(
     lower: Bound<&[u64]>,
     upper: Bound<&[u64]>,
 ) -> Result<Ranges<Version>, AllocError>
-    requires lower { HasNumbers (bound_map (λ r. r.now) lower) }
-    requires upper { HasNumbers (bound_map (λ r. r.now) upper) }
-    ensures set { IfOk result (λ r. IsSet version_cmp r (is_between
-        (bound_map (λ r. r.now) lower.entry) (bound_map (λ r. r.now) upper.entry))) }
+    requires lower { HasNumbers (at_numbers lower) }
+    requires upper { HasNumbers (at_numbers upper) }
+    ensures set { IfOk result (HasPoints
+        (is_between (at_numbers lower.entry) (at_numbers upper.entry))) }
     ensures bounds { IfOk result HasTrimmedBounds }
 {
     let lower = release_bound(alloc, lower)?;
@@ -77,8 +77,7 @@ fn raise(alloc: Global, release: &[u64]) -> Result<Vec<u64>, Refusal<Infallible>
     requires { 0 < length release.now }
     ensures value { IfOk result (λ r. r.items ≡ raised release.now) }
     ensures some { IfOk result (λ r. 0 < length r.items) }
-    ensures no_overflow { OnOk result (¬ IsGreatest (last_number release.now)) }
-    ensures err { IfErr result (λ e. IsRefusal (IsGreatest (last_number release.now)) e) }
+    ensures refused { RefusedWhere result (IsGreatest (last_number release.now)) }
 {
     let last = release.len() - 1;
     let Some(next) = release[last].checked_add(1) else {
@@ -97,11 +96,10 @@ fn up_to_raised(
 ) -> Result<Ranges<Version>, Refusal<Infallible>>
     requires release { 0 < length release.now }
     requires prefix { 0 < length prefix.now }
-    ensures set { IfOk result (λ r. IsSet version_cmp r
+    ensures set { IfOk result (HasPoints
         (is_between (Included release.now) (Excluded (raised prefix.now)))) }
     ensures bounds { IfOk result HasTrimmedBounds }
-    ensures no_overflow { OnOk result (¬ IsGreatest (last_number prefix.now)) }
-    ensures err { IfErr result (λ e. IsRefusal (IsGreatest (last_number prefix.now)) e) }
+    ensures refused { RefusedWhere result (IsGreatest (last_number prefix.now)) }
 {
     let end = raise(alloc, prefix)?;
     let range = between(alloc, Bound::Included(release), Bound::Excluded(&end))?;
@@ -116,10 +114,9 @@ pub(crate) fn release_to_range(
 ) -> Result<Ranges<Version>, Refusal<Infallible>>
     requires some { 0 < length release.now }
     requires compatible { operator ≡ Operator.TildeEqual → 2 ≤ length release.now }
-    ensures set { IfOk result (λ r. IsSet version_cmp r (is_in operator release.now)) }
+    ensures set { IfOk result (HasPoints (is_in operator release.now)) }
     ensures bounds { IfOk result HasTrimmedBounds }
-    ensures no_overflow { OnOk result (¬ Overflows operator release.now) }
-    ensures err { IfErr result (λ e. IsRefusal (Overflows operator release.now) e) }
+    ensures refused { RefusedWhere result (Overflows operator release.now) }
 {
     let included = Bound::Included(release);
     let excluded = Bound::Excluded(release);
@@ -150,15 +147,11 @@ pub fn release_specifier_to_range(
     alloc: Global,
     specifier: &VersionSpecifier,
 ) -> Result<Ranges<Version>, Refusal<Infallible>>
-    ensures set { IfOk result (λ r. IsSet version_cmp r
+    ensures set { IfOk result (HasPoints
         (is_in specifier.now.operator specifier.now.version.release)) }
     ensures bounds { IfOk result HasTrimmedBounds }
-
-    // Only where the largest number would be raised is there none.
-    ensures no_overflow { OnOk result
-        (¬ Overflows specifier.now.operator specifier.now.version.release) }
-    ensures err { IfErr result (λ e. IsRefusal
-        (Overflows specifier.now.operator specifier.now.version.release) e) }
+    ensures refused { RefusedWhere result
+        (Overflows specifier.now.operator specifier.now.version.release) }
 {
     release_to_range(alloc, specifier.operator(), specifier.version().release())
 }

@@ -1,25 +1,24 @@
 //! Laws of the sets. A call of one does nothing: what it promises is its contract.
 
-ghost use Rattle.std.specs.Prelude.{◌≡◌, ◌<◌, ◌↔◌, ℕ, List, Some, length, not, true};
+ghost use Rattle.std.specs.Prelude.{◌≡◌, ◌<◌, ◌↔◌, ℕ, List, length, true};
 ghost use Rattle.std.specs.Borrow.{Bor};
 ghost use Rattle.std.specs.List.{AllByRecursion, list_all};
 ghost use Rattle.std.specs.Set.{ClonesAreEqual};
 ghost use Rattle.std.specs.declared.cmp.Ordering.TheVariants.{Equal};
 ghost use Rattle.std.specs.declared.ops.Bound.{Bound};
-ghost use Rattle.version_ranges.specs.Alike.{AreAlike};
 ghost use Rattle.version_ranges.specs.Bounds.{passes_at_both};
 ghost use Rattle.version_ranges.specs.Intervals.{intervals_of};
 ghost use Rattle.version_ranges.specs.Point.{Point};
 ghost use Rattle.pep440_specifier.specs.Bounds.{bound_specifiers};
-ghost use Rattle.pep440_specifier.specs.Operator.{negated};
 ghost use Rattle.pep440_specifier.specs.Order.{specifier_cmp};
 ghost use Rattle.pep440_specifier.specs.Specifier.{Specifier};
 ghost use Rattle.pep440_specifier.specs.declared.operator.Operator.{Operator};
 ghost use Rattle.pep440_version.specs.Order.{trimmed_parts, version_cmp};
 ghost use Rattle.pep440_version.specs.Parts.{Parts};
-ghost use Rattle.pep440_rs.specs.Bounds.{is_in_all, is_release, is_within, IsAtRelease, IsAtValid, IsRelease};
+ghost use Rattle.pep440_rs.specs.Bounds.{IsAtRelease, IsAtValid, IsRelease, is_release};
 ghost use Rattle.pep440_rs.specs.Ends.{IsReleasePoint, ends_of, python_ends_of};
 ghost use Rattle.pep440_rs.specs.Intervals.{HasTrimmedBounds, Overflows, is_in, is_trimmed};
+ghost use Rattle.pep440_rs.specs.Laws.{ChangesAtEnds, IsRangeAt, NegationIsComplement, StandAlike};
 ghost use Rattle.pep440_rs.specs.PythonVersion.{python_is_in};
 
 use pep440_version::Version;
@@ -27,10 +26,8 @@ use version_ranges::Ranges;
 
 /// A negated operator stands for the versions that the operator does not stand for.
 pub fn negated_operator_is_complement()
-    ensures release { (o n : Operator) (r : List ℕ) (p : Point Parts)
-        → negated o ≡ Some n → is_in n r p ≡ not (is_in o r p) }
-    ensures python_version { (o n : Operator) (r : List ℕ) (p : Point Parts)
-        → negated o ≡ Some n → python_is_in n r p ≡ not (python_is_in o r p) }
+    ensures release { NegationIsComplement is_in }
+    ensures python_version { NegationIsComplement python_is_in }
 {}
 
 /// A clone of a version is equal to it, as sets of versions ask.
@@ -42,8 +39,7 @@ pub fn version_clones_are_equal()
 /// specifier of the range.
 pub fn range_is_its_specifiers()
     ensures { (lower upper : Bound (Bor Parts)) (p : Point Parts)
-        → IsAtRelease lower → IsAtRelease upper
-        → is_in_all (bound_specifiers lower upper) p ≡ is_within lower upper p }
+        → IsAtRelease lower → IsAtRelease upper → IsRangeAt lower upper p }
 {}
 
 /// Equal versions with release numbers are written alike, without the zeros at the end of their
@@ -65,12 +61,10 @@ pub fn trimmed_bounds_have_no_zeros(set: &Ranges<Version>)
 
 /// Specifiers that are equal stand for one set, and so do their comparisons of `python_version`.
 pub fn equal_specifiers_stand_for_one_set()
-    ensures release { (s t : Specifier) → specifier_cmp s t ≡ Equal → (p : Point Parts)
-        → is_in s.operator s.version.release p ≡ is_in t.operator t.version.release p }
+    ensures release { (s t : Specifier) → specifier_cmp s t ≡ Equal → StandAlike is_in s t }
     ensures python_version { (s t : Specifier) → specifier_cmp s t ≡ Equal
-        → 0 < length s.version.release → 0 < length t.version.release → (p : Point Parts)
-        → python_is_in s.operator s.version.release p
-        ≡ python_is_in t.operator t.version.release p }
+        → 0 < length s.version.release → 0 < length t.version.release
+        → StandAlike python_is_in s t }
 {}
 
 /// The specifiers of a range raise nothing past 64 bits: where a star stands for two bounds, the
@@ -91,10 +85,8 @@ pub fn versions_tied_with_releases_are_releases()
 /// What the set of a specifier answers at a point changes only at its ends, which stand at
 /// releases: two points that stand before the same of them are both in the set, or neither is.
 pub fn sets_change_at_their_ends()
-    ensures release { (o : Operator) (r : List ℕ) (p q : Point Parts)
-        → AreAlike version_cmp p q (ends_of o r) → is_in o r p ≡ is_in o r q }
-    ensures python_version { (o : Operator) (r : List ℕ) (p q : Point Parts)
-        → AreAlike version_cmp p q (python_ends_of o r) → python_is_in o r p ≡ python_is_in o r q }
+    ensures release { ChangesAtEnds is_in ends_of }
+    ensures python_version { ChangesAtEnds python_is_in python_ends_of }
     ensures ends { (o : Operator) (r : List ℕ) → AllByRecursion IsReleasePoint (ends_of o r)
         × AllByRecursion IsReleasePoint (python_ends_of o r) }
 {}

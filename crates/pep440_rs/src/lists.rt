@@ -6,7 +6,7 @@ ghost use Rattle.version_ranges.specs.Point.{Point};
 ghost use Rattle.version_ranges.specs.Ranges.{contains_point, IsSet};
 ghost use Rattle.pep440_version.specs.Order.{trimmed_parts, version_cmp};
 ghost use Rattle.pep440_version.specs.Parts.{Parts};
-ghost use Rattle.pep440_rs.specs.Intervals.{HasTrimmedBounds, IsRefusal, is_trimmed};
+ghost use Rattle.pep440_rs.specs.Intervals.{HasPoints, HasTrimmedBounds, IsRefusal, RefusedWhere, is_trimmed};
 ghost use Rattle.pep440_rs.specs.Lists.{ListOverflows, has_long, is_in_or_not, is_listed, is_minor_listed, raises_greatest};
 ghost use Rattle.pep440_rs.specs.PythonVersion.{is_in_minor};
 
@@ -41,8 +41,7 @@ pub fn version_list_to_range(
     versions: &[Version],
     negated: bool,
 ) -> Result<Ranges<Version>, AllocError>
-    ensures set { IfOk result (λ r. IsSet version_cmp r
-        (λ p. is_in_or_not negated (is_listed versions.now p))) }
+    ensures set { IfOk result (HasPoints (λ p. is_in_or_not negated (is_listed versions.now p))) }
     ensures bounds { IfOk result HasTrimmedBounds }
 {
     let listed = listed_versions(alloc, versions)?;
@@ -55,7 +54,7 @@ pub fn version_list_to_range(
 
 // The listed versions.
 fn listed_versions(alloc: Global, versions: &[Version]) -> Result<Ranges<Version>, AllocError>
-    ensures set { IfOk result (λ r. IsSet version_cmp r (is_listed versions.now)) }
+    ensures set { IfOk result (HasPoints (is_listed versions.now)) }
     ensures bounds { IfOk result HasTrimmedBounds }
 {
     let trimmed = trimmed_versions(alloc, versions)?;
@@ -78,7 +77,7 @@ fn either(
 ) -> Result<Ranges<Version>, AllocError>
     requires left { HasTrimmedBounds left.now }
     requires right { HasTrimmedBounds right.now }
-    ensures set { IfOk result (λ r. IsSet version_cmp r
+    ensures set { IfOk result (HasPoints
         (λ p. contains_point version_cmp left.now p || contains_point version_cmp right.now p)) }
     ensures bounds { IfOk result HasTrimmedBounds }
 {
@@ -91,11 +90,11 @@ fn minors_to_range(
     alloc: Global,
     versions: &[Version],
 ) -> Result<Ranges<Version>, Refusal<Infallible>>
-    ensures set { IfOk result (λ r. IsSet version_cmp r
+    ensures set { IfOk result (HasPoints
         (λ p. list_any (λ v. is_in_minor v.release p) versions.now)) }
     ensures bounds { IfOk result HasTrimmedBounds }
     ensures no_overflow { OnOk result (raises_greatest versions.now ≡ false) }
-    ensures err { IfErr result (λ e. IsRefusal (raises_greatest versions.now ≡ true) e) }
+    ensures refused { IfErr result (IsRefusal (raises_greatest versions.now ≡ true)) }
 {
     match versions {
         [] => Ok(Ranges::empty(alloc)),
@@ -114,10 +113,9 @@ fn listed_minors(
     alloc: Global,
     versions: &[Version],
 ) -> Result<Ranges<Version>, Refusal<Infallible>>
-    ensures set { IfOk result (λ r. IsSet version_cmp r (is_minor_listed versions.now)) }
+    ensures set { IfOk result (HasPoints (is_minor_listed versions.now)) }
     ensures bounds { IfOk result HasTrimmedBounds }
-    ensures no_overflow { OnOk result (¬ ListOverflows versions.now) }
-    ensures err { IfErr result (λ e. IsRefusal (ListOverflows versions.now) e) }
+    ensures refused { RefusedWhere result (ListOverflows versions.now) }
 {
     if has_long(versions) {
         return Ok(Ranges::empty(alloc));
@@ -139,13 +137,10 @@ pub fn python_version_list_to_range(
     versions: &[Version],
     negated: bool,
 ) -> Result<Ranges<Version>, Refusal<Infallible>>
-    ensures set { IfOk result (λ r. IsSet version_cmp r
+    ensures set { IfOk result (HasPoints
         (λ p. is_in_or_not negated (is_minor_listed versions.now p))) }
     ensures bounds { IfOk result HasTrimmedBounds }
-
-    // Only where the largest number would be raised is there none.
-    ensures no_overflow { OnOk result (¬ ListOverflows versions.now) }
-    ensures err { IfErr result (λ e. IsRefusal (ListOverflows versions.now) e) }
+    ensures refused { RefusedWhere result (ListOverflows versions.now) }
 {
     let listed = listed_minors(alloc, versions)?;
     if negated {

@@ -1,11 +1,11 @@
 //! The sets of full versions of Python that comparisons of `python_version` stand for.
 
-ghost use Rattle.std.specs.Prelude.{◌≡◌, ◌<◌, ◌≤◌, ◌&&◌, ℕ, None, get_or, length, not, IfErr, IfOk, OnOk};
+ghost use Rattle.std.specs.Prelude.{◌≡◌, ◌<◌, ◌≤◌, ◌&&◌, ℕ, None, get_or, length, not, IfErr, IfOk};
 ghost use Rattle.std.specs.declared.ops.Bound.TheVariants.{Excluded, Included, Unbounded};
 ghost use Rattle.refusal.specs.declared.Refusal.TheVariants.{OutOfMemory};
 ghost use Rattle.version_ranges.specs.Ranges.{IsSet};
 ghost use Rattle.pep440_version.specs.Order.{trimmed as trimmed_of, version_cmp};
-ghost use Rattle.pep440_rs.specs.Intervals.{HasTrimmedBounds, IsGreatest, IsRefusal, is_between, is_in, raised_number};
+ghost use Rattle.pep440_rs.specs.Intervals.{HasPoints, HasTrimmedBounds, IsGreatest, RefusedWhere, is_between, is_in, raised_number};
 ghost use Rattle.pep440_rs.specs.PythonVersion.{PythonOverflows, first_minor, has_more, is_in_minor, is_same_minor, minor_raised, minor_release, next_minor, python_is_in, raised_by};
 
 use crate::intervals::{between, outside, release_to_range};
@@ -40,8 +40,7 @@ fn minor_release(release: &[u64]) -> [u64; 2]
 // `M.(m+1)` of a release.
 fn next_minor(release: &[u64]) -> Result<[u64; 2], Refusal<Infallible>>
     ensures value { IfOk result (λ next. next ≡ next_minor release.now) }
-    ensures no_overflow { OnOk result (¬ IsGreatest (minor_raised release.now)) }
-    ensures err { IfErr result (λ e. IsRefusal (IsGreatest (minor_raised release.now)) e) }
+    ensures refused { RefusedWhere result (IsGreatest (minor_raised release.now)) }
 {
     let Some(next) = number_at(release, 1).checked_add(1) else {
         return Err(Refusal::SegmentAtEnd);
@@ -52,10 +51,8 @@ fn next_minor(release: &[u64]) -> Result<[u64; 2], Refusal<Infallible>>
 // The first `M.m` that is not below a release.
 fn first_minor(release: &[u64]) -> Result<[u64; 2], Refusal<Infallible>>
     ensures value { IfOk result (λ first. first ≡ first_minor release.now) }
-    ensures no_overflow { OnOk result
-        (¬ IsGreatest (raised_by release.now None (minor_raised release.now))) }
-    ensures err { IfErr result (λ e. IsRefusal
-        (IsGreatest (raised_by release.now None (minor_raised release.now))) e) }
+    ensures refused { RefusedWhere result
+        (IsGreatest (raised_by release.now None (minor_raised release.now))) }
 {
     if has_more(release) {
         next_minor(release)
@@ -69,10 +66,9 @@ pub(crate) fn minor_to_range(
     alloc: Global,
     release: &[u64],
 ) -> Result<Ranges<Version>, Refusal<Infallible>>
-    ensures set { IfOk result (λ r. IsSet version_cmp r (is_in_minor release.now)) }
+    ensures set { IfOk result (HasPoints (is_in_minor release.now)) }
     ensures bounds { IfOk result HasTrimmedBounds }
-    ensures no_overflow { OnOk result (¬ IsGreatest (minor_raised release.now)) }
-    ensures err { IfErr result (λ e. IsRefusal (IsGreatest (minor_raised release.now)) e) }
+    ensures refused { RefusedWhere result (IsGreatest (minor_raised release.now)) }
 {
     let minor = minor_release(release);
     let next = next_minor(release)?;
@@ -85,12 +81,10 @@ fn same_minor_to_range(
     alloc: Global,
     release: &[u64],
 ) -> Result<Ranges<Version>, Refusal<Infallible>>
-    ensures set { IfOk result (λ r. IsSet version_cmp r (is_same_minor release.now)) }
+    ensures set { IfOk result (HasPoints (is_same_minor release.now)) }
     ensures bounds { IfOk result HasTrimmedBounds }
-    ensures no_overflow { OnOk result
-        (¬ IsGreatest (raised_by release.now (minor_raised release.now) None)) }
-    ensures err { IfErr result (λ e. IsRefusal
-        (IsGreatest (raised_by release.now (minor_raised release.now) None)) e) }
+    ensures refused { RefusedWhere result
+        (IsGreatest (raised_by release.now (minor_raised release.now) None)) }
 {
     if has_more(release) {
         return Ok(Ranges::empty(alloc));
@@ -107,13 +101,11 @@ fn written_to_range(
 ) -> Result<Ranges<Version>, Refusal<Infallible>>
     requires some { 0 < length release.now }
     requires compatible { operator ≡ Operator.TildeEqual → 2 ≤ length release.now }
-    ensures set { IfOk result (λ r. IsSet version_cmp r
+    ensures set { IfOk result (HasPoints
         (λ p. not (has_more release.now) && is_in operator release.now p)) }
     ensures bounds { IfOk result HasTrimmedBounds }
-    ensures no_overflow { OnOk result
-        (¬ IsGreatest (raised_by release.now (raised_number operator release.now) None)) }
-    ensures err { IfErr result (λ e. IsRefusal
-        (IsGreatest (raised_by release.now (raised_number operator release.now) None)) e) }
+    ensures refused { RefusedWhere result
+        (IsGreatest (raised_by release.now (raised_number operator release.now) None)) }
 {
     if has_more(release) {
         return Ok(Ranges::empty(alloc));
@@ -123,10 +115,9 @@ fn written_to_range(
 
 // The full versions from `M.m` on.
 fn from_minor(alloc: Global, minor: [u64; 2]) -> Result<Ranges<Version>, Refusal<Infallible>>
-    ensures set { IfOk result (λ r. IsSet version_cmp r
-        (is_between (Included minor) Unbounded)) }
+    ensures set { IfOk result (HasPoints (is_between (Included minor) Unbounded)) }
     ensures bounds { IfOk result HasTrimmedBounds }
-    ensures err { IfErr result (λ e. e ≡ OutOfMemory) }
+    ensures refused { IfErr result (λ e. e ≡ OutOfMemory) }
 {
     let range = between(alloc, Bound::Included(&minor), Bound::Unbounded)?;
     Ok(range)
@@ -134,10 +125,9 @@ fn from_minor(alloc: Global, minor: [u64; 2]) -> Result<Ranges<Version>, Refusal
 
 // The full versions below `M.m`.
 fn below_minor(alloc: Global, minor: [u64; 2]) -> Result<Ranges<Version>, Refusal<Infallible>>
-    ensures set { IfOk result (λ r. IsSet version_cmp r
-        (is_between Unbounded (Excluded minor))) }
+    ensures set { IfOk result (HasPoints (is_between Unbounded (Excluded minor))) }
     ensures bounds { IfOk result HasTrimmedBounds }
-    ensures err { IfErr result (λ e. e ≡ OutOfMemory) }
+    ensures refused { IfErr result (λ e. e ≡ OutOfMemory) }
 {
     let range = between(alloc, Bound::Unbounded, Bound::Excluded(&minor))?;
     Ok(range)
@@ -153,10 +143,9 @@ fn python_to_range(
     requires some { 0 < length release.now }
     requires compatible { operator ≡ Operator.TildeEqual → 2 ≤ length release.now }
     requires trimmed { trimmed.now ≡ trimmed_of release.now }
-    ensures set { IfOk result (λ r. IsSet version_cmp r (python_is_in operator release.now)) }
+    ensures set { IfOk result (HasPoints (python_is_in operator release.now)) }
     ensures bounds { IfOk result HasTrimmedBounds }
-    ensures no_overflow { OnOk result (¬ PythonOverflows operator release.now) }
-    ensures err { IfErr result (λ e. IsRefusal (PythonOverflows operator release.now) e) }
+    ensures refused { RefusedWhere result (PythonOverflows operator release.now) }
 {
     match operator {
         Operator::Equal | Operator::ExactEqual => same_minor_to_range(alloc, trimmed),
@@ -189,15 +178,11 @@ pub fn python_version_specifier_to_range(
     alloc: Global,
     specifier: &VersionSpecifier,
 ) -> Result<Ranges<Version>, Refusal<Infallible>>
-    ensures set { IfOk result (λ r. IsSet version_cmp r
+    ensures set { IfOk result (HasPoints
         (python_is_in specifier.now.operator specifier.now.version.release)) }
     ensures bounds { IfOk result HasTrimmedBounds }
-
-    // Only where the largest number would be raised is there none.
-    ensures no_overflow { OnOk result
-        (¬ PythonOverflows specifier.now.operator specifier.now.version.release) }
-    ensures err { IfErr result (λ e. IsRefusal
-        (PythonOverflows specifier.now.operator specifier.now.version.release) e) }
+    ensures refused { RefusedWhere result
+        (PythonOverflows specifier.now.operator specifier.now.version.release) }
 {
     let version = specifier.version();
     python_to_range(

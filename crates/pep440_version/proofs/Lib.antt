@@ -2,11 +2,13 @@ pub mod Padded
 pub mod Segments
 pub mod Clones
 pub mod Readers
+pub mod Cases
 pub mod Sound
 pub mod Complete
 pub mod Text
 pub mod Patterns
 pub mod Valid
+pub mod Heads
 pub mod ReadBack
 pub mod Trimmed
 pub mod Plain

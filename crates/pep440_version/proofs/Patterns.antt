@@ -1,12 +1,14 @@
 -- Patterns are read exactly as the grammar has them.
 use Rattle.std.proofs.Common.{◌≡◌, ◌==◌, ◌++◌, ℕ, Bool, Option, Some, None, List, [], ◌∷◌, refl, sym, ap, ◌∙◌, inl, inr, true, false, subst}
-use Rattle.std.specs.Prelude.{codes}
+use Rattle.std.specs.Prelude.{IfNone, IfSome, codes}
+use Rattle.std.specs.Str.{trim}
 use Rattle.std.proofs.lemmas.Bool.{cases_Bool, eqb-true}
 use Rattle.pep440_version.specs.declared.version.Prerelease.{Prerelease}
 use Rattle.pep440_version.specs.declared.version.PrereleaseKind.{PrereleaseKind}
+use Rattle.pep440_version.specs.declared.pattern.VersionPattern.{VersionPattern}
 use Rattle.pep440_version.specs.Parts.{Parts, Segment}
-use Rattle.pep440_version.specs.Grammar.{IsDev, IsEpoch, IsLocal, IsMark, IsPattern, IsPost, IsPostWord, IsPre, IsPreWord, IsRelease, IsSeparator, IsVersion, dash, dashed, dev, dot, left_out, long_alpha, long_beta, no_dev, no_local, no_post, no_pre, plain, plus, post, pre, short_alpha, short_beta, starred, starred_parts, underscore, version, word_c, word_post, word_pre, word_preview, word_r, word_rc, word_rev}
-use Rattle.pep440_version.specs.Reading.{after_mark, epoch_at, is_asterisk, is_end, is_star, pattern_at, release_at, star_at, star_of, tagged_parts, version_at}
+use Rattle.pep440_version.specs.Grammar.{IsDev, IsEpoch, IsLocal, IsMark, IsPattern, IsPatternText, IsPost, IsPostWord, IsPre, IsPreWord, IsRelease, IsSeparator, IsVersion, IsVersionText, dash, dashed, dev, dot, left_out, long_alpha, long_beta, no_dev, no_local, no_post, no_pre, plain, plus, post, pre, short_alpha, short_beta, starred, starred_parts, underscore, version, word_c, word_post, word_pre, word_preview, word_r, word_rc, word_rev}
+use Rattle.pep440_version.specs.Reading.{after_mark, epoch_at, is_asterisk, is_end, is_star, lower, pattern_at, pattern_view, release_at, star_at, star_of, tagged_parts, version_at}
 use Rattle.pep440_version.proofs.Complete.{AfterRelease, after-version, epoch-again, epoch-digit, mark-again, regroup, release-again, release-digit, version-again}
 use Rattle.pep440_version.proofs.Sound.{epoch-sound, mark-sound, or-cases, release-sound, some-value, version-sound}
 
@@ -141,3 +143,40 @@ pub pattern-again : (t : List ℕ) (v : Parts) (b : Bool) → IsPattern t v b �
 unfolding pattern_at
 pattern-again t v b (plain h) = rw (no_star t v h, version-again t v h) refl
 pattern-again t v b (starred {m = m} {e = e} {r = r} {n = n} {ns = ns} is_m is_e is_r) = rw (star-again m e r n ns is_m is_e is_r) refl
+
+-- ---- a text says one
+
+pub one_version : (t : List ℕ) (v w : Parts) → IsVersion t v → IsVersion t w → v ≡ w
+one_version t v w h k = some-value _ _ (sym (version-again t v h) ∙ version-again t w k)
+
+pub one_pattern : (t : List ℕ) (v w : Parts) (b d : Bool) → IsPattern t v b → IsPattern t w d → (v ≡ w) × (b ≡ d)
+one_pattern t v w b d h k =
+    let same = some-value _ _ (sym (pattern-again t v b h) ∙ pattern-again t w d k) in
+    (ap (λ (p : Parts × Bool). p.0) same, ap (λ (p : Parts × Bool). p.1) same)
+
+-- ---- what a text says is read, and nothing else
+
+-- t is the text without the white space around it
+
+pub version-found : (text t : List ℕ) → t ≡ trim text → (o : Option Parts) → o ≡ version_at (lower t) → IfSome o (IsVersionText text)
+version-found text t e None h = tt
+version-found text t e (Some v) h =
+    version-sound (lower (trim text)) v (sym (h ∙ ap (λ (z : List ℕ). version_at (lower z)) e))
+
+pub version-missing : (text t : List ℕ) → t ≡ trim text → (o : Option Parts) → o ≡ version_at (lower t)
+    → IfNone o ((v : Parts) → ¬ IsVersionText text v)
+version-missing text t e None h = λ v says.
+    cc (h ∙ ap (λ (z : List ℕ). version_at (lower z)) e ∙ version-again (lower (trim text)) v says)
+version-missing text t e (Some v) h = tt
+
+pub pattern-found : (text t : List ℕ) → t ≡ trim text → (o : Option VersionPattern) → pattern_view o ≡ pattern_at (lower t)
+    → IfSome o (λ p. IsPatternText text p.version p.wildcard)
+pattern-found text t e None h = tt
+pattern-found text t e (Some p) h =
+    pattern-sound (lower (trim text)) p.version p.wildcard (sym (h ∙ ap (λ (z : List ℕ). pattern_at (lower z)) e))
+
+pub pattern-missing : (text t : List ℕ) → t ≡ trim text → (o : Option VersionPattern) → pattern_view o ≡ pattern_at (lower t)
+    → IfNone o ((v : Parts) (star : Bool) → ¬ IsPatternText text v star)
+pattern-missing text t e None h = λ v star says.
+    cc (h ∙ ap (λ (z : List ℕ). pattern_at (lower z)) e ∙ pattern-again (lower (trim text)) v star says)
+pattern-missing text t e (Some p) h = tt

@@ -397,7 +397,7 @@ mark-sound (b ∷ rest) = elim (cases_Bool (b == 118)) [
   | inr other ↦ ([], no_mark, rw other refl)
 ]
 
-finish-sound : (e : ℕ) (r : List ℕ) (p : Option Prerelease) (q d : Option ℕ) (o : Option (List Segment)) (v : Parts) → finish e r p q d o ≡ Some v
+pub finish-sound : (e : ℕ) (r : List ℕ) (p : Option Prerelease) (q d : Option ℕ) (o : Option (List Segment)) (v : Parts) → finish e r p q d o ≡ Some v
     → (ls : List Segment) × (o ≡ Some ls) × (e ≡ v.epoch) × (r ≡ v.release) × (p ≡ v.pre) × (q ≡ v.post) × (d ≡ v.dev) × (ls ≡ v.locals)
 finish-sound e r p q d None v h = cc h
 finish-sound e r p q d (Some ls) v h =

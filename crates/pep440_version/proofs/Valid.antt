@@ -1,23 +1,18 @@
 -- The parts that the grammar gives a text are those of a version.
-use Rattle.std.proofs.Common.{◌≡◌, ◌<◌, ℕ, sym, true, Option, Some, List, length, arith, Bool}
+use Rattle.std.proofs.Common.{◌≡◌, ◌<◌, ℕ, sym, subst, Option, Some, List, length, arith, Bool}
 use Rattle.std.specs.List.{AllByRecursion}
 use Rattle.pep440_version.specs.declared.version.Prerelease.{Prerelease}
 use Rattle.pep440_version.specs.Parts.{Parts, Segment}
-use Rattle.pep440_version.specs.Grammar.{IsDev, IsEpoch, IsLocal, IsNumbering, IsPattern, IsPost, IsPre, IsRelease, IsSegment, IsSegments, IsVersion, bare, before, dashed, dev, epoch, last, last_segment, no_dev, no_epoch, no_local, no_post, no_pre, numeric, plus, post, pre, plain, segment_before, starred, textual, version, written}
-use Rattle.pep440_version.specs.Reading.{star_at, version_at}
-use Rattle.pep440_version.specs.Valid.{Fits, FitsIfSome, IsValid, PrereleaseFits, SegmentIsValid}
-use Rattle.pep440_version.proofs.Patterns.{star-sound}
-use Rattle.pep440_version.proofs.Sound.{version-sound}
+use Rattle.pep440_version.specs.Grammar.{IsDev, IsLocal, IsNumbering, IsPost, IsPre, IsRelease, IsSegment, IsSegments, bare, before, dashed, dev, last, last_segment, no_dev, no_local, no_post, no_pre, numeric, plus, post, pre, segment_before, starred_parts, textual, written}
+use Rattle.pep440_version.specs.Reading.{after_release, dev_at, post_at, pre_at}
+use Rattle.pep440_version.specs.Valid.{AreNumbers, Fits, FitsIfSome, IsValid, PrereleaseFits, SegmentIsValid}
+use Rattle.pep440_version.proofs.Sound.{dev-sound, finish-sound, locals-sound, post-sound, pre-sound}
 
 numbering-fits : {t : List ℕ} {n : ℕ} {b : Bool} → IsNumbering t n b → Fits n
 numbering-fits bare = omega arith
 numbering-fits (written s num) = num.fits
 
-epoch-fits : {t : List ℕ} {n : ℕ} → IsEpoch t n → Fits n
-epoch-fits no_epoch = omega arith
-epoch-fits (epoch num) = num.fits
-
-release-fits : {t ns : List ℕ} → IsRelease t ns → (0 < length ns) × AllByRecursion Fits ns
+pub release-fits : {t ns : List ℕ} → IsRelease t ns → (0 < length ns) × AllByRecursion Fits ns
 release-fits (last num) = (omega arith, (num.fits, tt))
 release-fits (before num more) = (omega arith, (num.fits, (release-fits more).1))
 
@@ -46,32 +41,32 @@ local-valid : {t : List ℕ} {ss : List Segment} → IsLocal t ss → AllByRecur
 local-valid no_local = tt
 local-valid (plus h) = segments-valid h
 
-version-valid : (t : List ℕ) (v : Parts) → IsVersion t v → IsValid v
-version-valid t v (version is_m is_e is_r is_p is_q is_d is_l) = record {
-  epoch = epoch-fits is_e;
-  some = (release-fits is_r).0;
-  release = (release-fits is_r).1;
-  pre = pre-fits is_p;
-  post = post-fits is_q;
-  dev = dev-fits is_d;
-  locals = local-valid is_l;
-}
+-- what is read of the suffixes of a version is valid
+pub suffixes-valid : (e : ℕ) (ns t : List ℕ) (v : Parts) → Fits e → AreNumbers ns
+    → Some v ≡ after_release e (Some (ns, t)) → IsValid v
+suffixes-valid e ns t v small numbers h =
+    let p = pre-sound t in
+    let q = post-sound p.1 (pre_at t).1 p.4 in
+    let d = dev-sound (post_at (pre_at t).1).1 in
+    let end = finish-sound _ _ _ _ _ _ v (sym h) in
+    let l = locals-sound (dev_at (post_at (pre_at t).1).1).1 end.0 end.1 in
+    record {
+      epoch = subst Fits end.2 small;
+      some = subst (λ (z : List ℕ). 0 < length z) end.3 numbers.some;
+      release = subst (AllByRecursion Fits) end.3 numbers.fit;
+      pre = subst PrereleaseFits end.4 (pre-fits p.2);
+      post = subst FitsIfSome end.5 (post-fits q.1);
+      dev = subst FitsIfSome end.6 (dev-fits d.1);
+      locals = subst (AllByRecursion SegmentIsValid) end.7 (local-valid l);
+    }
 
--- what is read of a text is a version
-pub read-valid : (t : List ℕ) (v : Parts) → Some v ≡ version_at t → IsValid v
-read-valid t v h = version-valid t v (version-sound t v (sym h))
-
-pattern-valid : (t : List ℕ) (v : Parts) (b : Bool) → IsPattern t v b → IsValid v
-pattern-valid t v b (plain h) = version-valid t v h
-pattern-valid t v b (starred is_m is_e is_r) = record {
-  epoch = epoch-fits is_e;
-  some = (release-fits is_r).0;
-  release = (release-fits is_r).1;
+pub release-valid : (e : ℕ) (ns : List ℕ) → Fits e → AreNumbers ns → IsValid (starred_parts e ns)
+release-valid e ns small numbers = record {
+  epoch = small;
+  some = numbers.some;
+  release = numbers.fit;
   pre = tt;
   post = tt;
   dev = tt;
   locals = tt;
 }
-
-pub star-valid : (t : List ℕ) (v : Parts) → Some v ≡ star_at t → IsValid v
-star-valid t v h = pattern-valid t v true (star-sound t v (sym h))

@@ -4,7 +4,7 @@ use Rattle.std.specs.Prelude.{true, false, ◌&&◌, Vec, map, ℕ, zero, suc, �
 use Rattle.std.specs.Borrow.{Bor}
 use Rattle.smallvec.specs.SmallVec.{SmallVec}
 use Rattle.std.specs.declared.alloc.Global.{Global}
-use Rattle.std.specs.Char.{is_ascii_digit}
+use Rattle.std.specs.Char.{is_ascii_digit, to_ascii_lowercase}
 use Rattle.pep440_version.specs.Valid.{is_word_byte}
 use Rattle.std.specs.List.{list_all, prefix_len}
 use Rattle.std.specs.Option.{option_or}
@@ -16,6 +16,10 @@ use Rattle.pep440_version.specs.Parts.{Parts, Segment, word, number}
 use Rattle.pep440_version.specs.declared.pattern.VersionPattern.{VersionPattern}
 use Rattle.pep440_version.specs.Grammar.{starred_parts}
 use Rattle.pep440_version.specs.View.{segment_of}
+
+-- a text with its ASCII letters in lower case
+abbrev pub lower : List ℕ → List ℕ
+lower t = map to_ascii_lowercase t
 
 -- ---- views
 
@@ -197,6 +201,14 @@ locals_at (b ∷ rest) = if b == 43 then segments_at (length rest) rest else Non
 
 -- ---- a whole version
 
+-- the epoch, the release, and the text after them
+abbrev pub head_of : ℕ → Option (List ℕ × List ℕ) → Option (ℕ × List ℕ × List ℕ)
+head_of epoch None = None
+head_of epoch (Some r) = Some (epoch, r.0, r.1)
+
+unfoldable pub head_at : List ℕ → Option (ℕ × List ℕ × List ℕ)
+head_at t = head_of (epoch_at t).0 (release_at (epoch_at t).1)
+
 abbrev pub after_mark : List ℕ → List ℕ
 after_mark [] = []
 after_mark (b ∷ rest) = if b == 118 then rest else b ∷ rest
@@ -227,9 +239,10 @@ version_at t = after_release (epoch_at (after_mark t)).0 (release_at (epoch_at (
 
 -- ---- views of what allocates
 
-abbrev pub release_view : Option (SmallVec ℕ × Bor (List ℕ)) → Option (List ℕ × List ℕ)
-release_view None = None
-release_view (Some p) = Some (p.0.items, p.1.now)
+abbrev pub head_view :
+    Option (ℕ × SmallVec ℕ × Bor (List ℕ)) → Option (ℕ × List ℕ × List ℕ)
+head_view None = None
+head_view (Some p) = Some (p.0, p.1.items, p.2.now)
 
 abbrev pub run_view : Option LocalSegment → Option Segment
 run_view None = None

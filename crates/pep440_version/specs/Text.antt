@@ -5,6 +5,7 @@ use Rattle.std.specs.List.{flat_map}
 use Rattle.pep440_version.specs.declared.version.Prerelease.{Prerelease}
 use Rattle.pep440_version.specs.declared.version.PrereleaseKind.{PrereleaseKind}
 use Rattle.pep440_version.specs.declared.version.PrereleaseKind.TheVariants.{Alpha, Beta, Rc}
+use Rattle.pep440_version.specs.Grammar.{starred_parts}
 use Rattle.pep440_version.specs.Parts.{Parts, Segment, word, number}
 
 abbrev pub epoch_text : ℕ → List ℕ
@@ -60,3 +61,7 @@ suffix_text pre post dev = pre_text pre ++ (post_text post ++ dev_text dev)
 unfoldable pub version_text : Parts → List ℕ
 version_text v = epoch_text v.epoch ++ (release_text v.release ++
     (suffix_text v.pre v.post v.dev ++ local_text v.locals))
+
+-- the normal text of an epoch and a release with `.*` behind it
+abbrev pub starred_text : ℕ → List ℕ → List ℕ
+starred_text epoch release = version_text (starred_parts epoch release) ++ codes ".*"

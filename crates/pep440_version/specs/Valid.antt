@@ -29,6 +29,11 @@ abbrev pub SegmentIsValid : Segment → Type 0
 SegmentIsValid (word t) = IsWord t
 SegmentIsValid (number n) = Fits n
 
+-- the numbers of a release
+pub record AreNumbers (release : List ℕ) : Type 0 where
+  pub some : 0 < length release
+  pub fit : AllByRecursion Fits release
+
 pub record IsValid (v : Parts) : Type 0 where
   pub epoch : Fits v.epoch
   pub some : 0 < length v.release

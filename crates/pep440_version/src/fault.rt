@@ -10,7 +10,7 @@ use std::alloc::{AllocError, Global};
 pub(crate) fn of_version(alloc: Global, text: &str) -> Result<VersionParseError, AllocError>
     ensures { IfOk result (λ fault. string_bytes fault.text ≡ text.now) }
 {
-    let version = read::lower_case(alloc, text.trim())?;
+    let version = text.trim().as_bytes().to_ascii_lowercase(alloc)?;
     let (expected, rest) = version_fault(&version);
     before_rest(alloc, text, rest.len(), expected)
 }
@@ -19,7 +19,7 @@ pub(crate) fn of_version(alloc: Global, text: &str) -> Result<VersionParseError,
 pub(crate) fn of_pattern(alloc: Global, text: &str) -> Result<VersionParseError, AllocError>
     ensures { IfOk result (λ fault. string_bytes fault.text ≡ text.now) }
 {
-    let pattern = read::lower_case(alloc, text.trim())?;
+    let pattern = text.trim().as_bytes().to_ascii_lowercase(alloc)?;
     let (expected, rest) = pattern_fault(&pattern);
     before_rest(alloc, text, rest.len(), expected)
 }
@@ -42,9 +42,17 @@ fn before_rest(
 // The functions below take a text in lower case. Each gives what was expected, and the rest of the
 // text from there.
 
+// The text from its release on.
+fn release_of(text: &[u8]) -> &[u8] {
+    let text = read::after_mark(text);
+    match read::number(text) {
+        Some((_, [b'!', release @ ..])) => release,
+        _ => text,
+    }
+}
+
 fn version_fault(text: &[u8]) -> (Expected, &[u8]) {
-    let (_, release) = read::epoch(read::after_mark(text));
-    let after = match after_release(release) {
+    let after = match after_release(release_of(text)) {
         (Some(expected), rest) => return (expected, rest),
         (None, after) => after,
     };
@@ -58,7 +66,7 @@ fn version_fault(text: &[u8]) -> (Expected, &[u8]) {
 }
 
 fn pattern_fault(text: &[u8]) -> (Expected, &[u8]) {
-    let (_, release) = read::epoch(read::after_mark(text));
+    let release = release_of(text);
     match after_release(release) {
         (Some(Expected::ReleaseNumber), [b'*', rest @ ..]) if read::starts_digit(release) => {
             (Expected::End, rest)

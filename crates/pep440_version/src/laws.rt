@@ -1,6 +1,6 @@
 //! Laws of versions. A call of one does nothing: what it promises is its contract.
 
-ghost use Rattle.std.specs.Prelude.{◌≡◌, ◌↔◌, ◌++◌, ℕ, Bool, List, codes, true};
+ghost use Rattle.std.specs.Prelude.{◌≡◌, ◌↔◌, ℕ, Bool, List, true};
 ghost use Rattle.std.specs.Cmp.{IsTotalOrder};
 ghost use Rattle.std.specs.Hash.{Alike};
 ghost use Rattle.std.specs.List.{list_all};
@@ -11,7 +11,7 @@ ghost use Rattle.pep440_version.specs.Order.{IsSameVersion, version_cmp};
 ghost use Rattle.pep440_version.specs.HashInput.{version_writes};
 ghost use Rattle.pep440_version.specs.Parts.{Parts};
 ghost use Rattle.pep440_version.specs.Plain.{IsPlainByte, is_version_byte};
-ghost use Rattle.pep440_version.specs.Text.{version_text};
+ghost use Rattle.pep440_version.specs.Text.{starred_text, version_text};
 ghost use Rattle.pep440_version.specs.Valid.{IsValid};
 
 use crate::version::Version;
@@ -64,6 +64,5 @@ pub fn normal_text_is_plain()
 /// release with a star.
 pub fn starred_text_reads_back()
     ensures { (epoch : ℕ) (release : List ℕ) → IsValid (starred_parts epoch release)
-        → IsPatternText (version_text (starred_parts epoch release) ++ codes ".*")
-        (starred_parts epoch release) true }
+        → IsPatternText (starred_text epoch release) (starred_parts epoch release) true }
 {}

@@ -1,13 +1,13 @@
 //! The order, the equality and the hash of versions. Each looks at each part once, and allocates
 //! nothing.
 
-ghost use Rattle.std.specs.Prelude.{◌↔◌, IsTrue, ◌≡◌, ◌≤◌, Some, fold, length, map, refl, take};
+ghost use Rattle.std.specs.Prelude.{◌↔◌, IsTrue, ◌≡◌, ◌≤◌, ◌<◌, Some, fold, length, map, refl, take};
 ghost use Rattle.std.specs.Hash as fed;
 ghost use Rattle.std.specs.Cmp.{eq_by_cmp_equiv, partial_equiv_from_equiv, po};
 ghost use Rattle.std.specs.Cmp.Lexicographic.{slice_cmp};
 ghost use Rattle.std.specs.Ordering.{eq_by_cmp};
 ghost use Rattle.pep440_version.specs.HashInput.{segment_writes, version_writes};
-ghost use Rattle.pep440_version.specs.Order.{IsSameVersion, dev_key, kind_rank, padded_cmp, pre_key, segment_cmp, significant, version_cmp};
+ghost use Rattle.pep440_version.specs.Order.{IsSameVersion, dev_key, kind_rank, padded_cmp, pre_key, segment_cmp, significant, trimmed, version_cmp};
 ghost use Rattle.pep440_version.specs.OrderLaws.{version_alike, version_total};
 ghost use Rattle.pep440_version.specs.View.{segment_of};
 
@@ -32,7 +32,7 @@ fn cmp_release(a: &[u64], b: &[u64]) -> Ordering
 }
 
 // The numbers of a release without the zeros at its end.
-pub(crate) fn significant(release: &[u64]) -> &[u64]
+fn significant(release: &[u64]) -> &[u64]
     ensures value { result.now ≡ significant release.now }
     ensures fits { length result.now ≤ length release.now }
 {
@@ -40,6 +40,16 @@ pub(crate) fn significant(release: &[u64]) -> &[u64]
     'zeros: while len > 0 && release[len - 1] == 0 {
         len -= 1;
     }
+    &release[..len]
+}
+
+// The numbers of a release without the zeros at its end, down to one number.
+pub(crate) fn trimmed(release: &[u64]) -> &[u64]
+    requires { 0 < length release.now }
+    ensures numbers { result.now ≡ trimmed release.now }
+    ensures some { 0 < length result.now }
+{
+    let len = significant(release).len().max(1);
     &release[..len]
 }
 

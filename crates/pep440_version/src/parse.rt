@@ -1,12 +1,10 @@
-//! `Version::parse`.
+//! Versions read from texts.
 
-ghost use Rattle.std.specs.Prelude.{◌≡◌, ◌≢◌, IfOk, IfErr, string_bytes, map};
-ghost use Rattle.std.specs.Char.{to_ascii_lowercase};
+ghost use Rattle.std.specs.Prelude.{◌≡◌, ◌≢◌, IfErr, IfNone, IfOk, IfSome, string_bytes};
 ghost use Rattle.refusal.specs.declared.Refusal.TheVariants.{SegmentAtEnd};
 ghost use Rattle.pep440_version.specs.Grammar.{IsVersionText};
 ghost use Rattle.pep440_version.specs.Parse.{IfFault, IsGivenUnlessMemory};
 ghost use Rattle.pep440_version.specs.Parts.{Parts};
-ghost use Rattle.pep440_version.specs.Reading.{version_at};
 
 use crate::error::VersionParseError;
 use crate::version::Version;
@@ -15,6 +13,16 @@ use refusal::Refusal;
 use std::alloc::{AllocError, Global};
 
 impl Version {
+    /// Reads a version as `parse` does. A text that is no version is `None`, and no error is made of
+    /// it.
+    pub fn read(alloc: Global, text: &str) -> Result<Option<Version>, AllocError>
+        ensures found { IfOk result (λ found. IfSome found (IsVersionText text.now)) }
+        ensures none { IfOk result (λ found. IfNone found (
+            (v : Parts) → ¬ IsVersionText text.now v)) }
+    {
+        read::version(alloc, text.trim().as_bytes())
+    }
+
     /// Reads a version: `v`, an epoch, a release, a pre-release, a post release, a development
     /// release and a local part, of which the release alone must stand (PEP 440, appendix B).
     ///
@@ -31,16 +39,9 @@ impl Version {
         ensures fault { IfErr result (λ e. IfFault e
             (λ fault. string_bytes fault.text ≡ text.now)) }
     {
-        match version_of(alloc, text.trim())? {
+        match Version::read(alloc, text)? {
             Some(version) => Ok(version),
             None => Err(Refusal::Fault(fault::of_version(alloc, text)?)),
         }
     }
-}
-
-// The version of a text with no white space around it.
-fn version_of(alloc: Global, text: &str) -> Result<Option<Version>, AllocError>
-    ensures { IfOk result (λ found. found ≡ version_at (map to_ascii_lowercase text.now)) }
-{
-    read::version(alloc, &read::lower_case(alloc, text)?)
 }

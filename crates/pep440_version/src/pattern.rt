@@ -1,8 +1,6 @@
 //! Patterns of version specifiers: a version, or a release with `.*` after it.
 
-ghost use Rattle.std.specs.Prelude.{◌≡◌, ◌≢◌, IfOk, IfErr, string_bytes, map, Bool};
-ghost use Rattle.std.specs.Char.{to_ascii_lowercase};
-ghost use Rattle.pep440_version.specs.Reading as Spec;
+ghost use Rattle.std.specs.Prelude.{◌≡◌, ◌≢◌, IfErr, IfNone, IfOk, IfSome, string_bytes, Bool};
 ghost use Rattle.refusal.specs.declared.Refusal.TheVariants.{SegmentAtEnd};
 
 use crate::error::VersionParseError;
@@ -23,6 +21,17 @@ impl VersionPattern {
     ghost use Rattle.pep440_version.specs.Parse.{IfFault, IsPatternGivenUnlessMemory};
     ghost use Rattle.pep440_version.specs.Parts.{Parts};
 
+    /// Reads a pattern as `parse` does. A text that is no pattern is `None`, and no error is made of
+    /// it.
+    pub fn read(alloc: Global, text: &str) -> Result<Option<VersionPattern>, AllocError>
+        ensures found { IfOk result (λ found. IfSome found (λ p.
+            IsPatternText text.now p.version p.wildcard)) }
+        ensures none { IfOk result (λ found. IfNone found (
+            (v : Parts) (star : Bool) → ¬ IsPatternText text.now v star)) }
+    {
+        read::pattern(alloc, text.trim().as_bytes())
+    }
+
     /// Reads a version, or an optional `v`, an optional epoch and a release that `.*` follows
     /// directly.
     ///
@@ -40,7 +49,7 @@ impl VersionPattern {
         ensures fault { IfErr result (λ e. IfFault e
             (λ fault. string_bytes fault.text ≡ text.now)) }
     {
-        match pattern_of(alloc, text.trim())? {
+        match VersionPattern::read(alloc, text)? {
             Some(pattern) => Ok(pattern),
             None => Err(Refusal::Fault(fault::of_pattern(alloc, text)?)),
         }
@@ -67,51 +76,4 @@ impl VersionPattern {
         let VersionPattern { version, wildcard } = self;
         (version, wildcard)
     }
-}
-
-// The version before `.*`, where that ends the text.
-#[tactic(auto, unfolding(crate::specs::Reading::star_at))]
-fn star(alloc: Global, text: &[u8]) -> Result<Option<Version>, AllocError>
-    ensures { IfOk result (λ found. found ≡ Spec.star_at text.now) }
-{
-    let (epoch, text) = read::epoch(read::after_mark(text));
-    match read::release(alloc, text)? {
-        Some((release, [b'.', b'*'])) => Ok(Some(Version {
-            epoch,
-            release,
-            pre: None,
-            post: None,
-            dev: None,
-            local: Vec::new(alloc),
-        })),
-        _ => Ok(None),
-    }
-}
-
-// The pattern that a whole text in lower case is.
-#[tactic(auto, unfolding(crate::specs::Reading::pattern_at))]
-fn pattern(alloc: Global, text: &[u8]) -> Result<Option<VersionPattern>, AllocError>
-    ensures { IfOk result (λ found. Spec.pattern_view found ≡ Spec.pattern_at text.now) }
-{
-    if let Some(version) = star(alloc, text)? {
-        return Ok(Some(VersionPattern {
-            version,
-            wildcard: true,
-        }));
-    }
-    match read::version(alloc, text)? {
-        Some(version) => Ok(Some(VersionPattern {
-            version,
-            wildcard: false,
-        })),
-        None => Ok(None),
-    }
-}
-
-// The pattern of a text with no white space around it.
-fn pattern_of(alloc: Global, text: &str) -> Result<Option<VersionPattern>, AllocError>
-    ensures { IfOk result (λ found. Spec.pattern_view found
-        ≡ Spec.pattern_at (map to_ascii_lowercase text.now)) }
-{
-    pattern(alloc, &read::lower_case(alloc, text)?)
 }

@@ -1,11 +1,14 @@
-//! Readers of the parts of a version, over a text in lower case. Each reads the front of a slice of
-//! bytes, and gives what it read and the rest.
+//! Readers of the parts of a version. Each reads the front of a slice of bytes, and gives what it
+//! read and the rest. Those of suffixes read lower case.
 
-ghost use Rattle.std.specs.Prelude.{◌≡◌, ◌≤◌, ◌<◌, ◌+◌, ◌-◌, ◌*◌, ◌^◌, ◌++◌, length, IfNone, IfSome, IfOk, OnOk, IsAscii, map, take};
-ghost use Rattle.std.specs.Char.{is_ascii_digit, to_ascii_lowercase};
-ghost use Rattle.std.specs.List.{list_all};
+ghost use Rattle.std.specs.Prelude.{◌≡◌, ◌≤◌, ◌<◌, ◌+◌, ◌-◌, ◌*◌, ◌^◌, ◌++◌, length, IfNone, IfSome, IfOk, OnOk, IsAscii, Some, take};
+ghost use Rattle.std.specs.Char.{is_ascii_digit, is_ascii_uppercase};
+ghost use Rattle.std.specs.List.{list_all, list_any};
+ghost use Rattle.pep440_version.specs.Grammar.{starred_parts};
 ghost use Rattle.pep440_version.specs.Reading as Spec;
+ghost use Rattle.pep440_version.specs.Valid.{AreNumbers};
 
+use crate::pattern::VersionPattern;
 use crate::version::{LocalSegment, Prerelease, PrereleaseKind, Version};
 use smallvec::SmallVec;
 use std::alloc::{AllocError, Global};
@@ -130,16 +133,6 @@ fn post_word(text: &[u8]) -> Option<&[u8]>
     either(text, b"rev", b"r")
 }
 
-#[tactic(auto, unfolding(crate::specs::Reading::epoch_at))]
-pub(crate) fn epoch(text: &[u8]) -> (u64, &[u8])
-    ensures { Spec.pair_view result ≡ Spec.epoch_at text.now }
-{
-    match number(text) {
-        Some((epoch, [b'!', rest @ ..])) => (epoch, rest),
-        _ => (0, text),
-    }
-}
-
 #[tactic(auto, unfolding(crate::specs::Reading::pre_at))]
 pub(crate) fn pre(text: &[u8]) -> (Option<Prerelease>, &[u8])
     ensures { Spec.pair_view result ≡ Spec.pre_at text.now }
@@ -193,21 +186,38 @@ fn more<'a>(numbers: &mut SmallVec<u64, 4>, text: &'a [u8]) -> Result<&'a [u8], 
     Ok(rest)
 }
 
-#[tactic(auto, unfolding(crate::specs::Reading::release_at))]
-pub(crate) fn release(
+// The numbers of a release after its first one, all of them together, and the text after them.
+fn numbers_from(
     alloc: Global,
+    first: u64,
     text: &[u8],
-) -> Result<Option<(SmallVec<u64, 4>, &[u8])>, AllocError>
-    ensures value { IfOk result (λ found. Spec.release_view found ≡ Spec.release_at text.now) }
-    ensures some { IfOk result (λ found. IfSome found (λ p. 0 < length p.0.items)) }
+) -> Result<(SmallVec<u64, 4>, &[u8]), AllocError>
+    ensures { IfOk result (λ r.
+        Some (r.0.items, r.1.now) ≡ Spec.release_of (Some (first, text.now))) }
 {
-    let Some((first, rest)) = number(text) else {
-        return Ok(None);
-    };
     let mut numbers = SmallVec::new(alloc);
     numbers.push(first)?;
-    let rest = more(&mut numbers, rest)?;
-    Ok(Some((numbers, rest)))
+    let rest = more(&mut numbers, text)?;
+    Ok((numbers, rest))
+}
+
+// The epoch and the release at the front, and the text after them.
+fn head(alloc: Global, text: &[u8]) -> Result<Option<(u64, SmallVec<u64, 4>, &[u8])>, AllocError>
+    ensures value { IfOk result (λ found. Spec.head_view found ≡ Spec.head_at text.now) }
+    ensures numbers { IfOk result (λ found. IfSome found (λ x. AreNumbers x.1.items)) }
+{
+    let Some((front, after)) = number(text) else {
+        return Ok(None);
+    };
+    let Some(release) = strip(after, b"!") else {
+        let (release, rest) = numbers_from(alloc, front, after)?;
+        return Ok(Some((0, release, rest)));
+    };
+    let Some((first, after)) = number(release) else {
+        return Ok(None);
+    };
+    let (release, rest) = numbers_from(alloc, first, after)?;
+    Ok(Some((front, release, rest)))
 }
 
 // How many letters and digits stand at the front.
@@ -287,24 +297,42 @@ pub(crate) fn locals(alloc: Global, text: &[u8]) -> Result<Option<Vec<LocalSegme
     }
 }
 
+// The text after a `v` in either case.
 pub(crate) fn after_mark(text: &[u8]) -> &[u8]
-    ensures { result.now ≡ Spec.after_mark text.now }
+    ensures { Spec.lower result.now ≡ Spec.after_mark (Spec.lower text.now) }
 {
     match text {
-        [b'v', rest @ ..] => rest,
+        [b'v' | b'V', rest @ ..] => rest,
         _ => text,
     }
 }
 
-// The version that a whole text in lower case is.
-#[tactic(auto, unfolding(crate::specs::Reading::version_at))]
-pub(crate) fn version(alloc: Global, text: &[u8]) -> Result<Option<Version>, AllocError>
-    ensures { IfOk result (λ found. found ≡ Spec.version_at text.now) }
+// The version of an epoch and a release alone.
+pub(crate) fn released(alloc: Global, epoch: u64, release: SmallVec<u64, 4>) -> Version
+    requires { AreNumbers release.items }
+    ensures { result ≡ starred_parts epoch release.items }
 {
-    let (epoch, text) = epoch(after_mark(text));
-    let Some((release, text)) = release(alloc, text)? else {
-        return Ok(None);
-    };
+    Version {
+        epoch,
+        release,
+        pre: None,
+        post: None,
+        dev: None,
+        local: Vec::new(alloc),
+    }
+}
+
+// The version of an epoch, a release and the text after it, in lower case.
+fn with_suffixes(
+    alloc: Global,
+    epoch: u64,
+    release: SmallVec<u64, 4>,
+    text: &[u8],
+) -> Result<Option<Version>, AllocError>
+    requires { AreNumbers release.items }
+    ensures { IfOk result (λ found.
+        found ≡ Spec.after_release epoch (Some (release.items, text.now))) }
+{
     let (pre, text) = pre(text);
     let (post, text) = post(text);
     let (dev, text) = dev(text);
@@ -321,11 +349,68 @@ pub(crate) fn version(alloc: Global, text: &[u8]) -> Result<Option<Version>, All
     }))
 }
 
-// The bytes of a text, its ASCII letters in lower case.
-pub(crate) fn lower_case(alloc: Global, text: &str) -> Result<Vec<u8>, AllocError>
-    ensures { IfOk result (λ bytes. bytes.items ≡ map to_ascii_lowercase text.now) }
+fn has_capitals(text: &[u8]) -> bool
+    ensures { result ≡ list_any is_ascii_uppercase text.now }
 {
-    text.bytes()
-        .map(|byte| byte.to_ascii_lowercase())
-        .collect(alloc)
+    text.iter().any(|byte| byte.is_ascii_uppercase())
+}
+
+// The version of an epoch, a release and the text after it, in either case. A text with capitals
+// alone is copied.
+pub(crate) fn version_from(
+    alloc: Global,
+    epoch: u64,
+    release: SmallVec<u64, 4>,
+    text: &[u8],
+) -> Result<Option<Version>, AllocError>
+    requires { AreNumbers release.items }
+    ensures { IfOk result (λ found.
+        found ≡ Spec.after_release epoch (Some (release.items, Spec.lower text.now))) }
+{
+    if text.is_empty() {
+        return Ok(Some(released(alloc, epoch, release)));
+    }
+    if has_capitals(text) {
+        return with_suffixes(alloc, epoch, release, &text.to_ascii_lowercase(alloc)?);
+    }
+    with_suffixes(alloc, epoch, release, text)
+}
+
+// The version that a whole text is.
+pub(crate) fn version(alloc: Global, text: &[u8]) -> Result<Option<Version>, AllocError>
+    ensures { IfOk result (λ found. found ≡ Spec.version_at (Spec.lower text.now)) }
+{
+    match head(alloc, after_mark(text))? {
+        Some((epoch, release, rest)) => version_from(alloc, epoch, release, rest),
+        None => Ok(None),
+    }
+}
+
+fn is_star(text: &[u8]) -> bool
+    ensures { result ≡ Spec.is_star (Spec.lower text.now) }
+{
+    matches!(text, [b'.', b'*'])
+}
+
+// The pattern that a whole text is.
+pub(crate) fn pattern(alloc: Global, text: &[u8]) -> Result<Option<VersionPattern>, AllocError>
+    ensures { IfOk result (λ found.
+        Spec.pattern_view found ≡ Spec.pattern_at (Spec.lower text.now)) }
+{
+    let Some((epoch, release, rest)) = head(alloc, after_mark(text))? else {
+        return Ok(None);
+    };
+    if is_star(rest) {
+        return Ok(Some(VersionPattern {
+            version: released(alloc, epoch, release),
+            wildcard: true,
+        }));
+    }
+    match version_from(alloc, epoch, release, rest)? {
+        Some(version) => Ok(Some(VersionPattern {
+            version,
+            wildcard: false,
+        })),
+        None => Ok(None),
+    }
 }

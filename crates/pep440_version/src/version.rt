@@ -3,7 +3,7 @@
 ghost use Rattle.std.specs.Prelude.{◌≡◌, ◌<◌, ◌≤◌, [], length, map, IfOk, IsOk};
 ghost use Rattle.pep440_version.specs.View.{segment_of};
 
-use crate::order::significant;
+use crate::order::trimmed;
 use smallvec::SmallVec;
 use std::alloc::{AllocError, Global};
 use std::marker::Model;
@@ -92,6 +92,21 @@ impl Version {
         })
     }
 
+    /// The version that is these release numbers alone, without the zeros at their end, down to one
+    /// number.
+    ///
+    /// It is refused for want of memory alone, and never where at most four numbers are left.
+    pub fn new_trimmed(alloc: Global, release: &[u64]) -> Result<Version, AllocError>
+        requires { 0 < length release.now }
+        ensures value { IfOk result (λ version.
+            version ≡ release_only (trimmed release.now)) }
+        ensures same { IfOk result (λ version.
+            IsSameVersion version (release_only release.now)) }
+        ensures inline { length (trimmed release.now) ≤ 4 → IsOk result }
+    {
+        Version::new(alloc, trimmed(release))
+    }
+
     /// The epoch, 0 where the text has none.
     pub fn epoch(&self) -> u64
         ensures { result ≡ self.now.epoch }
@@ -112,8 +127,7 @@ impl Version {
         ensures numbers { result.now ≡ trimmed self.now.release }
         ensures nonempty { 0 < length result.now }
     {
-        let len = significant(&self.release).len().max(1);
-        &self.release.as_slice()[..len]
+        trimmed(&self.release)
     }
 
     /// The same version without the zeros at the end of its release, down to one number.
