@@ -1,7 +1,7 @@
 //! Conjunctions that are computed once.
 
 ghost use Rattle.std.specs.Prelude.{◌≡◌, ◌<◌, ◌+◌, [], IfNone, IfOk, IfSome, IsOk, List, OnOk, slice_index};
-ghost use Rattle.std.specs.Layout.HashMap.{hasher_of};
+ghost use Rattle.std.specs.HashMap.{hasher_of};
 ghost use Rattle.node_hasher.specs.Hash.{keyed};
 ghost use Rattle.marker_diagrams.specs.Diagram.{IsHeld, Keeps};
 ghost use Rattle.marker_diagrams.specs.Id.{place_of};
