@@ -17,8 +17,10 @@ MATCHED = re.compile(r"\bErr\(\s*AllocError\s*\)\s*(\||if\b|=>|=[^=])")
 
 
 # Such an answer is meant here: `Clone` has no law that a clone is equal to its source, so one that
-# is not is refused too; and a fault of JSON tells by a call that memory ran out.
+# is not is refused too; a table of nodes that has no room left refuses a new one so; and a fault of
+# JSON tells by a call that memory ran out.
 MEANT = {
+    "crates/marker_nodes/src/table.rt": 1,
     "crates/pep508_markers/src/json.rt": 1,
     "crates/version_ranges/src/equality.rt": 2,
 }

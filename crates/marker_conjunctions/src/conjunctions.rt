@@ -1,6 +1,8 @@
 //! Conjunctions that are computed once.
 
-ghost use Rattle.std.specs.Prelude.{◌≡◌, ◌<◌, ◌+◌, [], IfNone, IfOk, IfSome, IsOk, List, OnOk};
+ghost use Rattle.std.specs.Prelude.{◌≡◌, ◌<◌, ◌+◌, [], IfNone, IfOk, IfSome, IsOk, List, OnOk, slice_index};
+ghost use Rattle.std.specs.HashMap.{hasher_of};
+ghost use Rattle.node_hasher.specs.Hash.{keyed};
 ghost use Rattle.marker_diagrams.specs.Diagram.{IsHeld, Keeps};
 ghost use Rattle.marker_diagrams.specs.Id.{place_of};
 ghost use Rattle.marker_nodes.specs.And.{IsAnd, IsShort};
@@ -35,12 +37,21 @@ enum Step {
 }
 
 impl Conjunctions {
-    /// No conjunction was computed.
+    /// No conjunction was computed. What is known is hashed by the fixed key.
     pub fn new(alloc: Global) -> Self
         ensures { contents [] result ≡ nothing }
     {
+        Conjunctions::with_key(alloc, [0, 0])
+    }
+
+    /// No conjunction was computed. What is known is hashed by a key: two random words. Who chooses
+    /// what markers say and does not know the key cannot make a look-up slow.
+    pub fn with_key(alloc: Global, key: [u64; 2]) -> Self
+        ensures empty { contents [] result ≡ nothing }
+        ensures key { hasher_of result.memo ≡ keyed (slice_index key 0) (slice_index key 1) }
+    {
         Conjunctions {
-            memo: HashMap::with_hasher(alloc, NodeState::new()),
+            memo: HashMap::with_hasher(alloc, NodeState::with_key(key)),
             expansions: 0,
         }
     }

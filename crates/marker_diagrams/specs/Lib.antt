@@ -1,3 +1,4 @@
 pub mod Id
 pub mod Diagram
 pub mod Residue
+pub mod Word

@@ -3,7 +3,7 @@ use Rattle.std.specs.Prelude.{◌≡◌, ◌≢◌, ℕ, Bool, List, Some, slice
 use Rattle.std.specs.Ordering.{is_lt}
 use Rattle.marker_diagrams.specs.declared.node_id.NodeId.{NodeId}
 use Rattle.marker_diagrams.specs.Id.{is_negated, signed_id}
-use Rattle.marker_diagrams.specs.Diagram.{NodeKind, node_of, truth, with_variable}
+use Rattle.marker_diagrams.specs.Diagram.{NodeKind, node_of, with_variable}
 
 module _ {N X V : Type 0} (kind : NodeKind N X V) where
   -- a subtree of an id: the id itself, or a child of a subtree. The children of a negation are

@@ -1,16 +1,18 @@
 //! The ids of nodes.
 
-/// The id of a node of a diagram, or of its negation. Ids of one list of nodes are equal exactly
-/// where they mean the same.
-#[derive(Clone, Copy, Debug, PartialEq, Eq, Hash)]
+use std::hash::{Hash, Hasher};
+
+/// The id of a node of a diagram, or of its negation, in a word of eight bytes. Ids of one list of
+/// nodes are equal exactly where they mean the same.
+#[derive(Clone, Copy, Debug, PartialEq, Eq)]
 pub struct NodeId {
     // 0 is the truth, and k + 1 the node of index k, counted from the oldest.
-    place: usize,
+    place: u32,
     complement: bool,
 }
 
 impl NodeId {
-    ghost use Rattle.std.specs.Prelude.{◌≡◌, ◌<◌, ◌↔◌, IsTrue};
+    ghost use Rattle.std.specs.Prelude.{◌≡◌, ◌+◌, ◌<◌, ◌^◌, ◌↔◌, IsTrue};
     ghost use Rattle.marker_diagrams.specs.Id.{id_of, index_of, is_negated, opposite, signed_id};
 
     /// True everywhere.
@@ -25,13 +27,14 @@ impl NodeId {
         complement: true,
     };
 
-    /// The id of the node of this index, counted from the oldest, or of its negation.
+    /// The id of the node of this index, counted from the oldest, or of its negation. There are ids
+    /// for the indices below 4,294,967,295.
     pub fn new(index: usize, complement: bool) -> Self
-        requires { index < usize.MAX }
+        requires { index + 1 < 2 ^ 32 }
         ensures { result ≡ id_of index complement }
     {
         NodeId {
-            place: index + 1,
+            place: index as u32 + 1,
             complement,
         }
     }
@@ -43,7 +46,7 @@ impl NodeId {
         if self.place == 0 {
             None
         } else {
-            Some(self.place - 1)
+            Some(self.place as usize - 1)
         }
     }
 
@@ -95,5 +98,19 @@ impl Default for NodeId {
         ensures { result ≡ NodeId.TRUE }
     {
         Self::TRUE
+    }
+}
+
+impl Hash for NodeId {
+    ghost use Rattle.std.specs.Hash as fed;
+    ghost use Rattle.marker_diagrams.specs.Word.{word_of, same_words};
+
+    // An id is fed as one word, whose lowest bit is the sign.
+    ghost hash_input = { λ id. fed.u64 (word_of id) };
+
+    ghost respects_eq = { same_words };
+
+    fn hash<H: Hasher>(&self, state: &mut H) {
+        state.write_u64(2 * self.place as u64 + self.complement as u64);
     }
 }

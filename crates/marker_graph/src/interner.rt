@@ -1,6 +1,6 @@
 //! The nodes of many markers.
 
-ghost use Rattle.std.specs.Prelude.{◌≡◌, ◌↔◌, ◌<◌, ◌+◌, false, IfErr, IfOk, IsOk, IsTrue, OnOk};
+ghost use Rattle.std.specs.Prelude.{◌≡◌, ◌↔◌, ◌<◌, ◌≤◌, ◌+◌, false, IfErr, IfOk, IsOk, IsTrue, OnOk};
 ghost use Rattle.std.specs.Fn.{FnReturnsAt};
 ghost use Rattle.version_ranges.specs.Point.{Point};
 ghost use Rattle.version_ranges.specs.Clamp.{IsBetween, bound_of};
@@ -13,6 +13,7 @@ ghost use Rattle.marker_diagrams.specs.Id.{place_of};
 ghost use Rattle.marker_nodes.specs.And.{IsAnd, IsShort};
 ghost use Rattle.marker_nodes.specs.Variable.{answer};
 ghost use Rattle.marker_nodes.specs.Node.{markers};
+ghost use Rattle.marker_nodes.specs.Table.{pieces_of};
 ghost use Rattle.marker_conjunctions.specs.Contents.{nothing, IsKept, IsWellKept};
 ghost use Rattle.marker_conjunctions.specs.Count.{IsCounted, Spends};
 ghost use Rattle.marker_conjunctions.specs.Step.{IsKnown, IsSettled, Remembers};
@@ -61,14 +62,56 @@ impl Model for Interner {
 }
 
 impl Interner {
-    /// An interner without nodes.
+    /// An interner without nodes, which hashes by the fixed key and has room for 4,294,967,295
+    /// pieces of nodes, the most that an interner can have.
     pub fn new(alloc: Global) -> Self
         ensures { result ≡ nothing }
     {
+        Interner::with_key_and_room(alloc, [0, 0], usize::MAX)
+    }
+
+    /// An interner without nodes, which hashes by a key: two random words. Who chooses what markers
+    /// say and does not know the key cannot make an interner slow.
+    pub fn with_key(alloc: Global, key: [u64; 2]) -> Self
+        ensures { result ≡ nothing }
+    {
+        Interner::with_key_and_room(alloc, key, usize::MAX)
+    }
+
+    /// An interner without nodes, which has room for so many pieces of nodes, or for 4,294,967,295
+    /// if these are fewer. A node has a piece for each of its children.
+    ///
+    /// A call that would make a node for which there is no room is refused, as it is where there is
+    /// no memory for it. `pieces` and `room` tell a full interner from a full machine.
+    pub fn with_room(alloc: Global, pieces: usize) -> Self
+        ensures { result ≡ nothing }
+    {
+        Interner::with_key_and_room(alloc, [0, 0], pieces)
+    }
+
+    /// An interner without nodes, which hashes by a key as that of `with_key` and has room as that
+    /// of `with_room`.
+    pub fn with_key_and_room(alloc: Global, key: [u64; 2], pieces: usize) -> Self
+        ensures { result ≡ nothing }
+    {
         Interner {
-            nodes: NodeTable::new(alloc),
-            conjunctions: Conjunctions::new(alloc),
+            nodes: NodeTable::with_key_and_room(alloc, key, pieces),
+            conjunctions: Conjunctions::with_key(alloc, key),
         }
+    }
+
+    /// How many pieces all nodes have. A node has one for each of its children.
+    pub fn pieces(&self) -> usize
+        ensures { result ≡ pieces_of self.now.nodes }
+    {
+        self.nodes.pieces()
+    }
+
+    /// How many pieces all nodes may have.
+    pub fn room(&self) -> usize
+        ensures { pieces_of self.now.nodes ≤ result }
+    {
+        self.nodes.room()
     }
 
     /// Where the memory of the nodes is taken from.

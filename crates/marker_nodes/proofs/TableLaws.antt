@@ -1,8 +1,8 @@
 -- A table when a node is placed.
-use Rattle.std.proofs.Common.{◌≡◌, ℕ, zero, suc, ◌<◌, ◌≤◌, Bool, true, false, not, cond, ◌==◌, ◌||◌, List, [], ◌∷◌, ◌++◌, reverse, length, ◌-◌, Option, Some, None, refl, sym, ap, ◌∙◌, subst, add-one, arith}
+use Rattle.std.proofs.Common.{◌≡◌, ℕ, zero, suc, ◌+◌, ◌<◌, ◌≤◌, ◌^◌, Bool, true, false, not, cond, ◌==◌, ◌||◌, ◌⊎◌, inl, inr, List, [], ◌∷◌, ◌++◌, reverse, length, ◌-◌, Option, Some, None, refl, sym, ap, ◌∙◌, subst, add-one, arith}
 use Rattle.std.specs.Prelude.{slice_get, Result, Ok, Err, IfOk}
 use Rattle.std.specs.declared.alloc.AllocError.{AllocError}
-use Rattle.std.proofs.lemmas.Option.{slice_get-get_or}
+use Rattle.std.proofs.lemmas.Option.{slice_get_within, slice_get-get_or}
 use Rattle.std.specs.List.{list_any}
 use Rattle.std.proofs.lemmas.Bool.{true≢false, false≢true, and_from, ne_eqb, eqb-true, eqb-false}
 use Rattle.std.proofs.lemmas.List.{length-reverse}
@@ -18,9 +18,11 @@ use Rattle.marker_diagrams.proofs.NodeLaws.{same_some, none_some, node_bounds, k
 use Rattle.marker_diagrams.proofs.StoreLaws.{store_more, id_of_same}
 use Rattle.marker_diagrams.proofs.ChoiceLaws.{children_signed, children_same, choice_same, choice_signed, choice_constant}
 use Rattle.marker_diagrams.proofs.KeyLaws.{get_last, node_is, key_of, newest}
+use Rattle.marker_nodes.specs.declared.node.Branches.TheVariants.{Version, Text, Truth}
 use Rattle.marker_nodes.specs.Branches.{count, piece, variable, value_at as pick}
 use Rattle.marker_nodes.specs.Variable.{Variable}
 use Rattle.marker_nodes.specs.Node.{Node, markers, is_constant, is_joined, is_reduced, child_at, listed_child, lowest}
+use Rattle.marker_nodes.specs.Table.{HasRoom, pieces_of}
 use Rattle.marker_nodes.proofs.BranchLaws.{piece_within, constant_everywhere}
 use Rattle.marker_nodes.proofs.NodeLaws.{lawful}
 use Rattle.marker_nodes.proofs.EqualNodes.{node_eq, equal_same, unequal_other}
@@ -43,6 +45,23 @@ fresh : (keys : List Node) → IsStore markers (reverse keys) → (n : Node) →
 fresh keys w n r h i m e same =
     let p = key_of keys i m e in unequal_other n m r ((w.node i m e).reduced) (any_get (node_eq n) keys p.0 m h p.2) same
 
+a_piece : (n : Node) → 1 ≤ count n
+a_piece (Version x edges) = omega arith
+a_piece (Text x edges) = omega arith
+a_piece (Truth x high low) = omega arith
+
+-- there are no more nodes than pieces
+nodes_have_pieces : (nodes : List Node) → length nodes ≤ pieces_of nodes
+nodes_have_pieces [] = omega arith
+nodes_have_pieces (n ∷ older) = omega (arith, a_piece n, nodes_have_pieces older)
+
+-- the index of a node has an id
+pub index_named : (keys : List Node) (pieces room index : ℕ) (k : Node) → HasRoom (reverse keys) pieces room → slice_get keys index ≡ Some k → index + 1 < 2 ^ 32
+index_named keys pieces room index k h stored =
+    let within : index < length keys = slice_get_within keys index k stored in
+    let size : length (reverse keys) ≡ length keys = length-reverse keys in
+    omega (arith, within, size, nodes_have_pieces (reverse keys), h.counted, h.fits, h.named)
+
 -- the nodes after one is inserted
 module _ (keys nodes new : List Node) (n : Node) (w : IsStore markers (reverse keys)) (view_is : reverse keys ≡ nodes) (ready : IsReady markers nodes n) (new_is : new ≡ insert_key node_eq keys n) where
   ready_here : IsReady markers (reverse keys) n
@@ -54,6 +73,31 @@ module _ (keys nodes new : List Node) (n : Node) (w : IsStore markers (reverse k
 
   pub insert_store : IsStore markers (reverse new)
   insert_store = subst (λ l. IsStore markers (reverse l)) (sym new_is) (store_by (list_any (node_eq n) keys) refl)
+
+  pieces_by : (b : Bool) → pieces_of (reverse (cond b keys (keys ++ n ∷ []))) ≡ cond b 0 (count n) + pieces_of (reverse keys)
+  pieces_by true = omega arith
+  pieces_by false = ap pieces_of (newest n keys)
+
+  added_by_test : (b is_new : Bool) (added : ℕ) → is_new ≡ not b → ((is_new ≡ true) × (added ≡ count n)) ⊎ ((is_new ≡ false) × (added ≡ 0)) → added ≡ cond b 0 (count n)
+  added_by_test true is_new added e (inl h) = absurd (true≢false (sym h.0 ∙ e))
+  added_by_test true is_new added e (inr h) = h.1
+  added_by_test false is_new added e (inl h) = h.1
+  added_by_test false is_new added e (inr h) = absurd (false≢true (sym h.0 ∙ e))
+
+  fits_by_test : (b : Bool) (pieces room added : ℕ) → added ≡ cond b 0 (count n) → pieces ≤ room → (b ≡ true) ⊎ (count n ≤ room - pieces) → pieces + added ≤ room
+  fits_by_test true pieces room added e l h = omega (arith, e, l)
+  fits_by_test false pieces room added e l (inl h) = absurd (false≢true h)
+  fits_by_test false pieces room added e l (inr h) = omega (arith, e, l, h)
+
+  -- the pieces of a node that is new are counted, where there was room for them
+  pub insert_room : (pieces room added : ℕ) (is_new : Bool) → HasRoom (reverse keys) pieces room → is_new ≡ not (list_any (node_eq n) keys) → ((is_new ≡ true) × (added ≡ count n)) ⊎ ((is_new ≡ false) × (added ≡ 0)) →
+      (list_any (node_eq n) keys ≡ true) ⊎ (count n ≤ room - pieces) → HasRoom (reverse new) (pieces + added) room
+  insert_room pieces room added is_new h e counts stands =
+      let old : Bool = list_any (node_eq n) keys in
+      let more : added ≡ cond old 0 (count n) = added_by_test old is_new added e counts in
+      let now : pieces_of (reverse new) ≡ cond old 0 (count n) + pieces_of (reverse keys) = ap (λ (l : List Node). pieces_of (reverse l)) new_is ∙ pieces_by old in
+      let before : pieces ≡ pieces_of (reverse keys) = h.counted in
+      record { rules = insert_store; counted = omega (arith, now, before, more); fits = fits_by_test old pieces room added more h.fits stands; named = h.named }
 
   keeps_by : (b : Bool) → Keeps markers (reverse keys) (reverse (cond b keys (keys ++ n ∷ [])))
   keeps_by true = keeps_itself markers (reverse keys)

@@ -1,11 +1,12 @@
 //! A table of nodes.
 
-ghost use Rattle.std.specs.Prelude.{◌≡◌, ◌↔◌, ◌<◌, [], false, length, IfOk, IsTrue, OnErr};
+ghost use Rattle.std.specs.Prelude.{◌≡◌, ◌↔◌, ◌<◌, ◌≤◌, [], false, length, IfOk, IsTrue, OnErr};
 ghost use Rattle.std.specs.Option.{option_copied};
 ghost use Rattle.marker_diagrams.specs.Diagram.{node_of, IsHeld, truth, Separated, AreChildren, IsReady, IsStore, Keeps, IsChoice};
 ghost use Rattle.marker_nodes.specs.Branches.{count, value_at, variable};
 ghost use Rattle.marker_nodes.specs.Choice.{asked, chosen};
 ghost use Rattle.marker_nodes.specs.Node.{listed_child, markers};
+ghost use Rattle.marker_nodes.specs.Table.{pieces_of};
 
 use crate::choice::Choice;
 use crate::node::{Branches, Children, Node};
@@ -22,31 +23,87 @@ use std::marker::Model;
 pub struct NodeTable {
     // List and unique table at once: an index is the place of a node.
     nodes: IndexSet<Node, NodeState>,
+    // How many pieces the nodes have, and how many they may have.
+    pieces: usize,
+    room: usize,
     alloc: Global,
 }
 
+// An id names one of fewer nodes than this, and each node has a piece.
+const MOST_PIECES: usize = u32::MAX as usize;
+
 impl Model for NodeTable {
     ghost use Rattle.std.specs.Prelude.{List, reverse};
-    ghost use Rattle.marker_nodes.specs.Node.{markers, Node};
-    ghost use Rattle.marker_diagrams.specs.Diagram.{IsStore};
+    ghost use Rattle.marker_nodes.specs.Node.{Node};
+    ghost use Rattle.marker_nodes.specs.Table.{HasRoom};
 
     ghost Value = { List Node };
 
     ghost view = { λ table. reverse table.nodes.keys };
 
-    ghost invariant = { λ table. IsStore markers (reverse table.nodes.keys) };
+    ghost invariant = { λ table. HasRoom (reverse table.nodes.keys) table.pieces table.room };
 }
 
 impl NodeTable {
-    /// A table without nodes.
+    /// A table without nodes, which hashes by the fixed key and has room for 4,294,967,295 pieces,
+    /// the most that a table can have.
     pub fn new(alloc: Global) -> Self
         ensures empty { result ≡ [] }
         ensures rules { IsStore markers result }
     {
+        NodeTable::with_key_and_room(alloc, [0, 0], usize::MAX)
+    }
+
+    /// A table without nodes, which hashes by a key: two random words. Who chooses what markers say
+    /// and does not know the key cannot make a look-up slow.
+    pub fn with_key(alloc: Global, key: [u64; 2]) -> Self
+        ensures empty { result ≡ [] }
+        ensures rules { IsStore markers result }
+    {
+        NodeTable::with_key_and_room(alloc, key, usize::MAX)
+    }
+
+    /// A table without nodes, which has room for so many pieces, or for 4,294,967,295 if these are
+    /// fewer. A new node is refused where the pieces of all nodes would be more, as it is where
+    /// there is no memory for it.
+    pub fn with_room(alloc: Global, pieces: usize) -> Self
+        ensures empty { result ≡ [] }
+        ensures rules { IsStore markers result }
+    {
+        NodeTable::with_key_and_room(alloc, [0, 0], pieces)
+    }
+
+    /// A table without nodes, which hashes by a key as that of `with_key` and has room as that of
+    /// `with_room`.
+    pub fn with_key_and_room(alloc: Global, key: [u64; 2], pieces: usize) -> Self
+        ensures empty { result ≡ [] }
+        ensures rules { IsStore markers result }
+    {
         NodeTable {
-            nodes: IndexSet::with_hasher(alloc, NodeState::new()),
+            nodes: IndexSet::with_hasher(alloc, NodeState::with_key(key)),
+            pieces: 0,
+            room: pieces.min(MOST_PIECES),
             alloc,
         }
+    }
+
+    /// What the table hashes by.
+    pub fn hasher(&self) -> &NodeState {
+        self.nodes.hasher()
+    }
+
+    /// How many pieces all nodes have. A node has one for each of its children.
+    pub fn pieces(&self) -> usize
+        ensures { result ≡ pieces_of self.now }
+    {
+        self.pieces
+    }
+
+    /// How many pieces all nodes may have.
+    pub fn room(&self) -> usize
+        ensures { pieces_of self.now ≤ result }
+    {
+        self.room
     }
 
     /// Where the memory of the nodes is taken from.
@@ -167,7 +224,14 @@ impl NodeTable {
         ensures refused { OnErr result (self.new ≡ self.old) }
         ensures kept { Keeps markers self.old self.new }
     {
-        let (index, _) = self.nodes.insert_full(node)?;
+        let pieces = node.piece_count();
+        if self.room - self.pieces < pieces {
+            if !self.nodes.contains(&node) {
+                return Err(AllocError);
+            }
+        }
+        let (index, is_new) = self.nodes.insert_full(node)?;
+        self.pieces += if is_new { pieces } else { 0 };
         let _len = self.nodes.len();
         Ok(NodeId::new(index, false))
     }

@@ -1,6 +1,6 @@
 //! The order of two diagrams.
 
-ghost use Rattle.std.specs.Prelude.{◌≡◌, ◌<◌, true};
+ghost use Rattle.std.specs.Prelude.{◌≡◌, ◌+◌, ◌<◌, ◌^◌, true};
 ghost use Rattle.std.specs.declared.cmp.Ordering.TheVariants.{Equal};
 ghost use Rattle.marker_diagrams.specs.Diagram.{IsStore};
 ghost use Rattle.marker_nodes.specs.Node.{markers};
@@ -116,7 +116,7 @@ fn are_passed_over(
 
 // Whether both tables have the same node at an index.
 fn agree_at(table: &NodeTable, other_table: &NodeTable, index: usize) -> bool
-    requires { index < usize.MAX }
+    requires { index + 1 < 2 ^ 32 }
     ensures { result ≡ true → AgreeAt table.now other_table.now index }
 {
     let id = NodeId::new(index, false);

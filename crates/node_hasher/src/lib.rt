@@ -1,32 +1,88 @@
-//! A fast hasher for the tables of nodes.
+//! A fast hasher with a key, for the tables of nodes.
 #![tactic(auto)]
 
 ghost use Rattle.std.specs.Prelude.{◌≡◌, ◌≤◌, drop, length, slice_index, take};
 ghost use Rattle.std.specs.Int.{from_le_bytes, w32, w64};
 ghost use Rattle.node_hasher.specs.Hash as hash;
 
-use std::hash::{BuildHasherDefault, Hasher};
+use std::hash::{BuildHasher, Hasher};
 
-/// What the tables of nodes hash by.
-pub type NodeState = BuildHasherDefault<NodeHasher>;
-
-/// Takes in a word of eight bytes by a rotation and one multiplication, as `FxHasher` of Rust's
-/// `rustc-hash`. A number is one word, and a text a word for each eight bytes.
+/// What the tables of nodes hash by: a key of two words.
 ///
-/// It is not keyed: who chooses what is hashed can make it collide, which costs time alone. The
-/// high half of a hash is its better one; the tables of the standard library and of `indexmap` fold
-/// it onto the low half.
-#[derive(Clone, Copy, Default)]
+/// Who chooses what is hashed and does not know the key cannot make it collide. The key is shown
+/// nowhere: there is no `Debug`, and no call that returns it.
+#[derive(Clone, Copy)]
+pub struct NodeState {
+    initial: u64,
+    multiplier: u64,
+}
+
+impl NodeState {
+    /// The fixed key, which everybody knows. Who chooses what is hashed can make it collide, which
+    /// costs time alone.
+    pub fn new() -> Self
+        ensures { result ≡ hash.keyed 0 0 }
+    {
+        NodeState::with_key([0, 0])
+    }
+
+    /// With a key. Its words should be random, and be told to nobody. The key of two zeros is the
+    /// fixed one.
+    pub fn with_key(key: [u64; 2]) -> Self
+        ensures { result ≡ hash.keyed (slice_index key 0) (slice_index key 1) }
+    {
+        NodeState {
+            initial: key[0] ^ 0x243f_6a88_85a3_08d3,
+            multiplier: key[1] ^ 0x9e37_79b9_7f4a_7c15,
+        }
+    }
+}
+
+impl Default for NodeState {
+    ghost is_default = { λ state. state ≡ hash.keyed 0 0 };
+
+    /// The fixed key.
+    fn default() -> Self {
+        NodeState::new()
+    }
+}
+
+impl BuildHasher for NodeState {
+    type Hasher = NodeHasher;
+
+    ghost build_hasher = { hash.begun };
+
+    fn build_hasher(&self) -> NodeHasher {
+        NodeHasher {
+            state: self.initial,
+            multiplier: self.multiplier,
+        }
+    }
+}
+
+/// Takes in a word of eight bytes by one multiplication, whose halves it joins. A number is one
+/// word, and a text a word for each eight bytes. A word that has fewer adds how many it has.
+#[derive(Clone, Copy)]
 pub struct NodeHasher {
     state: u64,
+    multiplier: u64,
 }
 
 impl NodeHasher {
     // Takes in a word.
     fn mix(&mut self, word: u64)
-        ensures { self.new.state ≡ hash.mixed self.old.state word }
+        ensures { self.new ≡ hash.mixed self.old word }
     {
-        self.state = (self.state.rotate_left(5) ^ word).wrapping_mul(0x517c_c1b7_2722_0a95);
+        let product = (self.state ^ word) as u128 * self.multiplier as u128;
+        self.state = (product & 0xFFFF_FFFF_FFFF_FFFF) as u64 ^ (product >> 64) as u64;
+    }
+
+    // Takes in a word of so many bytes, which are fewer than eight.
+    fn mix_part(&mut self, word: u64, count: u64)
+        ensures { self.new ≡ hash.mixed_part self.old word count }
+    {
+        self.mix(word);
+        self.state = self.state.wrapping_add(count);
     }
 }
 
@@ -40,17 +96,22 @@ impl Hasher for NodeHasher {
     }
 
     fn write(&mut self, bytes: &[u8]) {
-        for i in 0..bytes.len().div_ceil(8) {
+        let whole = bytes.len() / 8;
+        for i in 0..whole {
             self.mix(word_at(bytes, 8 * i));
+        }
+        let left = bytes.len() % 8;
+        if left > 0 {
+            self.mix_part(word_at(bytes, 8 * whole), left as u64);
         }
     }
 
     fn write_u8(&mut self, i: u8) {
-        self.mix(i as u64);
+        self.mix_part(i as u64, 1);
     }
 
     fn write_u32(&mut self, i: u32) {
-        self.mix(i as u64);
+        self.mix_part(i as u64, 4);
     }
 
     fn write_u64(&mut self, i: u64) {
@@ -65,7 +126,7 @@ impl Hasher for NodeHasher {
 // The eight bytes from a place on as one word, the first the lowest. One that is not there is 0.
 fn word_at(bytes: &[u8], at: usize) -> u64
     requires { at ≤ length bytes.now }
-    ensures { result ≡ from_le_bytes w64 (drop at bytes.now) }
+    ensures { result ≡ hash.word_of bytes.now at }
 {
     let left = bytes.len() - at;
     if left >= 8 {

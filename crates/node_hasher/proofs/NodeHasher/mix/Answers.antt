@@ -1,6 +1,7 @@
-use Rattle.node_hasher.specs.Hash.{mixed}
+use mathlib.Core.Path.{refl}
+use Rattle.node_hasher.specs.Hash.{folded, mixed}
 use Rattle.node_hasher.proofs.NodeHasher.mix.Goals as goal
 
 pub returns : goal.returns
-unfolding mixed
-returns c = simp c.rotate_left.ensures
+unfolding mixed folded
+returns c = refl
