@@ -4,7 +4,8 @@ ghost use Rattle.std.specs.Prelude.{◌≡◌, ◌≢◌, IfOk, IfErr, string_by
 ghost use Rattle.std.specs.Char.{to_ascii_lowercase};
 ghost use Rattle.refusal.specs.declared.Refusal.TheVariants.{SegmentAtEnd};
 ghost use Rattle.pep440_version.specs.Grammar.{IsVersionText};
-ghost use Rattle.pep440_version.specs.Parse.{IfFault, IsGivenUnlessMemory};
+ghost use Rattle.refusal.specs.Refused.{IfFault};
+ghost use Rattle.pep440_version.specs.Parse.{IsGivenUnlessMemory};
 ghost use Rattle.pep440_version.specs.Parts.{Parts};
 ghost use Rattle.pep440_version.specs.Reading.{version_at};
 

@@ -20,7 +20,8 @@ pub struct VersionPattern {
 
 impl VersionPattern {
     ghost use Rattle.pep440_version.specs.Grammar.{IsPatternText};
-    ghost use Rattle.pep440_version.specs.Parse.{IfFault, IsPatternGivenUnlessMemory};
+    ghost use Rattle.refusal.specs.Refused.{IfFault};
+    ghost use Rattle.pep440_version.specs.Parse.{IsPatternGivenUnlessMemory};
     ghost use Rattle.pep440_version.specs.Parts.{Parts};
 
     /// Reads a version, or an optional `v`, an optional epoch and a release that `.*` follows

@@ -3,7 +3,7 @@ use Rattle.std.specs.Prelude.{◌≡◌, ⊤, ℕ, List, Option, Result, IfErr}
 use Rattle.refusal.specs.declared.Refusal.{Refusal}
 use Rattle.refusal.specs.declared.Refusal.TheVariants.{OutOfMemory, SegmentAtEnd, Fault}
 use Rattle.pep508_errors.specs.declared.error.Pep508Error.{Pep508Error}
-use Rattle.pep508_errors.specs.Url.{IfFault}
+use Rattle.refusal.specs.Refused.{IfFault}
 use Rattle.marker_warnings.specs.declared.warning.MarkerWarningKind.{MarkerWarningKind}
 use Rattle.marker_warnings.specs.Kinds.{Adds}
 use Rattle.marker_environment.specs.Valuation.{Valuation}
