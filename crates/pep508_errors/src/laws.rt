@@ -1,16 +1,14 @@
 //! Laws of underlines. Each is a function that does nothing, whose contract is the law.
 
-ghost use Rattle.std.specs.Prelude.{◌≡◌, ◌∷◌, ◌++◌, ◌+◌, ◌<◌, ◌≤◌, ℕ, List, [], IsUtf8, drop, length, replicate, take};
-ghost use Rattle.std.specs.Str.{chars, IsCharBoundary};
-ghost use Rattle.pep508_errors.specs.Underline.{columns, underline};
+ghost use Rattle.std.specs.Prelude.{◌≡◌, ◌∷◌, ◌++◌, ◌≤◌, ℕ, List, [], IsUtf8, length, replicate};
+ghost use Rattle.std.specs.Str.{chars};
+ghost use Rattle.pep508_errors.specs.Underline.{columns, IsWholeSpan, span_underline, underline};
 
 /// Under a span of whole characters stand as many carets as the characters have columns, behind as
 /// many spaces as the text before it has columns.
 pub fn underline_of_a_span()
-    ensures { (text : List ℕ) (start len : ℕ) → IsUtf8 text → start < length text
-        → IsCharBoundary text start → IsCharBoundary text (start + len)
-        → underline text start len ≡ replicate (columns (chars (take start text))) 32
-        ++ replicate (columns (chars (take len (drop start text)))) 94 }
+    ensures { (text : List ℕ) (start len : ℕ) → IsUtf8 text → IsWholeSpan text start len
+        → underline text start len ≡ span_underline text start len }
 {}
 
 /// At the end of a text, and past it, stands one caret, behind as many spaces as the text has

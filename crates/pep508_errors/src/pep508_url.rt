@@ -1,9 +1,9 @@
 //! Types of URLs.
 
-ghost use Rattle.std.specs.Prelude.{◌≡◌, ◌≢◌, ℕ, List, Bool, true, false, ⊤, None, Ok, IfOk, IfErr};
+ghost use Rattle.std.specs.Prelude.{◌≡◌, ◌≢◌, ℕ, List, Bool, ⊤, None, Ok, IfOk, IfErr};
 ghost use Rattle.refusal.specs.declared.Refusal.TheVariants.{OutOfMemory, SegmentAtEnd, Fault};
 ghost use Rattle.pep508_errors.specs.declared.surroundings.Surroundings.{Surroundings};
-ghost use Rattle.pep508_errors.specs.Url.{is_overflow, IfFault};
+ghost use Rattle.pep508_errors.specs.Url.{HasNone, is_overflow, OnOtherFault, OnSizeFault};
 ghost use Rattle.url.specs.declared.error.ParseError.TheVariants as faults;
 ghost use Rattle.url.specs.Parser.{parse_url};
 
@@ -40,10 +40,8 @@ pub trait Pep508Url: Display + Debug + Drop {
         surroundings: &Surroundings<'_>,
     ) -> Result<Self, Refusal<Self::Err>>
         ensures value { IfOk result (λ url. names text.now surroundings.now url) }
-        ensures fault { IfErr result (λ refusal. IfFault refusal (λ fault.
-            tells_size fault ≡ false → (url : Self) → ¬ names text.now surroundings.now url)) }
-        ensures size { IfErr result (λ refusal. IfFault refusal (λ fault.
-            tells_size fault ≡ true → may_overflow text.now surroundings.now)) }
+        ensures fault { OnOtherFault tells_size result (HasNone (names text.now surroundings.now)) }
+        ensures size { OnSizeFault tells_size result (may_overflow text.now surroundings.now) }
         ensures no_end { IfErr result (λ refusal. refusal ≢ SegmentAtEnd) };
 }
 

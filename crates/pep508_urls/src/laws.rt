@@ -5,9 +5,10 @@ ghost use Rattle.percent_encoding.specs.AsciiSet.{should_percent_encode};
 ghost use Rattle.url.specs.Parser.{parse_url};
 ghost use Rattle.url.specs.Parts.{has_host, Parts};
 ghost use Rattle.pep508_urls.specs.declared.path.TheConstants.{FILE_PART};
+ghost use Rattle.pep508_urls.specs.Cut.{CutsOnce};
 ghost use Rattle.pep508_urls.specs.Extras.{SplitsExtras};
 ghost use Rattle.pep508_urls.specs.Path.{file_text, is_escaped, normalized};
-ghost use Rattle.pep508_urls.specs.PathUrl.{absolute, IsPathUrl};
+ghost use Rattle.pep508_urls.specs.PathUrl.{absolute, HasPathUrl};
 ghost use Rattle.pep508_urls.specs.Scheme.{SplitsScheme};
 ghost use Rattle.pep508_urls.specs.Meaning.{Meaning, StandsFor};
 ghost use Rattle.pep508_urls.specs.Variables.{Expands};
@@ -25,12 +26,8 @@ pub fn text_stands_for_one_thing()
 
 /// A text is cut behind one scheme, and before one list of extras.
 pub fn text_is_cut_at_one_place()
-    ensures scheme { (text scheme rest other more : List ℕ)
-        → SplitsScheme text scheme rest → SplitsScheme text other more
-        → (scheme ≡ other) × (rest ≡ more) }
-    ensures extras { (text before extras other more : List ℕ)
-        → SplitsExtras text before extras → SplitsExtras text other more
-        → (before ≡ other) × (extras ≡ more) }
+    ensures scheme { CutsOnce SplitsScheme }
+    ensures extras { CutsOnce SplitsExtras }
 {}
 
 /// A part of a path escapes exactly the listed bytes in a file URL.
@@ -49,6 +46,6 @@ pub fn file_text_is_read()
 /// where such a path is refused all the same, its URL is too large.
 pub fn path_has_a_url()
     ensures { (base : Option (List ℕ)) (path whole normal : List ℕ)
-        → absolute base path ≡ Some whole
-        → normalized whole ≡ Some normal → (url : Parts) × IsPathUrl base path url }
+        → absolute base path ≡ Some whole → normalized whole ≡ Some normal
+        → HasPathUrl base path }
 {}

@@ -160,7 +160,7 @@ pub fn split_scheme(text: &str) -> Option<(&str, &str)>
     }
 }
 
-/// The text without C0 controls and spaces at its ends.
+// The text without C0 controls and spaces at its ends.
 fn trim_url(text: &str) -> &str
     ensures { result.now ≡ trim_c0_control_and_space text.now }
 {

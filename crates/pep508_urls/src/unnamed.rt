@@ -1,8 +1,8 @@
 //! Types of URLs that a requirement without a name may have.
 
-ghost use Rattle.std.specs.Prelude.{◌≡◌, ◌≢◌, ℕ, List, Option, Some, None, IfErr, IfOk, true, false, option_copied, string_bytes};
+ghost use Rattle.std.specs.Prelude.{◌≡◌, ◌≢◌, ℕ, List, Option, Some, None, IfErr, IfOk, option_copied, string_bytes};
 ghost use Rattle.refusal.specs.declared.Refusal.TheVariants.{SegmentAtEnd};
-ghost use Rattle.pep508_errors.specs.Url.{IfFault};
+ghost use Rattle.pep508_errors.specs.Url.{OnOtherFault, OnSizeFault};
 ghost use Rattle.pep508_urls.specs.Meaning.{is_path, is_url};
 ghost use Rattle.pep508_urls.specs.Unnamed.{EachMayOverflow, MakesNamed, NamesNone};
 
@@ -22,26 +22,22 @@ pub trait UnnamedRequirementUrl: Pep508Url + PartialEq {
     /// The value of a path that starts from a folder where it is not absolute. A path that has a
     /// value is refused only for want of memory, or by a fault of size; `SegmentAtEnd` never comes.
     fn parse_path(alloc: Global, path: &str, working_dir: &str) -> Result<Self, Refusal<Self::Err>>
-        ensures value { IfOk result (λ url.
-            MakesNamed Self.names gives (Some working_dir.now) (is_path path.now) url) }
-        ensures fault { IfErr result (λ refusal. IfFault refusal (λ fault.
-            Self.tells_size fault ≡ false
-            → NamesNone Self.names (Some working_dir.now) (is_path path.now))) }
-        ensures size { IfErr result (λ refusal. IfFault refusal (λ fault.
-            Self.tells_size fault ≡ true
-            → EachMayOverflow Self.may_overflow (Some working_dir.now) (is_path path.now))) }
+        ensures value { IfOk result
+            (MakesNamed Self.names gives (Some working_dir.now) (is_path path.now)) }
+        ensures fault { OnOtherFault Self.tells_size result
+            (NamesNone Self.names (Some working_dir.now) (is_path path.now)) }
+        ensures size { OnSizeFault Self.tells_size result
+            (EachMayOverflow Self.may_overflow (Some working_dir.now) (is_path path.now)) }
         ensures no_end { IfErr result (λ refusal. refusal ≢ SegmentAtEnd) };
 
     /// The value of a path without a folder. A path that has a value is refused only for want of
     /// memory, or by a fault of size; `SegmentAtEnd` never comes.
     fn parse_absolute_path(alloc: Global, path: &str) -> Result<Self, Refusal<Self::Err>>
-        ensures value { IfOk result (λ url.
-            MakesNamed Self.names gives None (is_path path.now) url) }
-        ensures fault { IfErr result (λ refusal. IfFault refusal (λ fault.
-            Self.tells_size fault ≡ false → NamesNone Self.names None (is_path path.now))) }
-        ensures size { IfErr result (λ refusal. IfFault refusal (λ fault.
-            Self.tells_size fault ≡ true
-            → EachMayOverflow Self.may_overflow None (is_path path.now))) }
+        ensures value { IfOk result (MakesNamed Self.names gives None (is_path path.now)) }
+        ensures fault { OnOtherFault Self.tells_size result
+            (NamesNone Self.names None (is_path path.now)) }
+        ensures size { OnSizeFault Self.tells_size result
+            (EachMayOverflow Self.may_overflow None (is_path path.now)) }
         ensures no_end { IfErr result (λ refusal. refusal ≢ SegmentAtEnd) };
 
     /// The value of a URL as it is written. A URL that has a value is refused only for want of
@@ -49,12 +45,10 @@ pub trait UnnamedRequirementUrl: Pep508Url + PartialEq {
     fn parse_unnamed_url(alloc: Global, text: &str) -> Result<Self, Refusal<Self::Err>>
         ensures value { IfOk result (λ url. (folder : Option (List ℕ))
             → MakesNamed Self.names gives folder (is_url text.now) url) }
-        ensures fault { IfErr result (λ refusal. IfFault refusal (λ fault.
-            Self.tells_size fault ≡ false → (folder : Option (List ℕ))
-            → NamesNone Self.names folder (is_url text.now))) }
-        ensures size { IfErr result (λ refusal. IfFault refusal (λ fault.
-            Self.tells_size fault ≡ true → (folder : Option (List ℕ))
-            → EachMayOverflow Self.may_overflow folder (is_url text.now))) }
+        ensures fault { OnOtherFault Self.tells_size result ((folder : Option (List ℕ))
+            → NamesNone Self.names folder (is_url text.now)) }
+        ensures size { OnSizeFault Self.tells_size result ((folder : Option (List ℕ))
+            → EachMayOverflow Self.may_overflow folder (is_url text.now)) }
         ensures no_end { IfErr result (λ refusal. refusal ≢ SegmentAtEnd) };
 
     /// The same value, given as a text: what it prints and is equal to stays.
