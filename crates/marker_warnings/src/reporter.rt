@@ -1,6 +1,6 @@
 //! Who is told of warnings.
 
-ghost use Rattle.std.specs.Prelude.{⊤, ◌≡◌, ◌∷◌, [], List, Option, None, Some, OnErr, OnOk, IsOk, map};
+ghost use Rattle.std.specs.Prelude.{⊤, ◌≡◌, ◌∷◌, ◌++◌, [], List, Option, None, Some, OnErr, OnOk, IsOk, map};
 ghost use Rattle.marker_warnings.specs.Kinds.{Adds, Keeps};
 ghost use Rattle.marker_warnings.specs.declared.warning.MarkerWarningKind.{MarkerWarningKind};
 
@@ -27,11 +27,14 @@ pub trait Reporter {
         ensures kept { OnErr result (Keeps (kinds self.old) (kinds self.new)) };
 }
 
-/// Keeps the warnings, and tells their kinds.
+/// Keeps the warnings, each behind those before it, and tells their kinds.
 impl Reporter for Vec<(MarkerWarningKind, String)> {
     ghost kinds = { λ warnings. Some (map (λ warning. warning.0) warnings.items) };
 
-    fn report(&mut self, kind: MarkerWarningKind, warning: String) -> Result<(), AllocError> {
+    fn report(&mut self, kind: MarkerWarningKind, warning: String) -> Result<(), AllocError>
+        ensures taken { OnOk result (self.new.items ≡ self.old.items ++ (kind, warning) ∷ []) }
+        ensures kept { OnErr result (self.new.items ≡ self.old.items) }
+    {
         self.push((kind, warning))?;
         Ok(())
     }
