@@ -1,5 +1,8 @@
-//! Errors of PEP 508 texts: what is wrong and where, how that prints, the types of URLs whose
-//! own errors are among them, and the warnings of markers with who takes them.
+//! Errors and warnings of PEP 508 parsers: what is wrong with a text and where, how that prints,
+//! the types of URLs whose own errors are among them, and the reporters that take warnings.
+//!
+//! Calls that allocate return `OutOfMemory` or `AllocError` when memory runs out. Parsing a URL
+//! never returns [`Refusal::SegmentAtEnd`].
 #![tactic(auto)]
 
 mod error;

@@ -14,26 +14,29 @@ use std::error::Error;
 use std::fmt::{Debug, Display};
 use url::{ParseError, Url};
 
-/// A type of URLs that a requirement may have.
+/// A type that the URL of a requirement is parsed into, such as [`Url`].
 ///
-/// The type says which values a text has, and reading answers one of them. A text that has a value
-/// is refused only for want of memory, or by a fault of size, where the type says that the text may
-/// be too large.
+/// An implementation states which values a text has (`names`), and `parse_url` returns one of them.
+/// It returns a fault only for a text without a value, or a fault of size (`tells_size`) for a text
+/// that may be too large (`may_overflow`).
 pub trait Pep508Url: Display + Debug + Drop {
-    /// What is wrong with a text that is refused.
+    /// Why a text is rejected.
     type Err: Error;
 
     /// The value is one that the text has in the surroundings.
     ghost names: { List ℕ → Surroundings → Self → Type 0 };
 
-    /// The fault says that the text is too large, and nothing else of it.
+    /// The fault says that the URL is too large, and nothing else about the text.
     ghost tells_size: { Self.Err → Bool };
 
-    /// A fault of size may be told of the text in the surroundings.
+    /// The text may be rejected in the surroundings with a fault of size.
     ghost may_overflow: { List ℕ → Surroundings → Type 0 };
 
-    /// Reads a URL. Refused where there is no memory for it, by [`Refusal::OutOfMemory`], and where
-    /// the text is at fault, by [`Refusal::Fault`]; `SegmentAtEnd` never comes.
+    /// Parses a URL.
+    ///
+    /// # Errors
+    /// - [`Refusal::OutOfMemory`] when memory runs out.
+    /// - [`Refusal::Fault`] if the text has no value in the surroundings, or its URL is too large.
     fn parse_url(
         alloc: Global,
         text: &str,
@@ -45,7 +48,7 @@ pub trait Pep508Url: Display + Debug + Drop {
         ensures no_end { IfErr result (λ refusal. refusal ≢ SegmentAtEnd) };
 }
 
-/// The refusal that a fault of `url` stands for.
+/// The refusal for an error of `url`: `OutOfMemory`, or a fault.
 pub fn refusal_of(fault: ParseError) -> Refusal<ParseError>
     ensures memory { fault ≡ faults.OutOfMemory → result ≡ OutOfMemory }
     ensures fault { fault ≢ faults.OutOfMemory → result ≡ Fault fault }
@@ -56,9 +59,9 @@ pub fn refusal_of(fault: ParseError) -> Refusal<ParseError>
     }
 }
 
-/// A text has the value that the URL Standard gives it, whatever the surroundings. The fault of
-/// size is [`ParseError::Overflow`], for URLs of 4 GB; `url` does not say of which texts it tells
-/// that.
+/// A text has the value that the URL Standard gives it, in any surroundings. The fault of size is
+/// [`ParseError::Overflow`], for URLs of 4 GB or more; the contract of `url` leaves open for which
+/// texts it returns that.
 impl Pep508Url for Url {
     type Err = ParseError;
 

@@ -1,19 +1,18 @@
-//! What a reader of markers warns of.
+//! What marker parsers warn about.
 
-/// The kind of a warning. Each is a comparison that PEP 508 allows, or that was written before it,
-/// and that says less than its writer may think.
+/// The kind of a warning: a comparison that PEP 508 allows, or that predates it, and that means
+/// less than its author may think.
 #[derive(Clone, Copy, Debug, PartialEq, Eq, PartialOrd, Ord, Hash)]
 pub enum MarkerWarningKind {
-    /// A name of PEP 345 stands in place of the modern one, as `os.name`.
+    /// A name of PEP 345 is used in place of the modern one, as `os.name`.
     DeprecatedMarkerName,
-    /// `extra` is compared with something that is no name, or by another operator than `==` and
-    /// `!=`.
+    /// `extra` is compared with an invalid name, or by an operator other than `==` and `!=`.
     ExtraInvalidComparison,
-    /// A text is compared by an operator of versions, as `os_name ~= 'x'`.
+    /// A text is compared by a version operator, as `os_name ~= 'x'`.
     LexicographicComparison,
     /// Two keys are compared with one another.
     MarkerMarkerComparison,
-    /// What stands beside a version key is no version or specifier of PEP 440.
+    /// A version key is compared with an invalid PEP 440 version or specifier.
     Pep440Error,
     /// Two quoted texts are compared with one another.
     StringStringComparison,

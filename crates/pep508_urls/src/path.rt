@@ -1,4 +1,4 @@
-//! Paths, and how one is written as a `file` URL.
+//! Paths, and their `file` URLs.
 
 ghost use Rattle.std.specs.Prelude.{◌≡◌, ◌≢◌, ◌++◌, Some, None, IfErr, IfOk, OnOk, map, string_bytes};
 ghost use Rattle.std.specs.List.{join_with_byte};
@@ -16,7 +16,8 @@ use refusal::Refusal;
 use std::alloc::{AllocError, Global};
 use std::borrow::CowStr;
 
-/// What a part of a path escapes in a file URL, with all that is not ASCII.
+/// The ASCII bytes that a part of a path escapes in a file URL. Bytes that are not ASCII are
+/// escaped too.
 pub const FILE_PART: AsciiSet = ascii_set!(
     CONTROLS
         .add(b' ')
@@ -34,9 +35,10 @@ pub const FILE_PART: AsciiSet = ascii_set!(
         .add(b'}')
 );
 
-/// The path without `.`, `..` and empty parts. A path that begins with no `/` gets none.
+/// The path without `.`, `..` and empty parts. A relative path stays relative.
 ///
-/// Refused as [`VerbatimUrlError::Normalization`] where a `..` finds no part to take away.
+/// # Errors
+/// - [`VerbatimUrlError::Normalization`] if a `..` has no part to remove.
 pub fn normalize_absolute_path(
     alloc: Global,
     path: &str,
@@ -107,8 +109,8 @@ fn push_joined(text: &mut String, parts: &[&str]) -> Result<(), AllocError>
     Ok(())
 }
 
-/// A path in a URL with its percent-escapes read, where they give a text, and else the path as it
-/// is.
+/// The path of a URL with its percent-escapes decoded, or the path as it is if they do not decode
+/// to UTF-8.
 pub fn normalize_url_path(alloc: Global, path: &str) -> Result<CowStr<'_>, AllocError>
     ensures { IfOk result (λ text. cow_str_bytes text ≡ url_path path.now) }
 {

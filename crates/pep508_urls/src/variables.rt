@@ -1,4 +1,4 @@
-//! Variables that a text refers to.
+//! Variables in a text.
 
 ghost use Rattle.std.specs.Prelude.{◌≡◌, ◌≢◌, ◌<◌, ◌++◌, ◌∷◌, List, ℕ, All, IfNone, IfOk, IfSome, IsOkAnd, OnErr, OnOk, length, string_bytes, take, drop};
 ghost use Rattle.std.specs.Cow.{cow_str_bytes};
@@ -11,11 +11,11 @@ use std::alloc::{AllocError, Global};
 use std::borrow::CowStr;
 
 /// Replaces each `${NAME}` in a text, from left to right, by the variable of that name, or by the
-/// project root for `PROJECT_ROOT` where there is no such variable. A name is one or more of `A` to
-/// `Z`, `0` to `9` and `_`, and one that stands for nothing is left as it is. What was put in is
-/// not looked at again.
+/// project root for `PROJECT_ROOT` if there is no such variable. A name is one or more of `A` to
+/// `Z`, `0` to `9` and `_`; a reference to an unknown name is left as it is. A replacement is not
+/// expanded again.
 ///
-/// The text is borrowed where nothing changes, and takes no memory where it has no `$`.
+/// The text is borrowed if nothing changes. A text without `$` takes no memory.
 pub fn expand_env_vars<'a>(
     alloc: Global,
     text: &'a str,

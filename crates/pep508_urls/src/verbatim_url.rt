@@ -1,4 +1,4 @@
-//! URLs that keep the text that they were given as.
+//! URLs that keep the text that they were parsed from.
 
 ghost use Rattle.std.specs.Prelude.{◌≡◌, ◌≢◌, IfErr, IfOk, None, Ok, Some, option_copied, string_bytes};
 ghost use Rattle.refusal.specs.Refused.{FaultIs};
@@ -19,9 +19,9 @@ use std::fmt;
 use std::marker::Model;
 use url::{ParseError, Url};
 
-/// A URL with the text that it was given as, if it was.
+/// A URL, with the text that it was parsed from if it is known.
 ///
-/// It is compared, ordered, hashed and printed as the URL alone.
+/// Comparison, order, hash and text are those of the URL alone.
 ///
 /// ```
 /// let url = VerbatimUrl::parse(rt.alloc(), "https://Example.org/a b")?;
@@ -46,7 +46,7 @@ impl Model for VerbatimUrl {
 }
 
 impl VerbatimUrl {
-    /// A URL that was given as no text.
+    /// A URL without a given text.
     pub fn from_url(url: Url) -> VerbatimUrl
         ensures url { result.url ≡ url }
         ensures given { result.given ≡ None }
@@ -54,10 +54,10 @@ impl VerbatimUrl {
         VerbatimUrl { url, given: None }
     }
 
-    /// Reads a URL (the URL Standard) as it is, with no variables, and does not keep the text.
+    /// Parses a URL by the URL Standard, without expanding variables, and does not keep the text.
     ///
-    /// A text that is no URL, and one whose URL is too large, is refused as a fault,
-    /// [`VerbatimUrlError::Url`]. `SegmentAtEnd` never comes.
+    /// # Errors
+    /// - [`VerbatimUrlError::Url`] if the text is an invalid URL, or its URL is too large.
     pub fn parse_url(alloc: Global, given: &str) -> Result<VerbatimUrl, Refusal<VerbatimUrlError>>
         ensures value { IfOk result (λ url. parse_url None given.now ≡ Ok url.url) }
         ensures given { IfOk result (λ url. url.given ≡ None) }
@@ -71,10 +71,10 @@ impl VerbatimUrl {
         }
     }
 
-    /// Reads a URL (the URL Standard) as it is, with no variables, and keeps a copy of the text.
+    /// Parses a URL by the URL Standard, without expanding variables, and keeps a copy of the text.
     ///
-    /// A text that is no URL, and one whose URL is too large, is refused as a fault,
-    /// [`VerbatimUrlError::Url`]. `SegmentAtEnd` never comes.
+    /// # Errors
+    /// - [`VerbatimUrlError::Url`] if the text is an invalid URL, or its URL is too large.
     pub fn parse(alloc: Global, given: &str) -> Result<VerbatimUrl, Refusal<VerbatimUrlError>>
         ensures value { IfOk result (λ url. parse_url None given.now ≡ Ok url.url) }
         ensures given { IfOk result (λ url. url.given ≡ Some given.now) }
@@ -85,8 +85,7 @@ impl VerbatimUrl {
         Ok(url.with_given(String::from_str(alloc, given)?))
     }
 
-    /// The same URL, given as this text. Text, equality, order and hash stay, since they are the
-    /// URL's.
+    /// The same URL, given as this text. It prints, compares and hashes as before.
     pub fn with_given(self, given: String) -> VerbatimUrl
         ensures value { result ≡ given_as self (string_bytes given) }
         ensures given { result.given ≡ Some (string_bytes given) }
@@ -99,7 +98,7 @@ impl VerbatimUrl {
         }
     }
 
-    /// The text that it was given as, if it was.
+    /// The given text, if it is known.
     pub fn given(&self) -> Option<&str>
         ensures { option_copied result ≡ self.now.given }
     {
@@ -116,7 +115,7 @@ impl VerbatimUrl {
         &self.url
     }
 
-    /// A clone of the URL. Only memory can run out.
+    /// A clone of the URL.
     pub fn to_url(&self, _alloc: Global) -> Result<Url, AllocError>
         ensures { IfOk result (λ url. url ≡ self.now.url) }
     {
@@ -124,7 +123,7 @@ impl VerbatimUrl {
         self.url.clone()
     }
 
-    /// The URL alone.
+    /// The URL, without the given text.
     pub fn into_url(self) -> Url
         ensures { result ≡ self.url }
     {

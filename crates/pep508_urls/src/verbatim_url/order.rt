@@ -1,4 +1,4 @@
-//! URLs are compared, ordered and hashed as their texts, whatever they were given as.
+//! Equality, order and hash of URLs: those of their texts, not of the given ones.
 
 ghost use Rattle.std.proofs.Common.{rules};
 ghost use Rattle.std.specs.Prelude.{Some, bytes_eq, refl};

@@ -20,13 +20,15 @@ use std::alloc::Global;
 use url::{ParseError, ParseResult, Url};
 
 impl VerbatimUrl {
-    /// The `file` URL of a path, given as no text. A path that is not absolute starts from the
-    /// folder `base`, which has to be, also where the path is absolute.
+    /// The `file` URL of a path, without a given text. A relative path starts from the folder
+    /// `base`, which must be absolute even if the path is.
     ///
-    /// The fault is [`VerbatimUrlError::WorkingDirectory`] with the base where that is not
-    /// absolute, [`VerbatimUrlError::Normalization`] with the path behind its base where a `..`
-    /// finds no folder to leave, and [`VerbatimUrlError::UrlConversion`] with that path, or
-    /// [`VerbatimUrlError::Url`], where the URL is too large. `SegmentAtEnd` never comes.
+    /// # Errors
+    /// - [`VerbatimUrlError::WorkingDirectory`] with the base if that is not absolute.
+    /// - [`VerbatimUrlError::Normalization`] with the path after its base if a `..` leaves the
+    ///   root.
+    /// - [`VerbatimUrlError::UrlConversion`] with that path, or [`VerbatimUrlError::Url`], if the
+    ///   URL is too large.
     pub fn from_path(
         alloc: Global,
         path: &str,
@@ -50,10 +52,11 @@ impl VerbatimUrl {
         from_whole_path(alloc, whole.as_str())
     }
 
-    /// The `file` URL of an absolute path, given as no text.
+    /// The `file` URL of an absolute path, without a given text.
     ///
-    /// The fault is [`VerbatimUrlError::WorkingDirectory`] with the path where that is not
-    /// absolute, and else as [`VerbatimUrl::from_path`] says. `SegmentAtEnd` never comes.
+    /// # Errors
+    /// - [`VerbatimUrlError::WorkingDirectory`] with the path if that is not absolute.
+    /// - The other errors of [`VerbatimUrl::from_path`].
     pub fn from_absolute_path(
         alloc: Global,
         path: &str,
@@ -70,10 +73,11 @@ impl VerbatimUrl {
         from_whole_path(alloc, path)
     }
 
-    /// The path of a `file` URL that names no host, with its percent-escapes read.
+    /// The path of a `file` URL without a host, with its percent-escapes decoded.
     ///
-    /// Of any other URL, and where the escapes give no text, the fault is
-    /// [`VerbatimUrlError::UrlConversion`] with the URL's text. `SegmentAtEnd` never comes.
+    /// # Errors
+    /// - [`VerbatimUrlError::UrlConversion`] with the URL's text for any other URL, and if the
+    ///   escapes do not decode to UTF-8.
     pub fn as_path(&self, alloc: Global) -> Result<String, Refusal<VerbatimUrlError>>
         ensures value { IfOk result (λ path. IsPathOf self.now.url (string_bytes path)) }
         ensures none { FaultIs result (λ _. HasNone (IsPathOf self.now.url)) }

@@ -1,4 +1,4 @@
-//! What a text or a path becomes, by the traits of types of URLs.
+//! How texts of requirements are parsed into URLs.
 
 ghost use Rattle.std.specs.Prelude.{◌≡◌, ◌≢◌, IfErr, IfOk, option_copied};
 ghost use Rattle.refusal.specs.Refused.{FaultIs};
@@ -38,7 +38,7 @@ impl Pep508Url for VerbatimUrl {
             (spec.TextMayOverflow text.now surroundings.now) }
         ensures no_end { IfErr result (λ refusal. refusal ≢ SegmentAtEnd) }
 
-        // Which fault it is: that of the URL or the path that the text stands for.
+        // A fault is the one of the URL or the path that the text stands for.
         ensures told { FaultIs result (spec.IsFaultIn text.now surroundings.now) }
     {
         let expanded = expand_env_vars(alloc, text, surroundings)?;
