@@ -11,7 +11,7 @@ use Rattle.marker_words.specs.declared.key.MarkerValueVersion.TheVariants.{Pytho
 use Rattle.marker_words.specs.Key.{version_variable_key}
 use Rattle.pep440_version.specs.declared.error.VersionParseError.{VersionParseError}
 use Rattle.pep440_version.specs.Grammar.{IsVersionText}
-use Rattle.pep440_version.specs.Parse.{IfFault}
+use Rattle.refusal.specs.Refused.{IfFault}
 use Rattle.marker_environment.specs.declared.builder.MarkerEnvironmentBuilder.{MarkerEnvironmentBuilder}
 use Rattle.marker_environment.specs.Written.{Written}
 use Rattle.marker_environment.specs.Environment.{Values, HasSameValues, SetsVersion, version_texts_of, IsRefusal, valuation_of}

@@ -5,7 +5,7 @@ ghost use Rattle.refusal.specs.declared.Refusal.TheVariants.{SegmentAtEnd};
 ghost use Rattle.serde.specs.Event.{Logs, text};
 ghost use Rattle.serde.specs.Steps.{Gives};
 ghost use Rattle.pep440_version.specs.Grammar.{IsVersionText};
-ghost use Rattle.pep440_version.specs.Parse.{IfFault};
+ghost use Rattle.refusal.specs.Refused.{IfFault};
 ghost use Rattle.pep440_version.specs.Parts.{Parts};
 ghost use Rattle.marker_environment.specs.Written.{written, normal, Says, IsSaidUnlessMemory};
 

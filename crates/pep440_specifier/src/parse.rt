@@ -3,7 +3,8 @@
 ghost use Rattle.std.specs.Prelude.{◌≡◌, ◌≢◌, ◌≤◌, IfErr, IfNone, IfOk, IfSome, List, ℕ, false, length};
 ghost use Rattle.std.specs.List.{prefix_len};
 ghost use Rattle.refusal.specs.declared.Refusal.TheVariants.{SegmentAtEnd};
-ghost use Rattle.pep440_version.specs.Parse.{IfFault, IsGivenUnlessMemory};
+ghost use Rattle.refusal.specs.Refused.{IfFault};
+ghost use Rattle.pep440_version.specs.Parse.{IsGivenUnlessMemory};
 ghost use Rattle.pep440_specifier.specs.Fault.{IsToldOf};
 ghost use Rattle.pep440_specifier.specs.Grammar.{IsOperatorBefore, IsSpecifierText, is_operator_byte};
 ghost use Rattle.pep440_specifier.specs.Operator.{is_star, operator_text};

@@ -1,9 +1,9 @@
 -- What a call that reads a text gives.
-use Rattle.std.specs.Prelude.{◌≡◌, Bool, Result, Ok, Err, ⊤}
+use Rattle.std.specs.Prelude.{◌≡◌, Bool, Result, Ok, Err}
 use Rattle.pep440_version.specs.declared.pattern.VersionPattern.{VersionPattern}
 use Rattle.pep440_version.specs.Parts.{Parts}
 use Rattle.refusal.specs.declared.Refusal.{Refusal}
-use Rattle.refusal.specs.declared.Refusal.TheVariants.{Fault, OutOfMemory, SegmentAtEnd}
+use Rattle.refusal.specs.declared.Refusal.TheVariants.{OutOfMemory}
 
 -- this value, or out of memory
 abbrev pub IsGivenUnlessMemory : {T E : Type 0} → Result T (Refusal E) → T → Type 0
@@ -15,9 +15,3 @@ abbrev pub IsPatternGivenUnlessMemory :
     {E : Type 0} → Result VersionPattern (Refusal E) → Parts → Bool → Type 0
 IsPatternGivenUnlessMemory (Ok p) v star = (p.version ≡ v) × (p.wildcard ≡ star)
 IsPatternGivenUnlessMemory (Err e) v star = e ≡ OutOfMemory
-
--- a fact of the fault, where the refusal is one
-abbrev pub IfFault : {E : Type 0} → Refusal E → (E → Type 0) → Type 0
-IfFault OutOfMemory P = ⊤
-IfFault SegmentAtEnd P = ⊤
-IfFault (Fault fault) P = P fault

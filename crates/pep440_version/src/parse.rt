@@ -3,7 +3,8 @@
 ghost use Rattle.std.specs.Prelude.{◌≡◌, ◌≢◌, IfErr, IfNone, IfOk, IfSome, string_bytes};
 ghost use Rattle.refusal.specs.declared.Refusal.TheVariants.{SegmentAtEnd};
 ghost use Rattle.pep440_version.specs.Grammar.{IsVersionText};
-ghost use Rattle.pep440_version.specs.Parse.{IfFault, IsGivenUnlessMemory};
+ghost use Rattle.refusal.specs.Refused.{IfFault};
+ghost use Rattle.pep440_version.specs.Parse.{IsGivenUnlessMemory};
 ghost use Rattle.pep440_version.specs.Parts.{Parts};
 
 use crate::error::VersionParseError;

@@ -18,7 +18,8 @@ pub struct VersionPattern {
 
 impl VersionPattern {
     ghost use Rattle.pep440_version.specs.Grammar.{IsPatternText};
-    ghost use Rattle.pep440_version.specs.Parse.{IfFault, IsPatternGivenUnlessMemory};
+    ghost use Rattle.refusal.specs.Refused.{IfFault};
+    ghost use Rattle.pep440_version.specs.Parse.{IsPatternGivenUnlessMemory};
     ghost use Rattle.pep440_version.specs.Parts.{Parts};
 
     /// Reads a pattern as `parse` does. A text that is no pattern is `None`, and no error is made of

@@ -1,8 +1,8 @@
 -- How a fault of a text is shown: the message, the text, and a line of carets under the span. Texts
 -- are lists of bytes, and places in a text and lengths count bytes.
-use Rattle.std.specs.Prelude.{ℕ, ◌+◌, ◌-◌, nat_lt, nat_le, false, List, [], ◌∷◌, ◌++◌, length, replicate, sum_by, unwrap_or, if◌then◌else◌}
+use Rattle.std.specs.Prelude.{ℕ, ◌+◌, ◌-◌, ◌<◌, nat_lt, nat_le, false, List, [], ◌∷◌, ◌++◌, drop, length, replicate, sum_by, take, unwrap_or, if◌then◌else◌}
 use Rattle.std.specs.Char.{len_utf8}
-use Rattle.std.specs.Str.{chars}
+use Rattle.std.specs.Str.{chars, IsCharBoundary}
 use Rattle.unicode_width.specs.Width.{char_width}
 
 -- the columns of a character: its width, or 0 where it has none, as a control character
@@ -37,3 +37,15 @@ underline text start len =
 -- three lines: the message, the text and the underline
 abbrev pub shown : List ℕ → List ℕ → ℕ → ℕ → List ℕ
 shown message text start len = message ++ (10 ∷ (text ++ (10 ∷ underline text start len)))
+
+-- the span begins in the text, and each of its ends is a place between characters
+pub record IsWholeSpan (text : List ℕ) (start len : ℕ) : Type 0 where
+  pub inside : start < length text
+  pub begins : IsCharBoundary text start
+  pub ends : IsCharBoundary text (start + len)
+
+-- a space for each column before a span, and a caret for each of its own
+abbrev pub span_underline : List ℕ → ℕ → ℕ → List ℕ
+span_underline text start len =
+    replicate (columns (chars (take start text))) 32
+    ++ replicate (columns (chars (take len (drop start text)))) 94

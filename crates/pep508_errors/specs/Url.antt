@@ -1,15 +1,21 @@
--- What a text that is no URL is refused by.
-use Rattle.std.specs.Prelude.{Bool, true, false, ⊤}
+-- Types of URLs, and what a text that is no URL is refused by.
+use Rattle.std.specs.Prelude.{◌≡◌, Bool, true, false, Result}
+use Rattle.refusal.specs.Refused.{FaultIs}
 use Rattle.refusal.specs.declared.Refusal.{Refusal}
-use Rattle.refusal.specs.declared.Refusal.TheVariants.{OutOfMemory, SegmentAtEnd, Fault}
 use Rattle.url.specs.declared.error.ParseError.{ParseError}
 use Rattle.url.specs.declared.error.ParseError.TheVariants.{Overflow}
 
--- what holds of the fault, where the refusal is one
-abbrev pub IfFault : {E : Type 0} → Refusal E → (E → Type 0) → Type 0
-IfFault (Fault fault) P = P fault
-IfFault OutOfMemory P = ⊤
-IfFault SegmentAtEnd P = ⊤
+-- no value is such
+abbrev pub HasNone : {T : Type 0} → (T → Type 0) → Type 0
+HasNone {T} IsSuch = (value : T) → ¬ IsSuch value
+
+-- a fact of a call that is refused with a fault of size
+abbrev pub OnSizeFault : {T E : Type 0} → (E → Bool) → Result T (Refusal E) → Type 0 → Type 0
+OnSizeFault tells_size result P = FaultIs result (λ fault. tells_size fault ≡ true → P)
+
+-- a fact of a call that is refused with another fault
+abbrev pub OnOtherFault : {T E : Type 0} → (E → Bool) → Result T (Refusal E) → Type 0 → Type 0
+OnOtherFault tells_size result P = FaultIs result (λ fault. tells_size fault ≡ false → P)
 
 -- the URL would come to 4 GB
 abbrev pub is_overflow : ParseError → Bool

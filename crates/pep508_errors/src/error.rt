@@ -1,4 +1,4 @@
-//! Faults of texts.
+//! Errors of requirements and markers.
 
 ghost use Rattle.pep508_errors.specs.Error.{error_text, source_text};
 
@@ -10,11 +10,11 @@ use std::fmt;
 /// What is wrong with a text.
 #[derive(Debug, Drop)]
 pub enum Pep508ErrorSource<T: Pep508Url> {
-    /// The text is no requirement or marker, as the message says.
+    /// The text is an invalid requirement or marker, as the message says.
     String(String),
-    /// A URL in the text was refused.
+    /// A URL in the text was rejected.
     UrlError(T::Err),
-    /// The text is a path or a URL without a name, which a requirement has to have.
+    /// The text is a path or a URL without a name, which a requirement must have.
     UnsupportedRequirement(String),
 }
 
@@ -35,9 +35,9 @@ impl<T: Pep508Url> fmt::Display for Pep508ErrorSource<T> {
 /// A span at the end of the text starts at its length and is 1 long. Any other begins and ends
 /// between two characters.
 ///
-/// It prints as three lines: what is wrong, the text, and under the span as many carets as its
-/// columns, or one at the end of the text. A span that is none of this text prints too: a start
-/// past the end as the end, and a place within a character as the place before it.
+/// It prints as three lines: what is wrong, the text, and a caret under each column of the span, or
+/// one at the end of the text. An invalid span prints too: a start past the end as the end, and a
+/// place within a character as the place before it.
 #[derive(Debug, Drop)]
 pub struct Pep508Error<T: Pep508Url> {
     /// What is wrong.

@@ -1,9 +1,9 @@
 //! Types of URLs.
 
-ghost use Rattle.std.specs.Prelude.{◌≡◌, ◌≢◌, ℕ, List, Bool, true, false, ⊤, None, Ok, IfOk, IfErr};
+ghost use Rattle.std.specs.Prelude.{◌≡◌, ◌≢◌, ℕ, List, Bool, ⊤, None, Ok, IfOk, IfErr};
 ghost use Rattle.refusal.specs.declared.Refusal.TheVariants.{OutOfMemory, SegmentAtEnd, Fault};
 ghost use Rattle.pep508_errors.specs.declared.surroundings.Surroundings.{Surroundings};
-ghost use Rattle.pep508_errors.specs.Url.{is_overflow, IfFault};
+ghost use Rattle.pep508_errors.specs.Url.{HasNone, is_overflow, OnOtherFault, OnSizeFault};
 ghost use Rattle.url.specs.declared.error.ParseError.TheVariants as faults;
 ghost use Rattle.url.specs.Parser.{parse_url};
 
@@ -14,40 +14,41 @@ use std::error::Error;
 use std::fmt::{Debug, Display};
 use url::{ParseError, Url};
 
-/// A type of URLs that a requirement may have.
+/// A type that the URL of a requirement is parsed into, such as [`Url`].
 ///
-/// The type says which values a text has, and reading answers one of them. A text that has a value
-/// is refused only for want of memory, or by a fault of size, where the type says that the text may
-/// be too large.
+/// An implementation states which values a text has (`names`), and `parse_url` returns one of them.
+/// It returns a fault only for a text without a value, or a fault of size (`tells_size`) for a text
+/// that may be too large (`may_overflow`).
 pub trait Pep508Url: Display + Debug + Drop {
-    /// What is wrong with a text that is refused.
+    /// Why a text is rejected.
     type Err: Error;
 
     /// The value is one that the text has in the surroundings.
     ghost names: { List ℕ → Surroundings → Self → Type 0 };
 
-    /// The fault says that the text is too large, and nothing else of it.
+    /// The fault says that the URL is too large, and nothing else about the text.
     ghost tells_size: { Self.Err → Bool };
 
-    /// A fault of size may be told of the text in the surroundings.
+    /// The text may be rejected in the surroundings with a fault of size.
     ghost may_overflow: { List ℕ → Surroundings → Type 0 };
 
-    /// Reads a URL. Refused where there is no memory for it, by [`Refusal::OutOfMemory`], and where
-    /// the text is at fault, by [`Refusal::Fault`]; `SegmentAtEnd` never comes.
+    /// Parses a URL.
+    ///
+    /// # Errors
+    /// - [`Refusal::OutOfMemory`] when memory runs out.
+    /// - [`Refusal::Fault`] if the text has no value in the surroundings, or its URL is too large.
     fn parse_url(
         alloc: Global,
         text: &str,
         surroundings: &Surroundings<'_>,
     ) -> Result<Self, Refusal<Self::Err>>
         ensures value { IfOk result (λ url. names text.now surroundings.now url) }
-        ensures fault { IfErr result (λ refusal. IfFault refusal (λ fault.
-            tells_size fault ≡ false → (url : Self) → ¬ names text.now surroundings.now url)) }
-        ensures size { IfErr result (λ refusal. IfFault refusal (λ fault.
-            tells_size fault ≡ true → may_overflow text.now surroundings.now)) }
+        ensures fault { OnOtherFault tells_size result (HasNone (names text.now surroundings.now)) }
+        ensures size { OnSizeFault tells_size result (may_overflow text.now surroundings.now) }
         ensures no_end { IfErr result (λ refusal. refusal ≢ SegmentAtEnd) };
 }
 
-/// The refusal that a fault of `url` stands for.
+/// The refusal for an error of `url`: `OutOfMemory`, or a fault.
 pub fn refusal_of(fault: ParseError) -> Refusal<ParseError>
     ensures memory { fault ≡ faults.OutOfMemory → result ≡ OutOfMemory }
     ensures fault { fault ≢ faults.OutOfMemory → result ≡ Fault fault }
@@ -58,9 +59,9 @@ pub fn refusal_of(fault: ParseError) -> Refusal<ParseError>
     }
 }
 
-/// A text has the value that the URL Standard gives it, whatever the surroundings. The fault of
-/// size is [`ParseError::Overflow`], for URLs of 4 GB; `url` does not say of which texts it tells
-/// that.
+/// A text has the value that the URL Standard gives it, in any surroundings. The fault of size is
+/// [`ParseError::Overflow`], for URLs of 4 GB or more; the contract of `url` leaves open for which
+/// texts it returns that.
 impl Pep508Url for Url {
     type Err = ParseError;
 

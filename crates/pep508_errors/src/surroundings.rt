@@ -1,9 +1,8 @@
-//! What a URL is read in.
+//! What a URL depends on besides its text.
 
 use std::collections::BTreeMap;
 
-/// What a text may speak of without saying it: the variables that it names, and the folders that
-/// its paths start from.
+/// What a URL's text may refer to: variables, and the folders that its paths start from.
 #[derive(Clone, Copy, Debug)]
 pub struct Surroundings<'a> {
     /// The values of variables, by their names, as `HOME` for `${HOME}`.

@@ -1,4 +1,4 @@
-//! The line of carets under the part of a text that is at fault.
+//! The line of carets under the part of a text that is wrong.
 
 ghost use Rattle.std.specs.Prelude.{◌≡◌, ◌≤◌, Some, replicate};
 ghost use Rattle.std.specs.Str.{chars};
@@ -17,8 +17,8 @@ fn column_width(c: char) -> usize
     c.width().unwrap_or(0)
 }
 
-/// How many columns the characters take that end within the first `place` bytes of the text. Each
-/// takes its width in a terminal, and a character without a width, as a tab, takes none.
+/// The columns of the characters that end within the first `place` bytes of the text. Each takes
+/// its width in a terminal; a character without a width, as a tab, takes none.
 pub fn columns_before(text: &str, place: usize) -> usize
     ensures { result ≡ spec.columns_before text.now place }
 {
@@ -63,7 +63,7 @@ fn write_carets<W: fmt::Write>(count: usize, f: &mut fmt::Formatter<W>) -> fmt::
     Ok(())
 }
 
-/// Writes the line under the text: spaces up to the span, and a caret for each of its columns.
+// Writes the line under the text: spaces up to the span, and a caret for each of its columns.
 pub(crate) fn write_underline<W: fmt::Write>(
     text: &str,
     start: usize,

@@ -3,7 +3,7 @@ use Rattle.std.proofs.Common.{◌≡◌, ℕ, Bool, true, false, List, Option, r
 use Rattle.std.specs.Prelude.{Result, Ok, Err, IfErr}
 use Rattle.refusal.specs.declared.Refusal.{Refusal}
 use Rattle.refusal.specs.declared.Refusal.TheVariants as refusals
-use Rattle.pep508_errors.specs.Url.{IfFault}
+use Rattle.refusal.specs.Refused.{IfFault}
 use Rattle.pep508_errors.specs.declared.surroundings.Surroundings.{Surroundings}
 use Rattle.pep508_urls.specs.Meaning.{Meaning, HasMeaning, StandsFor, folder_of}
 use Rattle.pep508_urls.specs.Unnamed.{EachMayOverflow, MakesNamed, NamesNone}

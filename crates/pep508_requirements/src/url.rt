@@ -4,7 +4,7 @@ ghost use Rattle.std.specs.Prelude.{◌≡◌, ◌≢◌, ◌++◌, IfErr, IfOk,
 ghost use Rattle.std.specs.Str.{chars};
 ghost use Rattle.refusal.specs.declared.Refusal.TheVariants.{SegmentAtEnd};
 ghost use Rattle.pep508_text.specs.Suffix.{IsSuffix};
-ghost use Rattle.pep508_errors.specs.Url.{IfFault};
+ghost use Rattle.refusal.specs.Refused.{IfFault};
 ghost use Rattle.pep508_urls.specs.Meaning.{meaning_of};
 ghost use Rattle.pep508_urls.specs.Unnamed.{EachMayOverflow, MakesNamed, NamesNone};
 ghost use Rattle.requirement_words.specs.Head.{url};

@@ -5,19 +5,19 @@ use Rattle.std.proofs.lemmas.Bool.Decides.{nat_tests}
 use Rattle.std.proofs.lemmas.List.{take_at, drop_at}
 use Rattle.std.proofs.lemmas.List.Elements.{All-head, All-tail}
 use Rattle.url.proofs.InputLemmas.{prefix_len_at, All-take-prefix_len, IsNot}
-use Rattle.pep508_urls.specs.Variables.{is_name_byte, IsName, Expands, nothing, variable, other}
+use Rattle.pep508_urls.specs.Variables.{is_name_byte, IsVariableName, Expands, nothing, variable, other}
 
 pub name_byte_is_small : (b : ℕ) → is_name_byte b ≡ true → b < 128
 name_byte_is_small b h = grind (arith, nat_tests)
 
 -- the name in braces is the longest run of characters of a name
-pub run_is_name : (name rest : List ℕ) → IsName name → prefix_len is_name_byte (name ++ (125 ∷ rest)) ≡ length name
+pub run_is_name : (name rest : List ℕ) → IsVariableName name → prefix_len is_name_byte (name ++ (125 ∷ rest)) ≡ length name
 run_is_name name rest n = prefix_len_at is_name_byte name (125 ∷ rest) n.each refl
 
-pub name_cut : (name rest : List ℕ) → IsName name → take (prefix_len is_name_byte (name ++ (125 ∷ rest))) (name ++ (125 ∷ rest)) ≡ name
+pub name_cut : (name rest : List ℕ) → IsVariableName name → take (prefix_len is_name_byte (name ++ (125 ∷ rest))) (name ++ (125 ∷ rest)) ≡ name
 name_cut name rest n = ap (λ (k : ℕ). take k (name ++ (125 ∷ rest))) (run_is_name name rest n) ∙ take_at name (125 ∷ rest) (length name) refl
 
-pub rest_cut : (name rest : List ℕ) → IsName name → drop (prefix_len is_name_byte (name ++ (125 ∷ rest))) (name ++ (125 ∷ rest)) ≡ 125 ∷ rest
+pub rest_cut : (name rest : List ℕ) → IsVariableName name → drop (prefix_len is_name_byte (name ++ (125 ∷ rest))) (name ++ (125 ∷ rest)) ≡ 125 ∷ rest
 rest_cut name rest n = ap (λ (k : ℕ). drop k (name ++ (125 ∷ rest))) (run_is_name name rest n) ∙ drop_at name (125 ∷ rest) (length name) refl
 
 pub run_is_each : (text : List ℕ) → All (λ b. is_name_byte b ≡ true) (take (prefix_len is_name_byte text) text)
@@ -35,12 +35,12 @@ expands_itself (b ∷ text) lacks =
     other (λ begins. All-head (IsNot 36) b text lacks (let h = begins.joined in cc)) (expands_itself text (All-tail (IsNot 36) b text lacks))
 
 -- a reference behind text without `$`
-pub expands_reference : {value : List ℕ → List ℕ} (front : List ℕ) {text after name behind expanded : List ℕ} → All (IsNot 36) front → text ≡ front ++ (36 ∷ after) → after ≡ 123 ∷ (name ++ (125 ∷ behind)) → IsName name → Expands value behind expanded → Expands value text (front ++ (value name ++ expanded))
+pub expands_reference : {value : List ℕ → List ℕ} (front : List ℕ) {text after name behind expanded : List ℕ} → All (IsNot 36) front → text ≡ front ++ (36 ∷ after) → after ≡ 123 ∷ (name ++ (125 ∷ behind)) → IsVariableName name → Expands value behind expanded → Expands value text (front ++ (value name ++ expanded))
 expands_reference {value} front {text} {after} {name} {behind} {expanded} lacks joined braces n e =
     subst (λ (x : List ℕ). Expands value x (front ++ (value name ++ expanded))) (sym joined) (expands_behind front lacks (variable n (ap (λ (x : List ℕ). 36 ∷ x) braces) refl e))
 
 -- a `$` that begins no reference, behind text without `$`
-pub expands_dollar : {value : List ℕ → List ℕ} (front : List ℕ) {text after expanded : List ℕ} → All (IsNot 36) front → text ≡ front ++ (36 ∷ after) → ((name rest : List ℕ) → IsName name → after ≢ 123 ∷ (name ++ (125 ∷ rest))) → Expands value after expanded → Expands value text (front ++ (36 ∷ expanded))
+pub expands_dollar : {value : List ℕ → List ℕ} (front : List ℕ) {text after expanded : List ℕ} → All (IsNot 36) front → text ≡ front ++ (36 ∷ after) → ((name rest : List ℕ) → IsVariableName name → after ≢ 123 ∷ (name ++ (125 ∷ rest))) → Expands value after expanded → Expands value text (front ++ (36 ∷ expanded))
 expands_dollar {value} front {text} {after} {expanded} lacks joined none e =
     subst (λ (x : List ℕ). Expands value x (front ++ (36 ∷ expanded))) (sym joined)
     (expands_behind front lacks (other (λ begins. none begins.name begins.rest begins.is_name (let h = begins.joined in cc)) e))
@@ -51,7 +51,7 @@ grown_twice old a b tail first second =
     sym (ap (λ (x : List ℕ). x ++ tail) (second ∙ ap (λ (x : List ℕ). x ++ b) first) ∙ append_assoc (old ++ a) b tail ∙ append_assoc old a (b ++ tail))
 
 -- a text with a name in braces at its front has one name there
-pub names_same : {name rest other_name more : List ℕ} → IsName name → IsName other_name → name ++ (125 ∷ rest) ≡ other_name ++ (125 ∷ more) → (name ≡ other_name) × (rest ≡ more)
+pub names_same : {name rest other_name more : List ℕ} → IsVariableName name → IsVariableName other_name → name ++ (125 ∷ rest) ≡ other_name ++ (125 ∷ more) → (name ≡ other_name) × (rest ≡ more)
 names_same {name} {rest} {other_name} {more} n m e =
     let names : name ≡ other_name = sym (name_cut name rest n) ∙ ap (λ (x : List ℕ). take (prefix_len is_name_byte x) x) e ∙ name_cut other_name more m in
     let rests : 125 ∷ rest ≡ 125 ∷ more = sym (rest_cut name rest n) ∙ ap (λ (x : List ℕ). drop (prefix_len is_name_byte x) x) e ∙ rest_cut other_name more m in

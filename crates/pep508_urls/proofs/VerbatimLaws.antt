@@ -10,13 +10,14 @@ use Rattle.url.specs.Parts.{Parts}
 use Rattle.url.specs.Parser.{parse_url}
 use Rattle.refusal.specs.declared.Refusal.{Refusal}
 use Rattle.refusal.specs.declared.Refusal.TheVariants.{OutOfMemory, SegmentAtEnd, Fault}
-use Rattle.pep508_errors.specs.Url.{IfFault, is_overflow}
+use Rattle.refusal.specs.Refused.{IfFault}
+use Rattle.pep508_errors.specs.Url.{is_overflow}
 use Rattle.pep508_errors.specs.declared.surroundings.Surroundings.{Surroundings}
 use Rattle.pep508_urls.specs.declared.error.VerbatimUrlError.{VerbatimUrlError}
 use Rattle.pep508_urls.specs.declared.error.VerbatimUrlError.TheVariants as faults
 use Rattle.pep508_urls.specs.declared.scheme.Scheme.{Scheme}
 use Rattle.pep508_urls.specs.declared.scheme.Scheme.TheVariants.{File, GitGit, GitHttp, GitFile, GitSsh, GitHttps, BzrHttp, BzrHttps, BzrSsh, BzrSftp, BzrFtp, BzrLp, BzrFile, HgFile, HgHttp, HgHttps, HgSsh, HgStaticHttp, SvnSsh, SvnHttp, SvnHttps, SvnSvn, SvnFile, Http, Https}
-use Rattle.pep508_urls.specs.Fault.{IsFaultOf, IsUrlFault, IsPathFault, MayOverflow, TextMayOverflow, tells_size}
+use Rattle.pep508_urls.specs.Fault.{IsFaultIn, IsFaultOf, IsParseFault, IsPathFault, MayOverflow, TextMayOverflow, tells_size}
 use Rattle.pep508_urls.specs.Path.{normalized, url_path}
 use Rattle.pep508_urls.specs.PathUrl.{IsPathUrl, path_url, normal_url}
 use Rattle.pep508_urls.specs.Scheme.{scheme_text, without_host}
@@ -71,7 +72,7 @@ not_of_size : (fault : ParseError) → is_overflow fault ≡ false → fault ≡
 not_of_size fault smaller e = true≢false (sym (ap is_overflow e) ∙ smaller)
 
 -- a text that `url` refuses has no URL
-no_url : (text : List ℕ) (fault : VerbatimUrlError) → IsUrlFault text fault → tells_size fault ≡ false → (parts : Parts) → parse_url None text ≡ Ok parts → ⊥
+no_url : (text : List ℕ) (fault : VerbatimUrlError) → IsParseFault text fault → tells_size fault ≡ false → (parts : Parts) → parse_url None text ≡ Ok parts → ⊥
 no_url text (faults.Url fault) told smaller parts e = ⊎_elim (λ refused. absurd cc) (not_of_size fault smaller) told
 no_url text (faults.WorkingDirectory said) told smaller parts e = absurd told
 no_url text (faults.UrlConversion said) told smaller parts e = absurd told
@@ -113,7 +114,7 @@ none_made_of folder meaning (Err SegmentAtEnd) told = tt
 none_made_of folder meaning (Err (Fault fault)) told = none_made folder meaning fault told
 
 -- a URL starts from no folder
-pub none_made_of_url : {V : Type 0} (text : List ℕ) (result : Result V (Refusal VerbatimUrlError)) → IfErr result (λ refusal. IfFault refusal (IsUrlFault text)) → IfErr result (λ refusal. IfFault refusal (λ fault. tells_size fault ≡ false → (folder : Option (List ℕ)) → NamesNone IsVerbatim folder (is_url text)))
+pub none_made_of_url : {V : Type 0} (text : List ℕ) (result : Result V (Refusal VerbatimUrlError)) → IfErr result (λ refusal. IfFault refusal (IsParseFault text)) → IfErr result (λ refusal. IfFault refusal (λ fault. tells_size fault ≡ false → (folder : Option (List ℕ)) → NamesNone IsVerbatim folder (is_url text)))
 none_made_of_url text (Ok x) told = tt
 none_made_of_url text (Err OutOfMemory) told = tt
 none_made_of_url text (Err SegmentAtEnd) told = tt
@@ -146,8 +147,15 @@ size_told_of folder meaning (Err OutOfMemory) told = tt
 size_told_of folder meaning (Err SegmentAtEnd) told = tt
 size_told_of folder meaning (Err (Fault fault)) told = each_size folder meaning fault told
 
-pub size_told_of_url : {V : Type 0} (text : List ℕ) (result : Result V (Refusal VerbatimUrlError)) → IfErr result (λ refusal. IfFault refusal (IsUrlFault text)) → IfErr result (λ refusal. IfFault refusal (λ fault. tells_size fault ≡ true → (folder : Option (List ℕ)) → EachMayOverflow TextMayOverflow folder (is_url text)))
+pub size_told_of_url : {V : Type 0} (text : List ℕ) (result : Result V (Refusal VerbatimUrlError)) → IfErr result (λ refusal. IfFault refusal (IsParseFault text)) → IfErr result (λ refusal. IfFault refusal (λ fault. tells_size fault ≡ true → (folder : Option (List ℕ)) → EachMayOverflow TextMayOverflow folder (is_url text)))
 size_told_of_url text (Ok x) told = tt
 size_told_of_url text (Err OutOfMemory) told = tt
 size_told_of_url text (Err SegmentAtEnd) told = tt
 size_told_of_url text (Err (Fault fault)) told = λ large folder. each_size folder (is_url text) fault told large
+
+-- the fault of what a text stands for is one of the text
+pub fault_in : (text expanded : List ℕ) (surroundings : Surroundings) (meaning : Meaning) (refusal : Refusal VerbatimUrlError) → Expands (value_of surroundings) text expanded → StandsFor expanded meaning → IfFault refusal (IsFaultOf (folder_of surroundings) meaning) → IfFault refusal (IsFaultIn text surroundings)
+fault_in text expanded surroundings meaning OutOfMemory x s told = tt
+fault_in text expanded surroundings meaning SegmentAtEnd x s told = tt
+fault_in text expanded surroundings meaning (Fault fault) x s told =
+    record { meaning = meaning; has = record { expanded = expanded; expands = x; stands_for = s }; fault_is = told }

@@ -7,7 +7,7 @@ use Rattle.pep508_errors.specs.Url.{is_overflow}
 use Rattle.pep508_errors.specs.declared.surroundings.Surroundings.{Surroundings}
 use Rattle.pep508_urls.specs.Path.{normalized}
 use Rattle.pep508_urls.specs.Meaning.{Meaning, HasMeaning, is_url, is_path, folder_of}
-use Rattle.pep508_urls.specs.PathUrl.{IsPathUrl, absolute, path_url}
+use Rattle.pep508_urls.specs.PathUrl.{HasPathUrl, absolute, path_url}
 use Rattle.pep508_urls.specs.declared.error.VerbatimUrlError.{VerbatimUrlError}
 use Rattle.pep508_urls.specs.declared.error.VerbatimUrlError.TheVariants as faults
 
@@ -33,7 +33,7 @@ IsWholePathFault path (faults.WorkingDirectory text) = ⊥
 -- what stands for this may be too large: any URL, and a path that has one
 abbrev pub MayOverflow : Option (List ℕ) → Meaning → Type 0
 MayOverflow base (is_url text) = ⊤
-MayOverflow base (is_path text) = (url : Parts) × IsPathUrl base text url
+MayOverflow base (is_path text) = HasPathUrl base text
 
 -- the text stands for something in the surroundings that may be too large
 abbrev pub TextMayOverflow : List ℕ → Surroundings → Type 0
@@ -53,11 +53,11 @@ IsPathFault base path (faults.UrlConversion text) =
 IsPathFault base path (faults.Url fault) = (fault ≡ Overflow) × MayOverflow base (is_path path)
 
 -- the fault of a text that `url` refuses
-abbrev pub IsUrlFault : List ℕ → VerbatimUrlError → Type 0
-IsUrlFault text (faults.Url fault) = (parse_url None text ≡ Err fault) ⊎ (fault ≡ Overflow)
-IsUrlFault text (faults.WorkingDirectory other) = ⊥
-IsUrlFault text (faults.UrlConversion other) = ⊥
-IsUrlFault text (faults.Normalization other) = ⊥
+abbrev pub IsParseFault : List ℕ → VerbatimUrlError → Type 0
+IsParseFault text (faults.Url fault) = (parse_url None text ≡ Err fault) ⊎ (fault ≡ Overflow)
+IsParseFault text (faults.WorkingDirectory other) = ⊥
+IsParseFault text (faults.UrlConversion other) = ⊥
+IsParseFault text (faults.Normalization other) = ⊥
 
 -- the URL would be too large; a path is refused as no URL for nothing else
 abbrev pub tells_size : VerbatimUrlError → Bool
@@ -68,8 +68,15 @@ tells_size (faults.Normalization text) = false
 
 -- the fault of what a text stands for
 abbrev pub IsFaultOf : Option (List ℕ) → Meaning → VerbatimUrlError → Type 0
-IsFaultOf base (is_url text) fault = IsUrlFault text fault
+IsFaultOf base (is_url text) fault = IsParseFault text fault
 IsFaultOf base (is_path text) fault = IsPathFault base text fault
+
+-- the text stands for something in the surroundings, and this is the fault of that
+pub record IsFaultIn (text : List ℕ) (surroundings : Surroundings) (fault : VerbatimUrlError)
+    : Type 0 where
+  pub meaning : Meaning
+  pub has : HasMeaning text surroundings meaning
+  pub fault_is : IsFaultOf (folder_of surroundings) meaning fault
 
 -- no path is made of a URL, whose text this is
 abbrev pub IsConversion : List ℕ → VerbatimUrlError → Type 0

@@ -1,3 +1,4 @@
+pub mod Cut
 pub mod Extras
 pub mod Fault
 pub mod Path

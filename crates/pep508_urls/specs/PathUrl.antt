@@ -36,6 +36,10 @@ pub record IsPathUrl (base : Option (List ℕ)) (path : List ℕ) (url : Parts) 
   pub absolute_is : absolute base path ≡ Some whole
   pub url_is : path_url whole ≡ Some (Ok url)
 
+-- the path has a URL
+abbrev pub HasPathUrl : Option (List ℕ) → List ℕ → Type 0
+HasPathUrl base path = (url : Parts) × IsPathUrl base path url
+
 -- the path of a file URL that names no host, with its escapes read
 pub record IsPathOf (url : Parts) (path : List ℕ) : Type 0 where
   pub scheme_is : url.scheme ≡ codes "file"

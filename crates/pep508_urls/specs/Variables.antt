@@ -10,7 +10,7 @@ abbrev pub is_name_byte : ℕ → Bool
 is_name_byte b = is_ascii_uppercase b || is_ascii_digit b || b == 95
 
 -- the name of a variable: one or more of these
-pub record IsName (name : List ℕ) : Type 0 where
+pub record IsVariableName (name : List ℕ) : Type 0 where
   pub some : 0 < length name
   pub each : All (λ b. is_name_byte b ≡ true) name
 
@@ -22,14 +22,14 @@ reference name = 36 ∷ 123 ∷ (name ++ (125 ∷ []))
 pub record BeginsWithReference (text : List ℕ) : Type 0 where
   pub name : List ℕ
   pub rest : List ℕ
-  pub is_name : IsName name
+  pub is_name : IsVariableName name
   pub joined : text ≡ 36 ∷ 123 ∷ (name ++ (125 ∷ rest))
 
 -- From left to right each reference is replaced by what its name stands for, and every other byte
 -- stays. What was put in is not looked at again.
 pub data Expands (value : List ℕ → List ℕ) : List ℕ → List ℕ → Type 0 where
   nothing : Expands value [] []
-  variable : {text out name rest expanded : List ℕ} → IsName name
+  variable : {text out name rest expanded : List ℕ} → IsVariableName name
       → text ≡ 36 ∷ 123 ∷ (name ++ (125 ∷ rest)) → out ≡ value name ++ expanded
       → Expands value rest expanded → Expands value text out
   other : {b : ℕ} {rest expanded : List ℕ} → ¬ BeginsWithReference (b ∷ rest)

@@ -3,8 +3,8 @@
 ghost use Rattle.std.specs.Prelude.{IfNone, IfSome, List, ℕ};
 ghost use Rattle.pep508_urls.specs.Extras.{SplitsExtras};
 
-/// Cuts `[..]` off the end of a text, as `a.whl` and `[dev,test]` of `a.whl[dev,test]`. `None`
-/// where the text does not end in `[`, a text without brackets, and `]`.
+/// Splits `[..]` off the end of a text: `a.whl[dev,test]` gives `a.whl` and `[dev,test]`. `None` if
+/// the text does not end in `[`, a text without brackets, and `]`.
 pub fn split_extras(text: &str) -> Option<(&str, &str)>
     ensures found { IfSome result (λ parts. SplitsExtras text.now parts.0.now parts.1.now) }
     ensures none { IfNone result (

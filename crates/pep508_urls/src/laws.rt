@@ -1,18 +1,19 @@
-//! Laws of the definitions that the calls speak of.
+//! Laws of the definitions that contracts cite. Each is a function with an empty body.
 
 ghost use Rattle.std.specs.Prelude.{◌≡◌, codes, false, List, None, Ok, Option, Some, ℕ};
 ghost use Rattle.percent_encoding.specs.AsciiSet.{should_percent_encode};
 ghost use Rattle.url.specs.Parser.{parse_url};
 ghost use Rattle.url.specs.Parts.{has_host, Parts};
 ghost use Rattle.pep508_urls.specs.declared.path.TheConstants.{FILE_PART};
+ghost use Rattle.pep508_urls.specs.Cut.{CutsOnce};
 ghost use Rattle.pep508_urls.specs.Extras.{SplitsExtras};
 ghost use Rattle.pep508_urls.specs.Path.{file_text, is_escaped, normalized};
-ghost use Rattle.pep508_urls.specs.PathUrl.{absolute, IsPathUrl};
+ghost use Rattle.pep508_urls.specs.PathUrl.{absolute, HasPathUrl};
 ghost use Rattle.pep508_urls.specs.Scheme.{SplitsScheme};
 ghost use Rattle.pep508_urls.specs.Meaning.{Meaning, StandsFor};
 ghost use Rattle.pep508_urls.specs.Variables.{Expands};
 
-/// A text becomes one text, whatever its variables stand for.
+/// A text expands to one text, whatever its variables stand for.
 pub fn text_expands_to_one_text()
     ensures { (value : List ℕ → List ℕ) (text a b : List ℕ)
         → Expands value text a → Expands value text b → a ≡ b }
@@ -23,14 +24,10 @@ pub fn text_stands_for_one_thing()
     ensures { (text : List ℕ) (a b : Meaning) → StandsFor text a → StandsFor text b → a ≡ b }
 {}
 
-/// A text is cut behind one scheme, and before one list of extras.
+/// A text is split after one scheme, and before one list of extras.
 pub fn text_is_cut_at_one_place()
-    ensures scheme { (text scheme rest other more : List ℕ)
-        → SplitsScheme text scheme rest → SplitsScheme text other more
-        → (scheme ≡ other) × (rest ≡ more) }
-    ensures extras { (text before extras other more : List ℕ)
-        → SplitsExtras text before extras → SplitsExtras text other more
-        → (before ≡ other) × (extras ≡ more) }
+    ensures scheme { CutsOnce SplitsScheme }
+    ensures extras { CutsOnce SplitsExtras }
 {}
 
 /// A part of a path escapes exactly the listed bytes in a file URL.
@@ -38,17 +35,17 @@ pub fn file_texts_escape_the_listed_bytes()
     ensures { (b : ℕ) → should_percent_encode FILE_PART b ≡ is_escaped b }
 {}
 
-/// The text of a file URL is one that the URL Standard reads, as a URL of the scheme `file` with no
+/// The URL Standard accepts the text of each file URL, as a URL of the scheme `file` without a
 /// host.
 pub fn file_text_is_read()
     ensures { (path : List ℕ) → (url : Parts) × (parse_url None (file_text path) ≡ Ok url)
         × (url.scheme ≡ codes "file") × (has_host url ≡ false) }
 {}
 
-/// A path that is absolute once it stands behind its folder, and can be normalized, has a URL. So
-/// where such a path is refused all the same, its URL is too large.
+/// A path that is absolute after its folder, and can be normalized, has a URL. So a fault of such a
+/// path is one of size.
 pub fn path_has_a_url()
     ensures { (base : Option (List ℕ)) (path whole normal : List ℕ)
-        → absolute base path ≡ Some whole
-        → normalized whole ≡ Some normal → (url : Parts) × IsPathUrl base path url }
+        → absolute base path ≡ Some whole → normalized whole ≡ Some normal
+        → HasPathUrl base path }
 {}

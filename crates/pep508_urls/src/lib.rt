@@ -1,5 +1,8 @@
-//! URLs of requirements as they are written: variables, schemes, extras and paths in them, and the
-//! type of URLs that keeps the text that it was given as.
+//! URLs of requirements: the variables, schemes, extras and paths in them, and a type of URLs that
+//! keeps the text that it was parsed from.
+//!
+//! Calls that allocate return `OutOfMemory` or `AllocError` when memory runs out. No call returns
+//! `Refusal::SegmentAtEnd`.
 #![tactic(auto)]
 
 mod error;

@@ -1,4 +1,4 @@
-//! What a text stands for once its variables are expanded.
+//! What a text stands for after its variables are expanded.
 
 ghost use Rattle.std.specs.Prelude.{IfOk};
 ghost use Rattle.pep508_urls.specs.Meaning.{meaning_of, StandsFor};
@@ -13,12 +13,12 @@ use std::borrow::CowStr;
 pub enum Target<'a> {
     /// A URL with a scheme that is not `file`.
     Url(&'a str),
-    /// The path of a `file` URL, or a text that is no URL.
+    /// The path of a `file` URL, or a text without a known scheme.
     Path(CowStr<'a>),
 }
 
 impl<'a> Target<'a> {
-    /// Tells URLs from paths, of a text that has no variables any more. Only memory can run out.
+    /// Tells whether a text without variables is a URL or a path.
     pub fn of(alloc: Global, text: &'a str) -> Result<Target<'a>, AllocError>
         ensures { IfOk result (λ target. StandsFor text.now (meaning_of target)) }
     {

@@ -1,14 +1,14 @@
-//! Paths, and how one is written as a `file` URL.
+//! Paths, and their `file` URLs.
 
 ghost use Rattle.std.specs.Prelude.{◌≡◌, ◌≢◌, ◌++◌, Some, None, IfErr, IfOk, OnOk, map, string_bytes};
 ghost use Rattle.std.specs.List.{join_with_byte};
 ghost use Rattle.std.specs.Cow.{cow_str_bytes};
+ghost use Rattle.refusal.specs.Refused.{FaultIs};
 ghost use Rattle.refusal.specs.declared.Refusal.TheVariants.{SegmentAtEnd};
-ghost use Rattle.pep508_errors.specs.Url.{IfFault};
 ghost use Rattle.pep508_urls.specs.Path.{file_path, file_text, is_absolute, leaves, normalized, root, stays, url_path};
 ghost use Rattle.pep508_urls.specs.Fault.{IsNormalization};
 
-use crate::error::VerbatimUrlError;
+use crate::error::{VerbatimUrlError, fault_with};
 use percent_encoding::{
     AsciiSet, CONTROLS, DecodeError, ascii_set, percent_decode_str, utf8_percent_encode,
 };
@@ -16,7 +16,8 @@ use refusal::Refusal;
 use std::alloc::{AllocError, Global};
 use std::borrow::CowStr;
 
-/// What a part of a path escapes in a file URL, with all that is not ASCII.
+/// The ASCII bytes that a part of a path escapes in a file URL. Bytes that are not ASCII are
+/// escaped too.
 pub const FILE_PART: AsciiSet = ascii_set!(
     CONTROLS
         .add(b' ')
@@ -34,17 +35,17 @@ pub const FILE_PART: AsciiSet = ascii_set!(
         .add(b'}')
 );
 
-/// The path without `.`, `..` and empty parts. A path that begins with no `/` gets none.
+/// The path without `.`, `..` and empty parts. A relative path stays relative.
 ///
-/// Refused as [`VerbatimUrlError::Normalization`] where a `..` finds no part to take away.
+/// # Errors
+/// - [`VerbatimUrlError::Normalization`] if a `..` has no part to remove.
 pub fn normalize_absolute_path(
     alloc: Global,
     path: &str,
 ) -> Result<String, Refusal<VerbatimUrlError>>
     ensures value { IfOk result (λ text. normalized path.now ≡ Some (string_bytes text)) }
-    ensures fault { IfErr result (λ refusal.
-        IfFault refusal (λ fault. normalized path.now ≡ None)) }
-    ensures kind { IfErr result (λ refusal. IfFault refusal (IsNormalization path.now)) }
+    ensures fault { FaultIs result (λ _. normalized path.now ≡ None) }
+    ensures kind { FaultIs result (IsNormalization path.now) }
     ensures no_end { IfErr result (λ refusal. refusal ≢ SegmentAtEnd) }
 {
     let mut folder = Vec::new(alloc);
@@ -54,9 +55,8 @@ pub fn normalize_absolute_path(
         }
         if leaves(part) {
             let Some(_left) = folder.pop() else {
-                return Err(Refusal::Fault(VerbatimUrlError::Normalization(String::from_str(
-                    alloc, path,
-                )?)));
+                let fault = fault_with(alloc, VerbatimUrlError::Normalization, path)?;
+                return Err(Refusal::Fault(fault));
             };
         } else {
             folder.push(part)?;
@@ -67,14 +67,14 @@ pub fn normalize_absolute_path(
     Ok(text)
 }
 
-/// `/` where the path begins with one, and else nothing.
+// `/` where the path begins with one, and else nothing.
 fn root(path: &str) -> &'static str
     ensures { result.now ≡ root path.now }
 {
     if is_absolute(path) { "/" } else { "" }
 }
 
-/// Whether the path begins with a slash.
+// Whether the path begins with a slash.
 pub(crate) fn is_absolute(path: &str) -> bool
     ensures { result ≡ is_absolute path.now }
 {
@@ -93,7 +93,7 @@ fn leaves(part: &str) -> bool
     part == ".."
 }
 
-/// Appends the parts with a slash between each two.
+// Appends the parts with a slash between each two.
 fn push_joined(text: &mut String, parts: &[&str]) -> Result<(), AllocError>
     ensures { OnOk result (string_bytes text.new
         ≡ string_bytes text.old ++ join_with_byte 47 (map (λ part. part.now) parts.now)) }
@@ -109,8 +109,8 @@ fn push_joined(text: &mut String, parts: &[&str]) -> Result<(), AllocError>
     Ok(())
 }
 
-/// A path in a URL with its percent-escapes read, where they give a text, and else the path as it
-/// is.
+/// The path of a URL with its percent-escapes decoded, or the path as it is if they do not decode
+/// to UTF-8.
 pub fn normalize_url_path(alloc: Global, path: &str) -> Result<CowStr<'_>, AllocError>
     ensures { IfOk result (λ text. cow_str_bytes text ≡ url_path path.now) }
 {
@@ -121,8 +121,8 @@ pub fn normalize_url_path(alloc: Global, path: &str) -> Result<CowStr<'_>, Alloc
     }
 }
 
-/// The URL of a path, as a text: `file://`, and each part that is neither empty nor `.` behind a
-/// `/`, escaped.
+// The URL of a path, as a text: `file://`, and each part that is neither empty nor `.` behind a
+// `/`, escaped.
 pub(crate) fn file_text(alloc: Global, path: &str) -> Result<String, AllocError>
     ensures { IfOk result (λ text. string_bytes text ≡ file_text path.now) }
 {
@@ -135,7 +135,7 @@ pub(crate) fn file_text(alloc: Global, path: &str) -> Result<String, AllocError>
     Ok(text)
 }
 
-/// Each part of a path that is neither empty nor `.` behind a `/`, escaped.
+// Each part of a path that is neither empty nor `.` behind a `/`, escaped.
 fn file_path(alloc: Global, path: &str) -> Result<String, AllocError>
     ensures { IfOk result (λ text. string_bytes text ≡ file_path path.now) }
 {

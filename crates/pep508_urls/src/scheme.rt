@@ -9,7 +9,7 @@ ghost use Rattle.pep508_urls.specs.declared.scheme.Scheme.TheVariants as schemes
 use std::fmt;
 use std::fmt::Display;
 
-/// A scheme of a URL that a requirement may name.
+/// A URL scheme that a requirement may use.
 #[derive(Clone, Copy, Debug, PartialEq, Eq)]
 pub enum Scheme {
     /// `file`
@@ -143,9 +143,9 @@ impl Display for Scheme {
     }
 }
 
-/// Cuts a URL behind its scheme: the scheme as it is written, and what follows the `:`. C0 controls
-/// and spaces at the ends of the text do not count. `None` where the text does not begin with a
-/// scheme and `:`.
+/// Splits a URL after its scheme: the scheme as it is written, and what follows the `:`. C0
+/// controls and spaces at both ends of the text are ignored. `None` if the text does not begin with
+/// a scheme and `:`.
 pub fn split_scheme(text: &str) -> Option<(&str, &str)>
     ensures found { IfSome result (λ parts. SplitsScheme text.now parts.0.now parts.1.now) }
     ensures none { IfNone result ((scheme rest : List ℕ) → ¬ SplitsScheme text.now scheme rest) }
@@ -160,7 +160,7 @@ pub fn split_scheme(text: &str) -> Option<(&str, &str)>
     }
 }
 
-/// The text without C0 controls and spaces at its ends.
+// The text without C0 controls and spaces at its ends.
 fn trim_url(text: &str) -> &str
     ensures { result.now ≡ trim_c0_control_and_space text.now }
 {
@@ -193,8 +193,8 @@ fn is_scheme_byte(b: u8) -> bool
     b.is_ascii_alphanumeric() || b == b'+' || b == b'-' || b == b'.'
 }
 
-/// What follows the host of a `file` URL, which is empty or `localhost`: `/a` of `//localhost/a`
-/// and of `///a`. A text with no `//` at its front is left as it is.
+/// What follows the host of a `file` URL, which is empty or `localhost`: `//localhost/a` and `///a`
+/// give `/a`. A text that does not begin with `//` is returned as it is.
 pub fn strip_host(path: &str) -> &str
     ensures { result.now ≡ without_host path.now }
 {

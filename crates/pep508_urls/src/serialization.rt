@@ -1,4 +1,4 @@
-//! A URL is written as its text, and read as it is.
+//! Serde: a URL is a string, its text.
 
 ghost use Rattle.std.specs.Prelude.{◌≡◌, List, ℕ, None, Ok, IfOk};
 ghost use Rattle.serde.specs.Event.{Logs, text};

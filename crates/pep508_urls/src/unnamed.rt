@@ -1,8 +1,8 @@
-//! Types of URLs that a requirement without a name may have.
+//! Types that the URL of a requirement without a name is parsed into.
 
-ghost use Rattle.std.specs.Prelude.{◌≡◌, ◌≢◌, ℕ, List, Option, Some, None, IfErr, IfOk, true, false, option_copied, string_bytes};
+ghost use Rattle.std.specs.Prelude.{◌≡◌, ◌≢◌, ℕ, List, Option, Some, None, IfErr, IfOk, option_copied, string_bytes};
 ghost use Rattle.refusal.specs.declared.Refusal.TheVariants.{SegmentAtEnd};
-ghost use Rattle.pep508_errors.specs.Url.{IfFault};
+ghost use Rattle.pep508_errors.specs.Url.{OnOtherFault, OnSizeFault};
 ghost use Rattle.pep508_urls.specs.Meaning.{is_path, is_url};
 ghost use Rattle.pep508_urls.specs.Unnamed.{EachMayOverflow, MakesNamed, NamesNone};
 
@@ -10,54 +10,49 @@ use pep508_errors::Pep508Url;
 use refusal::Refusal;
 use std::alloc::Global;
 
-/// A type of URLs that a requirement without a name may have: it tells paths from URLs, and keeps
-/// the text.
+/// A type that the URL of a requirement without a name is parsed into. It keeps paths and URLs
+/// apart, and the text that it was given as.
+///
+/// Each of its parsers returns a value that the type names for every text that stands for the path
+/// or URL. It returns a fault only if those texts have no value, or a fault of size if each of them
+/// may be too large.
 pub trait UnnamedRequirementUrl: Pep508Url + PartialEq {
-    /// What a value becomes that is given as a text.
+    /// What a value becomes when it is given as a text.
     ghost gives: { Self → List ℕ → Self → Type 0 };
 
     /// The text that a value was given as, if it was.
     ghost given_text: { Self → Option (List ℕ) };
 
-    /// The value of a path that starts from a folder where it is not absolute. A path that has a
-    /// value is refused only for want of memory, or by a fault of size; `SegmentAtEnd` never comes.
+    /// The value of a path. A relative path starts from the folder.
     fn parse_path(alloc: Global, path: &str, working_dir: &str) -> Result<Self, Refusal<Self::Err>>
-        ensures value { IfOk result (λ url.
-            MakesNamed Self.names gives (Some working_dir.now) (is_path path.now) url) }
-        ensures fault { IfErr result (λ refusal. IfFault refusal (λ fault.
-            Self.tells_size fault ≡ false
-            → NamesNone Self.names (Some working_dir.now) (is_path path.now))) }
-        ensures size { IfErr result (λ refusal. IfFault refusal (λ fault.
-            Self.tells_size fault ≡ true
-            → EachMayOverflow Self.may_overflow (Some working_dir.now) (is_path path.now))) }
+        ensures value { IfOk result
+            (MakesNamed Self.names gives (Some working_dir.now) (is_path path.now)) }
+        ensures fault { OnOtherFault Self.tells_size result
+            (NamesNone Self.names (Some working_dir.now) (is_path path.now)) }
+        ensures size { OnSizeFault Self.tells_size result
+            (EachMayOverflow Self.may_overflow (Some working_dir.now) (is_path path.now)) }
         ensures no_end { IfErr result (λ refusal. refusal ≢ SegmentAtEnd) };
 
-    /// The value of a path without a folder. A path that has a value is refused only for want of
-    /// memory, or by a fault of size; `SegmentAtEnd` never comes.
+    /// The value of a path, without a folder to start from.
     fn parse_absolute_path(alloc: Global, path: &str) -> Result<Self, Refusal<Self::Err>>
-        ensures value { IfOk result (λ url.
-            MakesNamed Self.names gives None (is_path path.now) url) }
-        ensures fault { IfErr result (λ refusal. IfFault refusal (λ fault.
-            Self.tells_size fault ≡ false → NamesNone Self.names None (is_path path.now))) }
-        ensures size { IfErr result (λ refusal. IfFault refusal (λ fault.
-            Self.tells_size fault ≡ true
-            → EachMayOverflow Self.may_overflow None (is_path path.now))) }
+        ensures value { IfOk result (MakesNamed Self.names gives None (is_path path.now)) }
+        ensures fault { OnOtherFault Self.tells_size result
+            (NamesNone Self.names None (is_path path.now)) }
+        ensures size { OnSizeFault Self.tells_size result
+            (EachMayOverflow Self.may_overflow None (is_path path.now)) }
         ensures no_end { IfErr result (λ refusal. refusal ≢ SegmentAtEnd) };
 
-    /// The value of a URL as it is written. A URL that has a value is refused only for want of
-    /// memory, or by a fault of size; `SegmentAtEnd` never comes.
+    /// The value of a URL as it is written.
     fn parse_unnamed_url(alloc: Global, text: &str) -> Result<Self, Refusal<Self::Err>>
         ensures value { IfOk result (λ url. (folder : Option (List ℕ))
             → MakesNamed Self.names gives folder (is_url text.now) url) }
-        ensures fault { IfErr result (λ refusal. IfFault refusal (λ fault.
-            Self.tells_size fault ≡ false → (folder : Option (List ℕ))
-            → NamesNone Self.names folder (is_url text.now))) }
-        ensures size { IfErr result (λ refusal. IfFault refusal (λ fault.
-            Self.tells_size fault ≡ true → (folder : Option (List ℕ))
-            → EachMayOverflow Self.may_overflow folder (is_url text.now))) }
+        ensures fault { OnOtherFault Self.tells_size result ((folder : Option (List ℕ))
+            → NamesNone Self.names folder (is_url text.now)) }
+        ensures size { OnSizeFault Self.tells_size result ((folder : Option (List ℕ))
+            → EachMayOverflow Self.may_overflow folder (is_url text.now)) }
         ensures no_end { IfErr result (λ refusal. refusal ≢ SegmentAtEnd) };
 
-    /// The same value, given as a text: what it prints and is equal to stays.
+    /// The same value, given as a text. What it prints and what it is equal to stay the same.
     fn with_given(self, given: String) -> Self
         ensures gives { gives self (string_bytes given) result }
         ensures given { given_text result ≡ Some (string_bytes given) }

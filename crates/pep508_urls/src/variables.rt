@@ -1,21 +1,21 @@
-//! Variables that a text refers to.
+//! Variables in a text.
 
 ghost use Rattle.std.specs.Prelude.{◌≡◌, ◌≢◌, ◌<◌, ◌++◌, ◌∷◌, List, ℕ, All, IfNone, IfOk, IfSome, IsOkAnd, OnErr, OnOk, length, string_bytes, take, drop};
 ghost use Rattle.std.specs.Cow.{cow_str_bytes};
 ghost use Rattle.std.specs.List.{prefix_len};
 ghost use Rattle.percent_encoding.specs.Cow.{IsBorrowedStr};
-ghost use Rattle.pep508_urls.specs.Variables.{Expands, IsName, is_name_byte, value_of};
+ghost use Rattle.pep508_urls.specs.Variables.{Expands, IsVariableName, is_name_byte, value_of};
 
 use pep508_errors::Surroundings;
 use std::alloc::{AllocError, Global};
 use std::borrow::CowStr;
 
 /// Replaces each `${NAME}` in a text, from left to right, by the variable of that name, or by the
-/// project root for `PROJECT_ROOT` where there is no such variable. A name is one or more of `A` to
-/// `Z`, `0` to `9` and `_`, and one that stands for nothing is left as it is. What was put in is
-/// not looked at again.
+/// project root for `PROJECT_ROOT` if there is no such variable. A name is one or more of `A` to
+/// `Z`, `0` to `9` and `_`; a reference to an unknown name is left as it is. A replacement is not
+/// expanded again.
 ///
-/// The text is borrowed where nothing changes, and takes no memory where it has no `$`.
+/// The text is borrowed if nothing changes. A text without `$` takes no memory.
 pub fn expand_env_vars<'a>(
     alloc: Global,
     text: &'a str,
@@ -37,7 +37,7 @@ pub fn expand_env_vars<'a>(
     Ok(CowStr::Owned(expanded))
 }
 
-/// The text with each of its variables replaced.
+// The text with each of its variables replaced.
 fn expanded_text(
     alloc: Global,
     text: &str,
@@ -65,11 +65,11 @@ fn expanded_text(
     Ok(expanded)
 }
 
-/// The name in the `{NAME}` that the text begins with, and what follows it.
+// The name in the `{NAME}` that the text begins with, and what follows it.
 fn braced_name(text: &str) -> Option<(&str, &str)>
     ensures found { IfSome result (λ parts. text.now ≡ 123 ∷ (parts.0.now ++ (125 ∷ parts.1.now))) }
-    ensures name { IfSome result (λ parts. IsName parts.0.now) }
-    ensures none { IfNone result ((name rest : List ℕ) → IsName name
+    ensures name { IfSome result (λ parts. IsVariableName parts.0.now) }
+    ensures none { IfNone result ((name rest : List ℕ) → IsVariableName name
         → text.now ≢ 123 ∷ (name ++ (125 ∷ rest))) }
     ensures shorter { IfSome result (λ parts. length parts.1.now < length text.now) }
 {
@@ -86,7 +86,7 @@ fn braced_name(text: &str) -> Option<(&str, &str)>
     Some((name, behind))
 }
 
-/// The longest run of characters of a name at the front of the text, and what follows it.
+// The longest run of characters of a name at the front of the text, and what follows it.
 fn split_name(text: &str) -> (&str, &str)
     ensures name { result.0.now ≡ take (prefix_len is_name_byte text.now) text.now }
     ensures rest { result.1.now ≡ drop (prefix_len is_name_byte text.now) text.now }
@@ -105,7 +105,7 @@ fn is_name_byte(b: u8) -> bool
     b.is_ascii_uppercase() || b.is_ascii_digit() || b == b'_'
 }
 
-/// Appends what a name stands for, or a beginning of it where there is no room.
+// Appends what a name stands for, or a beginning of it where there is no room.
 fn push_value(
     expanded: &mut String,
     name: &str,

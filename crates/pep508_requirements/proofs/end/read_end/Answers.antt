@@ -2,7 +2,7 @@ use Rattle.std.proofs.Common.{List, sym, subst}
 use Rattle.std.specs.Str.{chars}
 use Rattle.pep508_text.proofs.SuffixLaws.{suffix_then}
 use Rattle.requirement_words.proofs.FaultLaws.{part_of_suffix}
-use Rattle.marker_warnings.specs.declared.warning.MarkerWarningKind.{MarkerWarningKind}
+use Rattle.pep508_errors.specs.declared.warning.MarkerWarningKind.{MarkerWarningKind}
 use Rattle.marker_graph.specs.declared.tree.TheConstants.MarkerTree.{TRUE}
 use Rattle.pep508_requirements.specs.Requirement.{IsTreeOfEnd}
 use Rattle.pep508_requirements.proofs.EndLaws.{unmarked_end}

@@ -1,5 +1,5 @@
 use Rattle.std.proofs.Common.{◌≡◌, IfErr, ℕ, List, Option, false, option_copied, sym, ap, subst}
-use Rattle.pep508_errors.specs.Url.{IfFault}
+use Rattle.refusal.specs.Refused.{IfFault}
 use Rattle.pep508_urls.specs.Meaning.{Meaning, is_url, meaning_of}
 use Rattle.pep508_urls.specs.Unnamed.{NamesNone}
 use Rattle.pep508_requirements.proofs.GivenLaws.{at_folder}

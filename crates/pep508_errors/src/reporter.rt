@@ -1,24 +1,23 @@
-//! Who is told of warnings.
+//! Reporters, which take the warnings of marker parsers.
 
-ghost use Rattle.std.specs.Prelude.{⊤, ◌≡◌, ◌∷◌, [], List, Option, None, Some, OnErr, OnOk, IsOk, map};
-ghost use Rattle.marker_warnings.specs.Kinds.{Adds, Keeps};
-ghost use Rattle.marker_warnings.specs.declared.warning.MarkerWarningKind.{MarkerWarningKind};
+ghost use Rattle.std.specs.Prelude.{⊤, ◌≡◌, ◌∷◌, ◌++◌, [], List, Option, None, Some, OnErr, OnOk, IsOk, map};
+ghost use Rattle.pep508_errors.specs.Kinds.{Adds, Keeps};
+ghost use Rattle.pep508_errors.specs.declared.warning.MarkerWarningKind.{MarkerWarningKind};
 
 use crate::warning::MarkerWarningKind;
 use log::{Log, warn};
 use std::alloc::AllocError;
 
-/// Takes the warnings of readers of markers, in the order in which they come.
+/// Takes the warnings of marker parsers, in order.
 pub trait Reporter {
-    /// The kinds of the warnings that it has taken, where it tells them.
+    /// The kinds of the warnings taken so far, if the reporter shows them.
     ghost kinds: { Self → Option (List MarkerWarningKind) };
 
-    /// It may be told of a warning: always, unless it hands warnings to a function that asks for
-    /// more.
+    /// It can take a warning: always, unless it passes warnings to a function with requirements of
+    /// its own.
     ghost can_report: { Self → Type 0 } = { λ _. ⊤ };
 
-    /// Takes a warning. Refused where there is no memory to keep it; then it is not taken, and
-    /// those before it are kept.
+    /// Takes a warning. If memory runs out, the warning is lost and earlier ones are kept.
     fn report(&mut self, kind: MarkerWarningKind, warning: String) -> Result<(), AllocError>
         requires { can_report self.old }
         ensures again { can_report self.new }
@@ -27,17 +26,20 @@ pub trait Reporter {
         ensures kept { OnErr result (Keeps (kinds self.old) (kinds self.new)) };
 }
 
-/// Keeps the warnings, and tells their kinds.
+/// Keeps the warnings in order, and shows their kinds.
 impl Reporter for Vec<(MarkerWarningKind, String)> {
     ghost kinds = { λ warnings. Some (map (λ warning. warning.0) warnings.items) };
 
-    fn report(&mut self, kind: MarkerWarningKind, warning: String) -> Result<(), AllocError> {
+    fn report(&mut self, kind: MarkerWarningKind, warning: String) -> Result<(), AllocError>
+        ensures taken { OnOk result (self.new.items ≡ self.old.items ++ (kind, warning) ∷ []) }
+        ensures kept { OnErr result (self.new.items ≡ self.old.items) }
+    {
         self.push((kind, warning))?;
         Ok(())
     }
 }
 
-/// Hands each warning to a function, which answers whether there was memory for it. It tells no
+/// Passes each warning to a function, which returns whether there was memory for it. It shows no
 /// kinds.
 #[derive(Drop)]
 pub struct ReportTo<F>(pub F);
@@ -58,8 +60,8 @@ impl<F: FnMut(MarkerWarningKind, String) -> Result<(), AllocError>> Reporter for
     }
 }
 
-/// Logs each warning by a handle of `log`, at the level of warnings. It tells no kinds, and never
-/// refuses.
+/// Logs each warning through a `log` handle, at the level `Warn`. It shows no kinds and returns no
+/// error.
 #[derive(Drop)]
 pub struct TracingReporter<L>(pub L);
 

@@ -4,7 +4,7 @@ use Rattle.std.proofs.lemmas.Option.{MatchOption-at_none, MatchOption-at_some}
 use Rattle.std.proofs.lemmas.Str.Pattern.{split_parts}
 use Rattle.url.specs.Input.{split_once}
 use Rattle.url.proofs.InputLemmas.{IsNot, split_once_at, split_once_none}
-use Rattle.pep508_urls.proofs.verbatim_url.split_fragment.Goals as goal
+use Rattle.pep508_urls.proofs.verbatim_url.paths.split_fragment.Goals as goal
 
 pub returns-in-Some : goal.returns-in-Some
 returns-in-Some c =
