@@ -1,6 +1,6 @@
 //! How many looks a walk may take.
 
-ghost use Rattle.std.specs.Prelude.{◌≡◌, IsSome, None, Some};
+ghost use Rattle.std.specs.Prelude.{◌≡◌, ◌+◌, ℕ, IsNone, IsSome, None, Some};
 ghost use Rattle.marker_walks.specs.Looks.{AreUnbounded};
 
 /// How many looks a walk takes that remembers hardly anything, since most end within them, and then
@@ -29,6 +29,8 @@ impl Looks {
     pub(crate) fn take(&mut self) -> Option<()>
         ensures taken { AreUnbounded self.old → IsSome result }
         ensures unbounded { AreUnbounded self.old → AreUnbounded self.new }
+        ensures one { (n : ℕ) → self.old.left ≡ Some (n + 1) → self.new.left ≡ Some n }
+        ensures none { self.old.left ≡ Some 0 → IsNone result }
     {
         if let Some(left) = self.left {
             self.left = Some(left.checked_sub(1)?);
@@ -39,6 +41,8 @@ impl Looks {
     /// Sets so many looks aside, or those that are left.
     pub(crate) fn set_aside(&mut self, most: usize) -> Looks
         ensures unbounded { AreUnbounded self.old → AreUnbounded self.new }
+        ensures shared { (n : ℕ) → self.old.left ≡ Some n → (aside left : ℕ)
+            × (result.left ≡ Some aside) × (self.new.left ≡ Some left) × (aside + left ≡ n) }
     {
         match self.left {
             Some(left) => {
