@@ -41,8 +41,10 @@ use Rattle.marker_nodes.proofs.VariableLaws.{variable_total}
 use Rattle.marker_nodes.proofs.EdgeLaws.{not_true}
 use Rattle.marker_nodes.proofs.NodeLaws.{lawful}
 use Rattle.marker_walks.specs.Possible.{is_listed}
+use Rattle.marker_walks.specs.Search.{AreOut}
+use Rattle.marker_walks.specs.Search as searches
 use Rattle.marker_nodes.specs.Python.{python_of, with_python}
-use Rattle.marker_walks.specs.Possible.{AreOut, HasExtras, HasSome, IsAmong, IsPossible, IsImpossible, IsPossibleAt, IsImpossibleAt, AnswersPossible, listed_versions, may_lie_in, may_be_so, may_not_be_so}
+use Rattle.marker_walks.specs.Possible.{HasExtras, HasSome, IsAmong, IsPossible, IsImpossible, IsPossibleAt, IsImpossibleAt, AnswersPossible, listed_versions, may_lie_in, may_be_so, may_not_be_so}
 use Rattle.marker_nodes.proofs.Descents.{end_means}
 use Rattle.marker_nodes.proofs.Firsts.{true_is, false_is}
 
@@ -365,8 +367,8 @@ module _ (extras : List (List ℕ)) (versions : Option (List Parts)) where
       end_tells e false z_is = tells_no (truth markers nodes t) (λ v i j. end_means nodes t v e ∙ sym z_is)
 
 -- at first the id that is remembered is FALSE alone
-pub nothing_out : (extras : List (List ℕ)) (versions : Option (List Parts)) (nodes : List Node) (n : ℕ) → AreOut extras versions nodes (replicate n FALSE)
-nothing_out extras versions nodes n = All-replicate (λ t. (v : Valuation) → HasExtras extras v → IsAmong versions v → truth markers nodes t v ≡ false) n FALSE (λ v i j. false_is nodes v)
+pub nothing_out : (extras : List (List ℕ)) (versions : Option (Bor (List Parts))) (nodes : List Node) (n : ℕ) → AreOut extras versions nodes (replicate n FALSE)
+nothing_out extras versions nodes n = All-replicate (searches.IsOut extras versions nodes) n FALSE (λ v i j. false_is nodes v)
 
 -- the constants
 module _ (extras : List (List ℕ)) (versions : Option (Bor (List Parts))) (ready : HasSome versions) (nodes : List Node) where

@@ -1,3 +1,5 @@
 pub mod Disjoint
 pub mod Possible
 pub mod Report
+pub mod Looks
+pub mod Search

@@ -72,11 +72,6 @@ pub record AnswersPossible (extras : List (List ℕ)) (versions : Option (List P
   pub impossible : answer ≡ false → (v : Valuation) → HasExtras extras v → IsAmong versions v
       → f v ≡ false
 
--- no valuation with exactly these extras, at one of these versions, satisfies one of the ids
-abbrev pub AreOut : List (List ℕ) → Option (List Parts) → List Node → List NodeId → Type 0
-AreOut extras versions nodes ids = All (λ t. (v : Valuation) → HasExtras extras v
-    → IsAmong versions v → truth markers nodes t v ≡ false) ids
-
 -- whether a version variable may stand between two bounds: any may but the Python version, where
 -- versions are listed
 abbrev pub may_lie_in : VersionVariable → Option (List Parts) → Bound Parts → Bound Parts → Bool

@@ -1,187 +1,233 @@
 //! Whether two ids are true together.
+//!
+//! A walk looks at pairs of ids, each pair at the pairs of their children. What it found apart it
+//! remembers in an array on the stack, which forgets; so a walk that takes too many looks begins
+//! anew with a larger array.
 
-ghost use Rattle.std.specs.Prelude.{◌≡◌, ◌+◌, ◌<◌, Bool, IfNone, IfSome, List};
+ghost use Rattle.std.specs.Prelude.{◌≡◌, ◌+◌, ◌<◌, ◌≤◌, Bool, IfNone, IfSome, IsSome, List};
 ghost use Rattle.marker_diagrams.specs.Diagram as diagram;
 ghost use Rattle.marker_diagrams.specs.Id.{place_of};
 ghost use Rattle.marker_nodes.specs.Node.{Node, markers};
-ghost use Rattle.marker_walks.specs.Disjoint.{AreApart, AreShared, TellsDisjoint};
+ghost use Rattle.marker_walks.specs.Disjoint.{AreApart, AreDisjoint, Leaves, TellsDisjoint};
+ghost use Rattle.marker_walks.specs.Looks.{AreUnbounded};
 
+use crate::looks::{FIRST, Looks, SECOND, THIRD};
 use marker_nodes::{NodeId, NodeTable, short_cut};
 
-// How many pairs are looked at before any is remembered, since most walks end within them.
-const STEPS: usize = 64;
+// A pair of ids that was found apart: no valuation satisfies both.
+type Pair = (NodeId, NodeId);
 
-// How many pairs are remembered.
-const PAIRS: usize = 256;
-
-// Pairs that were found apart: no valuation satisfies both ids of one. A pair has one place, which
-// it shares with others, so what is remembered can be forgotten.
-type Apart = [(NodeId, NodeId); PAIRS];
+// What a walk remembers, and how many looks it may take. A pair has two places, and shares them with
+// others.
+#[derive(Drop)]
+struct Memory<const N: usize> {
+    apart: [Pair; N],
+    looks: Looks,
+}
 
 /// Whether no valuation satisfies both ids.
 ///
-/// This takes no memory: the first pairs are looked at and forgotten, and where they do not tell,
-/// pairs that were found apart are remembered on the stack, some hundreds of them. The calls are
-/// nested no deeper than the ids have variables.
+/// This takes no memory: pairs that were found apart are remembered on the stack, up to 65,536 of
+/// them. The calls are nested no deeper than the ids have variables.
 pub fn are_disjoint(nodes: &NodeTable, a: NodeId, b: NodeId) -> bool
     requires rules { diagram.IsStore markers nodes.now }
     requires a { diagram.IsHeld nodes.now a }
     requires b { diagram.IsHeld nodes.now b }
     ensures { TellsDisjoint nodes.now a b result }
 {
-    if let Some(both) = short_cut(a, b) {
-        return both == NodeId::FALSE;
+    match tell(nodes, Looks::new(None), a, b) {
+        Some(answer) => answer,
+        None => unreachable!(),
     }
-    let mut steps = STEPS;
-    if let Some(answer) = tell_within(nodes, &mut steps, a, b) {
-        return answer;
-    }
-    are_apart_by_memory(nodes, a, b)
 }
 
-// The same by a walk that remembers pairs. It has its own place on the stack for them, so that no
-// other walk pays for it.
-fn are_apart_by_memory(nodes: &NodeTable, a: NodeId, b: NodeId) -> bool
+/// The same, or `None` where that takes more looks at pairs of nodes than given.
+pub fn are_disjoint_within(nodes: &NodeTable, a: NodeId, b: NodeId, looks: usize) -> Option<bool>
     requires rules { diagram.IsStore markers nodes.now }
     requires a { diagram.IsHeld nodes.now a }
     requires b { diagram.IsHeld nodes.now b }
-    ensures { TellsDisjoint nodes.now a b result }
-{
-    let mut apart = [(NodeId::FALSE, NodeId::FALSE); PAIRS];
-    are_apart(nodes, &mut apart, a, b)
-}
-
-// The same by a walk that remembers nothing, where it looks at so many pairs at most.
-fn tell_within(nodes: &NodeTable, steps: &mut usize, a: NodeId, b: NodeId) -> Option<bool>
-    requires rules { diagram.IsStore markers nodes.now }
-    requires a { diagram.IsHeld nodes.now a }
-    requires b { diagram.IsHeld nodes.now b }
-    requires a_node { 0 < place_of a }
-    requires b_node { 0 < place_of b }
     ensures { IfSome result (TellsDisjoint nodes.now a b) }
 {
-    *steps = steps.checked_sub(1)?;
-    let unsigned_a = a.negate(a);
-    let unsigned_b = b.negate(b);
-    for (left, right) in nodes.side_by_side(&unsigned_a, &unsigned_b).pairs() {
-        let left = left.negate(a);
-        let right = right.negate(b);
-        let answer = match short_cut(left, right) {
-            Some(both) => both == NodeId::FALSE,
-            None => tell_within(nodes, steps, left, right)?,
-        };
-        if !answer {
-            return Some(false);
-        }
+    tell(nodes, Looks::new(Some(looks)), a, b)
+}
+
+// The same within some looks: most walks end within the first of them.
+fn tell(nodes: &NodeTable, mut looks: Looks, a: NodeId, b: NodeId) -> Option<bool>
+    requires rules { diagram.IsStore markers nodes.now }
+    requires a { diagram.IsHeld nodes.now a }
+    requires b { diagram.IsHeld nodes.now b }
+    ensures answer { IfSome result (TellsDisjoint nodes.now a b) }
+    ensures answered { AreUnbounded looks → IsSome result }
+{
+    if let Some(answer) = walk::<2>(nodes, looks.set_aside(FIRST), a, b) {
+        return Some(answer);
     }
-    Some(true)
+    if let Some(answer) = walk::<256>(nodes, looks.set_aside(SECOND), a, b) {
+        return Some(answer);
+    }
+    if let Some(answer) = walk::<4_096>(nodes, looks.set_aside(THIRD), a, b) {
+        return Some(answer);
+    }
+    walk::<65_536>(nodes, looks, a, b)
+}
+
+// The same by a walk with so many places. They are on the stack of this call, so that no other walk
+// pays for them.
+#[inline(never)]
+fn walk<const N: usize>(nodes: &NodeTable, looks: Looks, a: NodeId, b: NodeId) -> Option<bool>
+    requires rules { diagram.IsStore markers nodes.now }
+    requires a { diagram.IsHeld nodes.now a }
+    requires b { diagram.IsHeld nodes.now b }
+    requires places { 2 ≤ N }
+    requires size { N ≤ 65536 }
+    ensures answer { IfSome result (TellsDisjoint nodes.now a b) }
+    ensures answered { AreUnbounded looks → IsSome result }
+{
+    let mut memory = Memory {
+        apart: [(NodeId::FALSE, NodeId::FALSE); N],
+        looks,
+    };
+    are_apart::<N>(nodes, &mut memory, a, b)
+}
+
+// What is left to look at of a pair, where all other pairs of its children are apart: nothing, where
+// one is true together, or else the last one.
+#[derive(Drop)]
+pub(crate) enum Rest {
+    Shared,
+    Last(NodeId, NodeId),
 }
 
 // The same, by what is remembered and is to be.
 #[cycle(apart)]
-fn are_apart(nodes: &NodeTable, apart: &mut Apart, a: NodeId, b: NodeId) -> bool
+fn are_apart<const N: usize>(
+    nodes: &NodeTable,
+    memory: &mut Memory<N>,
+    a: NodeId,
+    b: NodeId,
+) -> Option<bool>
     requires rules { diagram.IsStore markers nodes.now }
     requires a { diagram.IsHeld nodes.now a }
     requires b { diagram.IsHeld nodes.now b }
-    requires apart { AreApart nodes.now apart.old }
-    ensures answer { TellsDisjoint nodes.now a b result }
-    ensures apart { AreApart nodes.now apart.new }
+    requires places { 2 ≤ N }
+    requires apart { AreApart nodes.now memory.old.apart }
+    ensures answer { IfSome result (TellsDisjoint nodes.now a b) }
+    ensures answered { AreUnbounded memory.old.looks → IsSome result }
+    ensures unbounded { AreUnbounded memory.old.looks → AreUnbounded memory.new.looks }
+    ensures apart { AreApart nodes.now memory.new.apart }
 {
-    if let Some(answer) = recall(apart, a, b) {
-        return answer;
+    if let Some(answer) = memory.recall(a, b) {
+        return Some(answer);
     }
     let mut pair = (a, b);
     loop {
-        match all_but_last(nodes, apart, pair.0, pair.1) {
-            Some(last) => pair = last,
-            None => return false,
+        match all_but_last::<N>(nodes, memory, pair.0, pair.1)? {
+            Rest::Last(left, right) => pair = (left, right),
+            Rest::Shared => return Some(false),
         }
-        if let Some(answer) = recall(apart, pair.0, pair.1) {
+        if let Some(answer) = memory.recall(pair.0, pair.1) {
             if answer {
-                apart[slot(a, b)] = (a, b);
+                memory.remember(a, b);
             }
-            return answer;
+            return Some(answer);
         }
     }
 }
 
-// The last pair of children about which something is to be found out, where the others are apart;
-// and `None` where one of them is not.
+// Looks at all pairs of children but the last one about which something is to be found out.
 #[cycle(apart)]
-fn all_but_last(
+fn all_but_last<const N: usize>(
     nodes: &NodeTable,
-    apart: &mut Apart,
+    memory: &mut Memory<N>,
     a: NodeId,
     b: NodeId,
-) -> Option<(NodeId, NodeId)>
+) -> Option<Rest>
     requires rules { diagram.IsStore markers nodes.now }
     requires a { diagram.IsHeld nodes.now a }
     requires b { diagram.IsHeld nodes.now b }
     requires a_node { 0 < place_of a }
     requires b_node { 0 < place_of b }
-    requires apart { AreApart nodes.now apart.old }
-    ensures shared { IfNone result (AreShared nodes.now a b) }
-    ensures last { IfSome result (λ p. (answer : Bool) → TellsDisjoint nodes.now p.0 p.1 answer
-        → TellsDisjoint nodes.now a b answer) }
-    ensures below { IfSome result (λ p. place_of p.0 + place_of p.1 < place_of a + place_of b) }
-    ensures left { IfSome result (λ p. diagram.IsHeld nodes.now p.0) }
-    ensures right { IfSome result (λ p. diagram.IsHeld nodes.now p.1) }
-    ensures apart { AreApart nodes.now apart.new }
+    requires places { 2 ≤ N }
+    requires apart { AreApart nodes.now memory.old.apart }
+    ensures rest { IfSome result (Leaves nodes.now a b) }
+    ensures answered { AreUnbounded memory.old.looks → IsSome result }
+    ensures unbounded { AreUnbounded memory.old.looks → AreUnbounded memory.new.looks }
+    ensures apart { AreApart nodes.now memory.new.apart }
 {
+    memory.looks.take()?;
     let mut last = (NodeId::FALSE, NodeId::FALSE);
     let unsigned_a = a.negate(a);
     let unsigned_b = b.negate(b);
     for (left, right) in nodes.side_by_side(&unsigned_a, &unsigned_b).pairs() {
         let left = left.negate(a);
         let right = right.negate(b);
-        match recall(apart, left, right) {
+        match memory.recall(left, right) {
             Some(true) => {}
-            Some(false) => return None,
+            Some(false) => return Some(Rest::Shared),
             None => {
-                if !are_apart(nodes, apart, last.0, last.1) {
-                    return None;
+                if !are_apart::<N>(nodes, memory, last.0, last.1)? {
+                    return Some(Rest::Shared);
                 }
                 last = (left, right);
             }
         }
     }
-    Some(last)
+    Some(Rest::Last(last.0, last.1))
 }
 
-// Whether no valuation satisfies both ids, where that is remembered or needs no look at a node.
-fn recall(apart: &Apart, a: NodeId, b: NodeId) -> Option<bool>
-    ensures answer { IfSome result (λ answer. (nodes : List Node)
-        → diagram.IsStore markers nodes → diagram.IsHeld nodes a → diagram.IsHeld nodes b
-        → AreApart nodes apart.now → TellsDisjoint nodes a b answer) }
-    ensures nodes { IfNone result ((0 < place_of a) × (0 < place_of b)) }
-{
-    if let Some(both) = short_cut(a, b) {
-        return Some(both == NodeId::FALSE);
+impl<const N: usize> Memory<N> {
+    // Whether no valuation satisfies both ids, where that is remembered or needs no look at a node.
+    fn recall(&self, a: NodeId, b: NodeId) -> Option<bool>
+        requires { 2 ≤ N }
+        ensures answer { IfSome result (λ answer. (nodes : List Node)
+            → diagram.IsStore markers nodes → diagram.IsHeld nodes a → diagram.IsHeld nodes b
+            → AreApart nodes self.now.apart → TellsDisjoint nodes a b answer) }
+        ensures nodes { IfNone result ((0 < place_of a) × (0 < place_of b)) }
+    {
+        if let Some(both) = short_cut(a, b) {
+            return Some(both == NodeId::FALSE);
+        }
+        let place = first_place(N, a, b);
+        let (left, right) = self.apart[place];
+        if left == a && right == b {
+            return Some(true);
+        }
+        let (left, right) = self.apart[place + 1];
+        if left == a && right == b {
+            return Some(true);
+        }
+        None
     }
-    let (left, right) = apart[slot(a, b)];
-    if left == a && right == b {
-        return Some(true);
+
+    // Remembers a pair in the first of its places, and what was there in the second one.
+    fn remember(&mut self, a: NodeId, b: NodeId)
+        requires { 2 ≤ N }
+        ensures looks { self.new.looks ≡ self.old.looks }
+        ensures apart { (nodes : List Node) → AreDisjoint nodes a b
+            → AreApart nodes self.old.apart → AreApart nodes self.new.apart }
+    {
+        let place = first_place(N, a, b);
+        self.apart[place + 1] = self.apart[place];
+        self.apart[place] = (a, b);
     }
-    None
 }
 
-// The place of a pair among those that are remembered: by the high bits of a sum of products, since
+// The first of the two places of a pair among so many: by the high bits of a sum of products, since
 // many pairs of a walk have ids at one distance.
-fn slot(a: NodeId, b: NodeId) -> usize
-    ensures { result < PAIRS }
+fn first_place(places: usize, a: NodeId, b: NodeId) -> usize
+    requires { 2 ≤ places }
+    ensures { result + 1 < places }
 {
-    let left = a
-        .index()
-        .unwrap_or(0)
+    let left = number(a).wrapping_mul(0x9e37_79b9_7f4a_7c15);
+    let right = number(b).wrapping_mul(0xc2b2_ae3d_27d4_eb4f);
+    let mixed = left.wrapping_add(right) >> 32;
+    mixed % (places / 2) * 2
+}
+
+// A number of an id, another one for each.
+fn number(id: NodeId) -> usize {
+    let index = id.index().unwrap_or(0);
+    index
         .wrapping_mul(2)
-        .wrapping_add(usize::from(a.is_complement()));
-    let right = b
-        .index()
-        .unwrap_or(0)
-        .wrapping_mul(2)
-        .wrapping_add(usize::from(b.is_complement()));
-    let mixed = left
-        .wrapping_mul(0x9e37_79b9_7f4a_7c15)
-        .wrapping_add(right.wrapping_mul(0xc2b2_ae3d_27d4_eb4f));
-    (mixed >> 48) % PAIRS
+        .wrapping_add(usize::from(id.is_complement()))
 }

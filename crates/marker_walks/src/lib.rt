@@ -5,11 +5,12 @@
 mod child;
 mod disjoint;
 mod evaluation;
+mod looks;
 mod possible;
 mod report;
 
 pub use child::is_listed;
-pub use disjoint::are_disjoint;
+pub use disjoint::{are_disjoint, are_disjoint_within};
 pub use evaluation::evaluate;
-pub use possible::is_possible;
+pub use possible::{is_possible, is_possible_within};
 pub use report::evaluate_and_report;

@@ -1,35 +1,44 @@
+use Rattle.std.proofs.Common.{rules}
 use Rattle.marker_nodes.proofs.SideLaws.{signed_branches, signed_first}
 use Rattle.marker_walks.proofs.Disjoints.{walks, on_left, on_right, on_shared, on_told, on_next, on_end}
 use Rattle.marker_walks.proofs.disjoint.+apart.Goals as goal
 
 pub all_but_last-loop-left-init : goal.all_but_last-loop-left-init
-all_but_last-loop-left-init t c = record {
+all_but_last-loop-left-init g t c = record {
   apart = c.requires.apart;
+  unbounded = search rules;
   walk = rw c.into_iter-left-iterator.ensures.into_iter_gives (walks c.args.nodes.now c.requires.rules c.args.a c.args.b c.requires.a c.requires.b c.side_by_side.result
       (signed_first c.args.nodes.now _ c.args.a c.args.b _ _ c.negate-unsigned_a.ensures c.negate-unsigned_b.ensures c.side_by_side.ensures.first)
       (λ v. signed_branches c.args.nodes.now _ c.args.a c.args.b _ _ c.negate-unsigned_a.ensures c.negate-unsigned_b.ensures v _ (c.side_by_side.ensures.children v)) _ c.pairs-left-items.ensures.value c.pairs-left-items.ensures.inhabited c.requires.a_node);
 }
 
 pub all_but_last-loop-left-preserved-in-Some-true : goal.all_but_last-loop-left-preserved-in-Some-true
-all_but_last-loop-left-preserved-in-Some-true t c = record {
+all_but_last-loop-left-preserved-in-Some-true g t c = record {
   apart = c.loop-left.invariant.apart;
+  unbounded = search rules;
   walk = on_told c.args.nodes.now c.requires.rules c.args.a c.args.b c.requires.a c.requires.b _ _ _ _ c.in-Some.ensures.steps c.loop-left.invariant.walk _ _ c.negate-left.ensures c.negate-right.ensures _
       (c.in-Some-true.ensures.answer c.args.nodes.now c.requires.rules (on_left c.args.nodes.now c.requires.rules c.args.a c.args.b c.requires.a c.requires.b _ _ _ _ c.in-Some.ensures.steps c.loop-left.invariant.walk _ _ c.negate-left.ensures c.negate-right.ensures)
       (on_right c.args.nodes.now c.requires.rules c.args.a c.args.b c.requires.a c.requires.b _ _ _ _ c.in-Some.ensures.steps c.loop-left.invariant.walk _ _ c.negate-left.ensures c.negate-right.ensures) c.loop-left.invariant.apart) c.in-Some-true.field-0-test;
 }
 
-pub all_but_last-returns-in-Some-false-clause-shared : goal.all_but_last-returns-in-Some-false-clause-shared
-all_but_last-returns-in-Some-false-clause-shared t c =
+pub all_but_last-returns-in-Some-false-clause-rest : goal.all_but_last-returns-in-Some-false-clause-rest
+all_but_last-returns-in-Some-false-clause-rest g t c =
     on_shared c.args.nodes.now c.requires.rules c.args.a c.args.b c.requires.a c.requires.b _ _ _ _ c.in-Some.ensures.steps c.loop-left.invariant.walk _ _ c.negate-left.ensures c.negate-right.ensures _
     (c.in-Some-false.ensures.answer c.args.nodes.now c.requires.rules (on_left c.args.nodes.now c.requires.rules c.args.a c.args.b c.requires.a c.requires.b _ _ _ _ c.in-Some.ensures.steps c.loop-left.invariant.walk _ _ c.negate-left.ensures c.negate-right.ensures)
     (on_right c.args.nodes.now c.requires.rules c.args.a c.args.b c.requires.a c.requires.b _ _ _ _ c.in-Some.ensures.steps c.loop-left.invariant.walk _ _ c.negate-left.ensures c.negate-right.ensures) c.loop-left.invariant.apart) c.in-Some-false.field-0-test
 
 pub all_but_last-loop-left-preserved : goal.all_but_last-loop-left-preserved
-all_but_last-loop-left-preserved t c = record {
+all_but_last-loop-left-preserved g t c = record {
   apart = c.are_apart.ensures.apart;
+  unbounded = search rules;
   walk = on_next c.args.nodes.now c.requires.rules c.args.a c.args.b c.requires.a c.requires.b _ _ _ _ c.in-Some.ensures.steps c.loop-left.invariant.walk _ _ c.negate-left.ensures c.negate-right.ensures _
-      c.are_apart.ensures.answer c.if-not-are_apart.false;
+      c.in_ok-are_apart-in-None-recall.ensures.answer c.if-not-branch.false;
 }
 
-pub all_but_last-returns-clause-last : goal.all_but_last-returns-clause-last
-all_but_last-returns-clause-last t c = on_end c.args.nodes.now c.requires.rules c.args.a c.args.b c.requires.a c.requires.b _ _ c.in-None.ensures.steps.0 c.loop-left.invariant.walk
+pub all_but_last-returns-clause-rest : goal.all_but_last-returns-clause-rest
+all_but_last-returns-clause-rest g t c = record {
+  tells = on_end c.args.nodes.now c.requires.rules c.args.a c.args.b c.requires.a c.requires.b _ _ c.in-None.ensures.steps.0 c.loop-left.invariant.walk;
+  below = c.loop-left.invariant.walk.below;
+  left_held = c.loop-left.invariant.walk.left_held;
+  right_held = c.loop-left.invariant.walk.right_held;
+}

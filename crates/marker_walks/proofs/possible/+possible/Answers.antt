@@ -1,4 +1,4 @@
-use Rattle.std.proofs.Common.{not, refl, sym, ap, ◌∙◌, subst, arith}
+use Rattle.std.proofs.Common.{rules, not, refl, sym, ap, ◌∙◌, subst, arith}
 use Rattle.std.proofs.lemmas.Bool.{true≢false}
 use Rattle.version_ranges.specs.Parts.{parts_of, parts_left}
 use Rattle.marker_nodes.specs.declared.node.Branches.TheVariants.{Version, Text}
@@ -7,123 +7,131 @@ use Rattle.marker_walks.proofs.PossibleLaws.{enters, always, Walks, some_sought,
 use Rattle.marker_walks.proofs.possible.+possible.Goals as goal
 
 pub possible-returns-then-is_true-clause-answer : goal.possible-returns-then-is_true-clause-answer
-possible-returns-then-is_true-clause-answer t c = true_tells c.args.extras.now c.args.versions c.requires.versions c.args.nodes.now c.args.id (c.is_true.ensures.0 c.if-is_true.true)
+possible-returns-then-is_true-clause-answer t c = true_tells c.args.extras.now c.args.versions c.requires.search.some c.args.nodes.now c.args.id (c.is_true.ensures.0 c.if-is_true.true)
 
 pub possible-returns-then-is_false-clause-answer : goal.possible-returns-then-is_false-clause-answer
-possible-returns-then-is_false-clause-answer t c = false_tells c.args.extras.now c.args.versions c.requires.versions c.args.nodes.now c.args.id (c.is_false.ensures.0 c.if-is_false.true)
+possible-returns-then-is_false-clause-answer t c = false_tells c.args.extras.now c.args.versions c.requires.search.some c.args.nodes.now c.args.id (c.is_false.ensures.0 c.if-is_false.true)
 
-pub is_possible_by_nodes-returns-in-None-clause-answer : goal.is_possible_by_nodes-returns-in-None-clause-answer
-is_possible_by_nodes-returns-in-None-clause-answer t c =
-    let s = some_sought c.args.extras.now c.args.versions c.requires.versions in
-    c.loop-variable.invariant.rest _ (end_tells c.args.extras.now (listed_versions c.args.versions) c.args.nodes.now c.requires.rules c.loop-variable.at s.0 s.1 s.2 c.in-None.ensures _ (ap not c.is_complement.ensures))
+pub possible_by_nodes-returns-in-None-clause-answer : goal.possible_by_nodes-returns-in-None-clause-answer
+possible_by_nodes-returns-in-None-clause-answer t c =
+    let s = some_sought c.args.extras.now c.args.versions c.requires.search.some in
+    c.loop-variable.invariant.rest _ (end_tells c.args.extras.now (listed_versions c.args.versions) c.args.nodes.now c.requires.search.rules c.loop-variable.at s.0 s.1 s.2 c.in-None.ensures _ (ap not c.is_complement.ensures))
 
-pub is_possible_at_version-loop-piece-init : goal.is_possible_at_version-loop-piece-init
-is_possible_at_version-loop-piece-init t c =
-    let s = some_sought c.args.extras.now c.args.versions c.requires.versions in
+pub possible_at_version-loop-piece-init : goal.possible_at_version-loop-piece-init
+possible_at_version-loop-piece-init t c =
+    let s = some_sought c.args.extras.now c.args.versions c.requires.search.some in
     record {
+      places = refl;
       out = c.requires.out;
+      unbounded = λ u. u;
       walk = subst (Walks c.args.extras.now (listed_versions c.args.versions) c.args.nodes.now c.args.id (enters c.args.variable (listed_versions c.args.versions))) (sym (ap parts_left c.into_iter-piece-iterator.ensures.into_iter_gives ∙ c.pieces-piece-items.ensures.items))
-          (version_walks c.args.extras.now (listed_versions c.args.versions) c.args.nodes.now c.requires.rules c.args.id s.0 s.1 s.2 c.args.variable c.args.edges.now (parts_of c.args.edges.now) c.pieces-piece-items.ensures.pieces (Version c.args.variable c.args.edges.now) (λ v. refl) c.requires.node);
+          (version_walks c.args.extras.now (listed_versions c.args.versions) c.args.nodes.now c.requires.search.rules c.args.id s.0 s.1 s.2 c.args.variable c.args.edges.now (parts_of c.args.edges.now) c.pieces-piece-items.ensures.pieces (Version c.args.variable c.args.edges.now) (λ v. refl) c.requires.node);
     }
 
-pub is_possible_at_version-loop-piece-preserved-then-not-may_lie_in : goal.is_possible_at_version-loop-piece-preserved-then-not-may_lie_in
-is_possible_at_version-loop-piece-preserved-then-not-may_lie_in t c = record {
+pub possible_at_version-loop-piece-preserved-then-not-may_lie_in : goal.possible_at_version-loop-piece-preserved-then-not-may_lie_in
+possible_at_version-loop-piece-preserved-then-not-may_lie_in t c = record {
+  places = c.loop-piece.invariant.places;
   out = c.loop-piece.invariant.out;
+  unbounded = c.loop-piece.invariant.unbounded;
   walk = walk_next c.args.extras.now (listed_versions c.args.versions) c.args.nodes.now c.args.id (enters c.args.variable (listed_versions c.args.versions)) _ _ _ c.in-Some.ensures.steps c.loop-piece.invariant.walk
       (λ m. absurd (true≢false (sym m ∙ sym c.may_lie_in.ensures ∙ c.if-not-may_lie_in.true)));
 }
 
-pub is_possible_at_version-possible-requires : goal.is_possible_at_version-possible-requires
-is_possible_at_version-possible-requires t c =
+pub possible_at_version-possible-requires : goal.possible_at_version-possible-requires
+possible_at_version-possible-requires t c =
     let h = walk_leads c.args.extras.now (listed_versions c.args.versions) c.args.nodes.now c.args.id (enters c.args.variable (listed_versions c.args.versions)) _ _ _ c.in-Some.ensures.steps c.loop-piece.invariant.walk (sym c.may_lie_in.ensures ∙ c.if-not-may_lie_in.false) in
     let s = child_below c.args.extras.now (listed_versions c.args.versions) c.args.nodes.now c.args.id c.in-Some.piece.value.now c.negate.result c.negate.ensures c.requires.id h in
-    (omega (arith, s.0, c.decreases), (c.requires.rules, (s.1, (c.requires.versions, c.loop-piece.invariant.out))))
+    (omega (arith, s.0, c.decreases), (c.requires.search, (s.1, (search rules, c.loop-piece.invariant.out))))
 
-pub is_possible_at_version-returns-then-possible-clause-answer : goal.is_possible_at_version-returns-then-possible-clause-answer
-is_possible_at_version-returns-then-possible-clause-answer t c =
+pub possible_at_version-returns-then-branch-clause-answer : goal.possible_at_version-returns-then-branch-clause-answer
+possible_at_version-returns-then-branch-clause-answer t c =
     let h = walk_leads c.args.extras.now (listed_versions c.args.versions) c.args.nodes.now c.args.id (enters c.args.variable (listed_versions c.args.versions)) _ _ _ c.in-Some.ensures.steps c.loop-piece.invariant.walk (sym c.may_lie_in.ensures ∙ c.if-not-may_lie_in.false) in
-    child_found c.args.extras.now (listed_versions c.args.versions) c.args.nodes.now c.args.id c.in-Some.piece.value.now c.negate.result c.negate.ensures h _ c.possible.ensures.answer c.if-possible.true
+    child_found c.args.extras.now (listed_versions c.args.versions) c.args.nodes.now c.args.id c.in-Some.piece.value.now c.negate.result c.negate.ensures h _ c.in_ok-possible.ensures.answer c.if-branch.true
 
-pub is_possible_at_version-loop-piece-preserved : goal.is_possible_at_version-loop-piece-preserved
-is_possible_at_version-loop-piece-preserved t c = record {
+pub possible_at_version-loop-piece-preserved : goal.possible_at_version-loop-piece-preserved
+possible_at_version-loop-piece-preserved t c = record {
+  places = c.possible.ensures.places ∙ c.loop-piece.invariant.places;
   out = c.possible.ensures.out;
+  unbounded = λ u. c.possible.ensures.unbounded (c.loop-piece.invariant.unbounded u);
   walk = walk_next c.args.extras.now (listed_versions c.args.versions) c.args.nodes.now c.args.id (enters c.args.variable (listed_versions c.args.versions)) _ _ _ c.in-Some.ensures.steps c.loop-piece.invariant.walk
-      (λ m. child_closed c.args.extras.now (listed_versions c.args.versions) c.args.nodes.now c.args.id c.in-Some.piece.value.now c.negate.result c.negate.ensures _ c.possible.ensures.answer c.if-possible.false);
+      (λ m. child_closed c.args.extras.now (listed_versions c.args.versions) c.args.nodes.now c.args.id c.in-Some.piece.value.now c.negate.result c.negate.ensures _ c.in_ok-possible.ensures.answer c.if-branch.false);
 }
 
-pub is_possible_at_version-returns-clause-answer : goal.is_possible_at_version-returns-clause-answer
-is_possible_at_version-returns-clause-answer t c = walk_end c.args.extras.now (listed_versions c.args.versions) c.args.nodes.now c.args.id (enters c.args.variable (listed_versions c.args.versions)) _ c.in-None.ensures.steps.0 c.loop-piece.invariant.walk
+pub possible_at_version-returns-clause-answer : goal.possible_at_version-returns-clause-answer
+possible_at_version-returns-clause-answer t c = walk_end c.args.extras.now (listed_versions c.args.versions) c.args.nodes.now c.args.id (enters c.args.variable (listed_versions c.args.versions)) _ c.in-None.ensures.steps.0 c.loop-piece.invariant.walk
 
-pub is_possible_at_text-loop-piece-init : goal.is_possible_at_text-loop-piece-init
-is_possible_at_text-loop-piece-init t c =
-    let s = some_sought c.args.extras.now c.args.versions c.requires.versions in
+pub possible_at_text-loop-piece-init : goal.possible_at_text-loop-piece-init
+possible_at_text-loop-piece-init t c =
+    let s = some_sought c.args.extras.now c.args.versions c.requires.search.some in
     record {
+      places = refl;
       out = c.requires.out;
+      unbounded = λ u. u;
       walk = subst (Walks c.args.extras.now (listed_versions c.args.versions) c.args.nodes.now c.args.id always) (sym (ap parts_left c.into_iter-piece-iterator.ensures.into_iter_gives ∙ c.pieces-piece-items.ensures.items))
-          (text_walks c.args.extras.now (listed_versions c.args.versions) c.args.nodes.now c.requires.rules c.args.id s.0 s.1 s.2 c.requires.node.0 c.args.edges.now (parts_of c.args.edges.now) c.pieces-piece-items.ensures.pieces (Text c.requires.node.0 c.args.edges.now) (λ v. refl) c.requires.node.1);
+          (text_walks c.args.extras.now (listed_versions c.args.versions) c.args.nodes.now c.requires.search.rules c.args.id s.0 s.1 s.2 c.requires.node.0 c.args.edges.now (parts_of c.args.edges.now) c.pieces-piece-items.ensures.pieces (Text c.requires.node.0 c.args.edges.now) (λ v. refl) c.requires.node.1);
     }
 
-pub is_possible_at_text-possible-requires : goal.is_possible_at_text-possible-requires
-is_possible_at_text-possible-requires t c =
+pub possible_at_text-possible-requires : goal.possible_at_text-possible-requires
+possible_at_text-possible-requires t c =
     let h = walk_leads c.args.extras.now (listed_versions c.args.versions) c.args.nodes.now c.args.id always _ _ _ c.in-Some.ensures.steps c.loop-piece.invariant.walk refl in
     let s = child_below c.args.extras.now (listed_versions c.args.versions) c.args.nodes.now c.args.id c.in-Some.piece.value.now c.negate.result c.negate.ensures c.requires.id h in
-    (omega (arith, s.0, c.decreases), (c.requires.rules, (s.1, (c.requires.versions, c.loop-piece.invariant.out))))
+    (omega (arith, s.0, c.decreases), (c.requires.search, (s.1, (search rules, c.loop-piece.invariant.out))))
 
-pub is_possible_at_text-returns-then-possible-clause-answer : goal.is_possible_at_text-returns-then-possible-clause-answer
-is_possible_at_text-returns-then-possible-clause-answer t c =
+pub possible_at_text-returns-then-branch-clause-answer : goal.possible_at_text-returns-then-branch-clause-answer
+possible_at_text-returns-then-branch-clause-answer t c =
     let h = walk_leads c.args.extras.now (listed_versions c.args.versions) c.args.nodes.now c.args.id always _ _ _ c.in-Some.ensures.steps c.loop-piece.invariant.walk refl in
-    child_found c.args.extras.now (listed_versions c.args.versions) c.args.nodes.now c.args.id c.in-Some.piece.value.now c.negate.result c.negate.ensures h _ c.possible.ensures.answer c.if-possible.true
+    child_found c.args.extras.now (listed_versions c.args.versions) c.args.nodes.now c.args.id c.in-Some.piece.value.now c.negate.result c.negate.ensures h _ c.in_ok-possible.ensures.answer c.if-branch.true
 
-pub is_possible_at_text-loop-piece-preserved : goal.is_possible_at_text-loop-piece-preserved
-is_possible_at_text-loop-piece-preserved t c = record {
+pub possible_at_text-loop-piece-preserved : goal.possible_at_text-loop-piece-preserved
+possible_at_text-loop-piece-preserved t c = record {
+  places = c.possible.ensures.places ∙ c.loop-piece.invariant.places;
   out = c.possible.ensures.out;
+  unbounded = λ u. c.possible.ensures.unbounded (c.loop-piece.invariant.unbounded u);
   walk = walk_next c.args.extras.now (listed_versions c.args.versions) c.args.nodes.now c.args.id always _ _ _ c.in-Some.ensures.steps c.loop-piece.invariant.walk
-      (λ m. child_closed c.args.extras.now (listed_versions c.args.versions) c.args.nodes.now c.args.id c.in-Some.piece.value.now c.negate.result c.negate.ensures _ c.possible.ensures.answer c.if-possible.false);
+      (λ m. child_closed c.args.extras.now (listed_versions c.args.versions) c.args.nodes.now c.args.id c.in-Some.piece.value.now c.negate.result c.negate.ensures _ c.in_ok-possible.ensures.answer c.if-branch.false);
 }
 
-pub is_possible_at_text-returns-clause-answer : goal.is_possible_at_text-returns-clause-answer
-is_possible_at_text-returns-clause-answer t c = walk_end c.args.extras.now (listed_versions c.args.versions) c.args.nodes.now c.args.id always _ c.in-None.ensures.steps.0 c.loop-piece.invariant.walk
+pub possible_at_text-returns-clause-answer : goal.possible_at_text-returns-clause-answer
+possible_at_text-returns-clause-answer t c = walk_end c.args.extras.now (listed_versions c.args.versions) c.args.nodes.now c.args.id always _ c.in-None.ensures.steps.0 c.loop-piece.invariant.walk
 
-pub last_at_truth-returns-then-not-may_be_so-clause-last : goal.last_at_truth-returns-then-not-may_be_so-clause-last
-last_at_truth-returns-then-not-may_be_so-clause-last t c = low_alone c.args.extras.now c.args.versions c.requires.versions c.args.nodes.now c.requires.rules c.args.id c.requires.id c.args.variable.now c.args.high c.args.low c.requires.node c.negate.result c.negate.ensures (sym c.may_be_so.ensures ∙ c.if-not-may_be_so.true)
+pub rest_at_truth-returns-then-not-may_be_so-clause-rest : goal.rest_at_truth-returns-then-not-may_be_so-clause-rest
+rest_at_truth-returns-then-not-may_be_so-clause-rest t c = (
+  (low_below c.args.extras.now c.args.versions c.requires.search.some c.args.nodes.now c.requires.search.rules c.args.id c.requires.id c.args.variable.now c.args.high c.args.low c.requires.node c.negate.result c.negate.ensures (otherwise_may c.args.extras.now c.args.variable.now (sym c.may_be_so.ensures ∙ c.if-not-may_be_so.true))).0,
+  low_alone c.args.extras.now c.args.versions c.requires.search.some c.args.nodes.now c.requires.search.rules c.args.id c.requires.id c.args.variable.now c.args.high c.args.low c.requires.node c.negate.result c.negate.ensures (sym c.may_be_so.ensures ∙ c.if-not-may_be_so.true),
+)
 
-pub last_at_truth-returns-then-not-may_be_so-clause-below : goal.last_at_truth-returns-then-not-may_be_so-clause-below
-last_at_truth-returns-then-not-may_be_so-clause-below t c = (low_below c.args.extras.now c.args.versions c.requires.versions c.args.nodes.now c.requires.rules c.args.id c.requires.id c.args.variable.now c.args.high c.args.low c.requires.node c.negate.result c.negate.ensures (otherwise_may c.args.extras.now c.args.variable.now (sym c.may_be_so.ensures ∙ c.if-not-may_be_so.true))).0
+pub rest_at_truth-returns-then-not-may_not_be_so-clause-rest : goal.rest_at_truth-returns-then-not-may_not_be_so-clause-rest
+rest_at_truth-returns-then-not-may_not_be_so-clause-rest t c = (
+  (high_below c.args.extras.now c.args.versions c.requires.search.some c.args.nodes.now c.requires.search.rules c.args.id c.requires.id c.args.variable.now c.args.high c.args.low c.requires.node c.negate-then-not-may_not_be_so.result c.negate-then-not-may_not_be_so.ensures (sym c.may_be_so.ensures ∙ c.if-not-may_be_so.false)).0,
+  high_alone c.args.extras.now c.args.versions c.requires.search.some c.args.nodes.now c.requires.search.rules c.args.id c.requires.id c.args.variable.now c.args.high c.args.low c.requires.node c.negate-then-not-may_not_be_so.result c.negate-then-not-may_not_be_so.ensures (sym c.may_be_so.ensures ∙ c.if-not-may_be_so.false) (sym c.may_not_be_so.ensures ∙ c.if-not-may_not_be_so.true),
+)
 
-pub last_at_truth-returns-then-not-may_not_be_so-clause-last : goal.last_at_truth-returns-then-not-may_not_be_so-clause-last
-last_at_truth-returns-then-not-may_not_be_so-clause-last t c = high_alone c.args.extras.now c.args.versions c.requires.versions c.args.nodes.now c.requires.rules c.args.id c.requires.id c.args.variable.now c.args.high c.args.low c.requires.node c.negate-then-not-may_not_be_so.result c.negate-then-not-may_not_be_so.ensures (sym c.may_be_so.ensures ∙ c.if-not-may_be_so.false) (sym c.may_not_be_so.ensures ∙ c.if-not-may_not_be_so.true)
+pub rest_at_truth-possible-requires : goal.rest_at_truth-possible-requires
+rest_at_truth-possible-requires t c =
+    let s = low_below c.args.extras.now c.args.versions c.requires.search.some c.args.nodes.now c.requires.search.rules c.args.id c.requires.id c.args.variable.now c.args.high c.args.low c.requires.node c.negate-then-is_none.result c.negate-then-is_none.ensures (sym c.may_not_be_so.ensures ∙ c.if-not-may_not_be_so.false) in
+    (omega (arith, s.0, c.decreases), (c.requires.search, (s.1, (c.requires.places, c.requires.out))))
 
-pub last_at_truth-returns-then-not-may_not_be_so-clause-below : goal.last_at_truth-returns-then-not-may_not_be_so-clause-below
-last_at_truth-returns-then-not-may_not_be_so-clause-below t c = (high_below c.args.extras.now c.args.versions c.requires.versions c.args.nodes.now c.requires.rules c.args.id c.requires.id c.args.variable.now c.args.high c.args.low c.requires.node c.negate-then-not-may_not_be_so.result c.negate-then-not-may_not_be_so.ensures (sym c.may_be_so.ensures ∙ c.if-not-may_be_so.false)).0
+pub rest_at_truth-returns-then-branch-clause-rest : goal.rest_at_truth-returns-then-branch-clause-rest
+rest_at_truth-returns-then-branch-clause-rest t c =
+    low_found c.args.extras.now c.args.versions c.requires.search.some c.args.nodes.now c.requires.search.rules c.args.id c.requires.id c.args.variable.now c.args.high c.args.low c.requires.node c.negate-then-is_none.result c.negate-then-is_none.ensures (sym c.may_not_be_so.ensures ∙ c.if-not-may_not_be_so.false) _ c.in_ok-possible.ensures.answer c.if-branch.true
 
-pub last_at_truth-possible-requires : goal.last_at_truth-possible-requires
-last_at_truth-possible-requires t c =
-    let s = low_below c.args.extras.now c.args.versions c.requires.versions c.args.nodes.now c.requires.rules c.args.id c.requires.id c.args.variable.now c.args.high c.args.low c.requires.node c.negate-then-is_none.result c.negate-then-is_none.ensures (sym c.may_not_be_so.ensures ∙ c.if-not-may_not_be_so.false) in
-    (omega (arith, s.0, c.decreases), (c.requires.rules, (s.1, (c.requires.versions, c.requires.out))))
+pub rest_at_truth-returns-then-is_none-clause-rest : goal.rest_at_truth-returns-then-is_none-clause-rest
+rest_at_truth-returns-then-is_none-clause-rest t c = (
+  (high_below c.args.extras.now c.args.versions c.requires.search.some c.args.nodes.now c.requires.search.rules c.args.id c.requires.id c.args.variable.now c.args.high c.args.low c.requires.node c.negate-then-is_none-2.result c.negate-then-is_none-2.ensures (sym c.may_be_so.ensures ∙ c.if-not-may_be_so.false)).0,
+  high_after c.args.extras.now c.args.versions c.requires.search.some c.args.nodes.now c.requires.search.rules c.args.id c.requires.id c.args.variable.now c.args.high c.args.low c.requires.node c.negate-then-is_none-2.result c.negate-then-is_none-2.ensures (sym c.may_be_so.ensures ∙ c.if-not-may_be_so.false) c.negate-then-is_none.result c.negate-then-is_none.ensures _ c.in_ok-possible.ensures.answer c.if-branch.false,
+)
 
-pub last_at_truth-returns-then-possible-clause-found : goal.last_at_truth-returns-then-possible-clause-found
-last_at_truth-returns-then-possible-clause-found t c =
-    low_found c.args.extras.now c.args.versions c.requires.versions c.args.nodes.now c.requires.rules c.args.id c.requires.id c.args.variable.now c.args.high c.args.low c.requires.node c.negate-then-is_none.result c.negate-then-is_none.ensures (sym c.may_not_be_so.ensures ∙ c.if-not-may_not_be_so.false) _ c.possible.ensures.answer c.if-possible.true
+pub rest_at_truth-possible-requires-2 : goal.rest_at_truth-possible-requires-2
+rest_at_truth-possible-requires-2 t c =
+    let s = high_below c.args.extras.now c.args.versions c.requires.search.some c.args.nodes.now c.requires.search.rules c.args.id c.requires.id c.args.variable.now c.args.high c.args.low c.requires.node c.negate-2.result c.negate-2.ensures (sym c.may_be_so.ensures ∙ c.if-not-may_be_so.false) in
+    (omega (arith, s.0, c.decreases), (c.requires.search, (s.1, (c.requires.places, c.requires.out))))
 
-pub last_at_truth-returns-then-is_none-clause-last : goal.last_at_truth-returns-then-is_none-clause-last
-last_at_truth-returns-then-is_none-clause-last t c =
-    high_after c.args.extras.now c.args.versions c.requires.versions c.args.nodes.now c.requires.rules c.args.id c.requires.id c.args.variable.now c.args.high c.args.low c.requires.node c.negate-then-is_none-2.result c.negate-then-is_none-2.ensures (sym c.may_be_so.ensures ∙ c.if-not-may_be_so.false) c.negate-then-is_none.result c.negate-then-is_none.ensures _ c.possible.ensures.answer c.if-possible.false
+pub rest_at_truth-returns-then-branch-2-clause-rest : goal.rest_at_truth-returns-then-branch-2-clause-rest
+rest_at_truth-returns-then-branch-2-clause-rest t c =
+    high_found c.args.extras.now c.args.versions c.requires.search.some c.args.nodes.now c.requires.search.rules c.args.id c.requires.id c.args.variable.now c.args.high c.args.low c.requires.node c.negate-2.result c.negate-2.ensures (sym c.may_be_so.ensures ∙ c.if-not-may_be_so.false) _ c.in_ok-possible-2.ensures.answer c.if-branch-2.true
 
-pub last_at_truth-returns-then-is_none-clause-below : goal.last_at_truth-returns-then-is_none-clause-below
-last_at_truth-returns-then-is_none-clause-below t c = (high_below c.args.extras.now c.args.versions c.requires.versions c.args.nodes.now c.requires.rules c.args.id c.requires.id c.args.variable.now c.args.high c.args.low c.requires.node c.negate-then-is_none-2.result c.negate-then-is_none-2.ensures (sym c.may_be_so.ensures ∙ c.if-not-may_be_so.false)).0
-
-pub last_at_truth-possible-requires-2 : goal.last_at_truth-possible-requires-2
-last_at_truth-possible-requires-2 t c =
-    let s = high_below c.args.extras.now c.args.versions c.requires.versions c.args.nodes.now c.requires.rules c.args.id c.requires.id c.args.variable.now c.args.high c.args.low c.requires.node c.negate-2.result c.negate-2.ensures (sym c.may_be_so.ensures ∙ c.if-not-may_be_so.false) in
-    (omega (arith, s.0, c.decreases), (c.requires.rules, (s.1, (c.requires.versions, c.requires.out))))
-
-pub last_at_truth-returns-then-possible-2-clause-found : goal.last_at_truth-returns-then-possible-2-clause-found
-last_at_truth-returns-then-possible-2-clause-found t c =
-    high_found c.args.extras.now c.args.versions c.requires.versions c.args.nodes.now c.requires.rules c.args.id c.requires.id c.args.variable.now c.args.high c.args.low c.requires.node c.negate-2.result c.negate-2.ensures (sym c.may_be_so.ensures ∙ c.if-not-may_be_so.false) _ c.possible-2.ensures.answer c.if-possible-2.true
-
-pub last_at_truth-returns-clause-last : goal.last_at_truth-returns-clause-last
-last_at_truth-returns-clause-last t c =
-    low_after c.args.extras.now c.args.versions c.requires.versions c.args.nodes.now c.requires.rules c.args.id c.requires.id c.args.variable.now c.args.high c.args.low c.requires.node c.negate-3.result c.negate-3.ensures (sym c.may_not_be_so.ensures ∙ c.if-not-may_not_be_so.false) c.negate-2.result c.negate-2.ensures _ c.possible-2.ensures.answer c.if-possible-2.false
-
-pub last_at_truth-returns-clause-below : goal.last_at_truth-returns-clause-below
-last_at_truth-returns-clause-below t c = (low_below c.args.extras.now c.args.versions c.requires.versions c.args.nodes.now c.requires.rules c.args.id c.requires.id c.args.variable.now c.args.high c.args.low c.requires.node c.negate-3.result c.negate-3.ensures (sym c.may_not_be_so.ensures ∙ c.if-not-may_not_be_so.false)).0
+pub rest_at_truth-returns-clause-rest : goal.rest_at_truth-returns-clause-rest
+rest_at_truth-returns-clause-rest t c = (
+  (low_below c.args.extras.now c.args.versions c.requires.search.some c.args.nodes.now c.requires.search.rules c.args.id c.requires.id c.args.variable.now c.args.high c.args.low c.requires.node c.negate-3.result c.negate-3.ensures (sym c.may_not_be_so.ensures ∙ c.if-not-may_not_be_so.false)).0,
+  low_after c.args.extras.now c.args.versions c.requires.search.some c.args.nodes.now c.requires.search.rules c.args.id c.requires.id c.args.variable.now c.args.high c.args.low c.requires.node c.negate-3.result c.negate-3.ensures (sym c.may_not_be_so.ensures ∙ c.if-not-may_not_be_so.false) c.negate-2.result c.negate-2.ensures _ c.in_ok-possible-2.ensures.answer c.if-branch-2.false,
+)

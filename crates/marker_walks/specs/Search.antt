@@ -1,0 +1,38 @@
+-- A search for a valuation with exactly some extras, at one of some versions, that satisfies an id.
+use Rattle.std.specs.Prelude.{◌≡◌, ◌<◌, ℕ, All, Bool, true, false, List, Option}
+use Rattle.std.specs.Borrow.{Bor}
+use Rattle.pep440_version.specs.Parts.{Parts}
+use Rattle.marker_environment.specs.Valuation.{Valuation}
+use Rattle.marker_diagrams.specs.declared.node_id.NodeId.{NodeId}
+use Rattle.marker_diagrams.specs.Diagram.{IsStore, truth}
+use Rattle.marker_diagrams.specs.Id.{place_of}
+use Rattle.marker_nodes.specs.Node.{Node, markers}
+use Rattle.marker_walks.specs.declared.possible.Rest.{Rest}
+use Rattle.marker_walks.specs.declared.possible.Rest.TheVariants.{Satisfied, Child}
+use Rattle.marker_walks.specs.Possible.{AnswersPossible, HasExtras, HasSome, IsAmong, listed_versions}
+
+-- the nodes keep the rules of diagrams, and where versions are listed, there is one
+pub record IsSearch (nodes : List Node) (versions : Option (Bor (List Parts))) : Type 0 where
+  pub rules : IsStore markers nodes
+  pub some : HasSome versions
+
+module _ (extras : List (List ℕ)) (versions : Option (Bor (List Parts))) (nodes : List Node) where
+  -- the answer tells whether a valuation that is looked for satisfies the id
+  abbrev pub Answers : NodeId → Bool → Type 0
+  Answers t answer = AnswersPossible extras (listed_versions versions) (truth markers nodes t) answer
+
+  -- no valuation that is looked for satisfies the id
+  abbrev pub IsOut : NodeId → Type 0
+  IsOut t = (v : Valuation) → HasExtras extras v → IsAmong (listed_versions versions) v
+      → truth markers nodes t v ≡ false
+
+  -- none satisfies one of the ids
+  abbrev pub AreOut : List NodeId → Type 0
+  AreOut ids = All IsOut ids
+
+  -- what is left to look at of an id: nothing, where it is satisfied, or else an older id that
+  -- answers for it
+  abbrev pub Leaves : NodeId → Rest → Type 0
+  Leaves t Satisfied = Answers t true
+  Leaves t (Child u) = (place_of u < place_of t)
+      × ((answer : Bool) → Answers u answer → Answers t answer)

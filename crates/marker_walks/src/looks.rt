@@ -1,0 +1,56 @@
+//! How many looks a walk may take.
+
+ghost use Rattle.std.specs.Prelude.{◌≡◌, ◌+◌, ℕ, IsNone, IsSome, None, Some};
+ghost use Rattle.marker_walks.specs.Looks.{AreUnbounded};
+
+/// How many looks a walk takes that remembers hardly anything, since most end within them, and then
+/// one with 256 and one with 4,096 places: sixteen for each place.
+pub(crate) const FIRST: usize = 64;
+
+pub(crate) const SECOND: usize = 4_096;
+
+pub(crate) const THIRD: usize = 65_536;
+
+/// How many looks a walk may still take; `None` stands for as many as it needs.
+#[derive(Drop)]
+pub(crate) struct Looks {
+    left: Option<usize>,
+}
+
+impl Looks {
+    /// So many looks, or as many as are needed.
+    pub(crate) fn new(left: Option<usize>) -> Self
+        ensures { left ≡ None → AreUnbounded result }
+    {
+        Looks { left }
+    }
+
+    /// Takes a look, if one is left.
+    pub(crate) fn take(&mut self) -> Option<()>
+        ensures taken { AreUnbounded self.old → IsSome result }
+        ensures unbounded { AreUnbounded self.old → AreUnbounded self.new }
+        ensures one { (n : ℕ) → self.old.left ≡ Some (n + 1) → self.new.left ≡ Some n }
+        ensures none { self.old.left ≡ Some 0 → IsNone result }
+    {
+        if let Some(left) = self.left {
+            self.left = Some(left.checked_sub(1)?);
+        }
+        Some(())
+    }
+
+    /// Sets so many looks aside, or those that are left.
+    pub(crate) fn set_aside(&mut self, most: usize) -> Looks
+        ensures unbounded { AreUnbounded self.old → AreUnbounded self.new }
+        ensures shared { (n : ℕ) → self.old.left ≡ Some n → (aside left : ℕ)
+            × (result.left ≡ Some aside) × (self.new.left ≡ Some left) × (aside + left ≡ n) }
+    {
+        match self.left {
+            Some(left) => {
+                let aside = left.min(most);
+                self.left = Some(left - aside);
+                Looks { left: Some(aside) }
+            }
+            None => Looks { left: Some(most) },
+        }
+    }
+}
