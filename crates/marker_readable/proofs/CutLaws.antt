@@ -31,13 +31,13 @@ module _ {K C : Type 0} {cmp : K → K → Ordering} (o : IsTotalOrder cmp) (pt 
     pub above : point_lt cmp before low ≡ false
     pub later : point_lt cmp after low ≡ false
 
-  no_back : (p q : Point K) → point_lt cmp p q ≡ true → point_lt cmp q p ≡ false
+  pub no_back : (p q : Point K) → point_lt cmp p q ≡ true → point_lt cmp q p ≡ false
   no_back p q h = ap is_lt ((point_total cmp o).antisymm q p ∙ ap ordering_reverse (lt_less (point_cmp cmp p q) h))
 
-  not_itself : (p : Point K) → point_lt cmp p p ≡ false
+  pub not_itself : (p : Point K) → point_lt cmp p p ≡ false
   not_itself p = ap is_lt (tied_itself (point_total cmp o) p)
 
-  stays : (low c p : Point K) → point_lt cmp low c ≡ true → point_lt cmp p c ≡ false → point_lt cmp p low ≡ false
+  pub stays : (low c p : Point K) → point_lt cmp low c ≡ true → point_lt cmp p c ≡ false → point_lt cmp p low ≡ false
   stays low c p h k =
       not_true (point_lt cmp p low) (point_lt cmp p c) (λ e. ap is_lt ((point_total cmp o).trans p low c (lt_less (point_cmp cmp p low) e) (lt_less (point_cmp cmp low c) h))) k
 

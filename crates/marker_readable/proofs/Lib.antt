@@ -7,3 +7,4 @@ mod NodeLaws
 mod TextLaws
 mod ReleaseLaws
 mod TellLaws
+mod MarkerFormulas

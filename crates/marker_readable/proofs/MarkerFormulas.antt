@@ -90,9 +90,9 @@ by_cases false x y = sym (or_false y)
 
 -- one truth or another, by a third one
 of_choice : (b f g : Valuation → Bool) → IsReadableTruth b → IsReadableTruth (λ v. not (b v)) → IsReadableTruth f → IsReadableTruth g → IsReadableTruth (λ v. cond (b v) (f v) (g v))
-of_choice b f g r s yes no =
+of_choice b f g r s high low =
     same (λ v. cond (b v) (f v) (g v)) (λ v. (not (b v) && g v) || (b v && f v)) (λ v. by_cases (b v) (f v) (g v))
-    (of_either (λ v. not (b v) && g v) (λ v. b v && f v) (of_both (λ v. not (b v)) g s no) (of_both b f r yes))
+    (of_either (λ v. not (b v) && g v) (λ v. b v && f v) (of_both (λ v. not (b v)) g s low) (of_both b f r high))
 
 an_extra : Extra
 an_extra = name (97 ∷ [])

@@ -41,3 +41,11 @@ pub fn readable_truths_have_readable_markers()
     neighboring_children_differ();
     roots_ask_the_first_variable();
 }
+
+/// A readable marker means a formula of plain comparisons. So who sees by [`MarkerTree::kind`] that
+/// all texts, bounds and extras of a marker and its subtrees can be printed knows that its text
+/// parses back.
+pub fn readable_markers_have_readable_truths()
+    ensures { (c : Contents) → IsStore markers c.nodes → (t : MarkerTree) → IsHeld c t
+        → IsReadable c t → IsReadableTruth (truth c t) }
+{}
