@@ -8,11 +8,10 @@ use Rattle.std.proofs.lemmas.List.Folds.{list_all-append}
 use Rattle.std.proofs.lemmas.List.Sorted.{IsPermutation-refl}
 use Rattle.std.proofs.lemmas.Str.{encodes-IsAscii, IsAscii-append}
 use Rattle.std.proofs.lemmas.Str.Ascii.{IsAscii-nil}
-use Rattle.pep508_text.specs.Class.{holds as is_in, is_comparison}
+use Rattle.pep508_text.specs.Class.{is_comparison, holds, is_name_character}
 use Rattle.pep508_text.specs.declared.classes.Class.TheVariants.{Space}
-use Rattle.pep508_text.specs.Run.{after_space}
+use Rattle.pep508_text.specs.Run.{after_space, run_of, after_run}
 use Rattle.pep508_text.proofs.RunLaws.{trimmed_cons, trimmed_after_space}
-use Rattle.pep508_names.specs.Name.{is_name_character}
 use Rattle.pep440_specifier.specs.declared.operator.Operator.{Operator}
 use Rattle.pep440_specifier.specs.declared.operator.Operator.TheVariants.{Equal, EqualStar, ExactEqual, NotEqual, NotEqualStar, TildeEqual, LessThan, LessThanEqual, GreaterThan, GreaterThanEqual}
 use Rattle.pep440_version.specs.Text.{version_text}
@@ -23,24 +22,23 @@ use Rattle.pep440_specifier.specs.Specifier.{IsWellFormed, Specifier}
 use Rattle.pep440_specifier.specs.Text.{is_specifier_byte, specifier_text}
 use Rattle.pep440_specifier.proofs.ReadBack.{byte-is_plain, reads-back, text-is_plain}
 use Rattle.requirement_words.specs.Archive.{IsArchive}
-use Rattle.requirement_words.specs.Runs.{holds, part_of, after_part}
-use Rattle.requirement_words.specs.declared.runs.Part.TheVariants as parts
+use Rattle.pep508_text.specs.declared.classes.Class.TheVariants as classes
 use Rattle.requirement_words.specs.Extras.{IsExtras, left_out as no_extras, some, begins_bracket}
 use Rattle.requirement_words.specs.Specifiers.{Pieces, last, more, IsSetOf}
-use Rattle.requirement_words.specs.Head.{Asked, nothing, specifiers, url, begins_specifier, ended, marked, IsBody, left_out, bare, IsHead}
+use Rattle.requirement_words.specs.Head.{Asked, nothing, specifiers, url, begins_specifier, ended, marked, IsAsked, left_out, bare, IsHead}
 use Rattle.requirement_words.proofs.ExtrasLaws.{not_eqb}
 use Rattle.requirement_words.proofs.NameEnds.{name_ascii}
-use Rattle.requirement_words.proofs.RunLaws.{part_fails}
+use Rattle.requirement_words.proofs.RunLaws.{run_fails}
 use Rattle.requirement_text.specs.Text.{later_names, extras_text, later_specifiers, asked_text, head_text, IsTailText, no_marker, marker, IsNormal, IsPrintedAs, IsPrintable}
 use Rattle.requirement_text.proofs.NameText.{run_over, name_at, name_before, name_parts, name_run, names_read, normal_no_archive}
 use Rattle.requirement_text.proofs.PlainText.{IsPlain, ascii-cons, plain-ascii, plain-trim, plain-spaced, spaced-ascii}
 
 -- ---- pieces
 
-byte_holds : (b : ℕ) → is_specifier_byte b ≡ true → holds (parts.Specifier 59) b ≡ true
+byte_holds : (b : ℕ) → is_specifier_byte b ≡ true → holds (classes.SpecifierPart 59) b ≡ true
 byte_holds b h = let plain = byte-is_plain b h in rw (not_eqb b 44 plain.no_comma, not_eqb b 59 plain.no_semicolon) refl
 
-plain_holds : (t : List ℕ) → IsPlain t → list_all (holds (parts.Specifier 59)) t ≡ true
+plain_holds : (t : List ℕ) → IsPlain t → list_all (holds (classes.SpecifierPart 59)) t ≡ true
 plain_holds [] h = refl
 plain_holds (b ∷ t) h =
     let both_ = and_parts (is_specifier_byte b) (list_all is_specifier_byte t) h in
@@ -50,10 +48,10 @@ plain_holds (b ∷ t) h =
 same_trimmed : (t u : List ℕ) (s : Specifier) → trim u ≡ trim t → IsSpecifierText t s → IsSpecifierText u s
 same_trimmed t u s e (specifier {operator = o} {rest = r} before pattern makes) = specifier (subst (λ (x : List ℕ). IsOperatorBefore x o r) (sym e) before) pattern makes
 
-piece_is : (w x : List ℕ) (s : Specifier) → list_all (holds (parts.Specifier 59)) w ≡ true → IsAscii w → part_of (parts.Specifier 59) x ≡ [] → after_part (parts.Specifier 59) x ≡ x → IsSpecifierText w s
-    → IsSpecifierText (encode_utf8_all (part_of (parts.Specifier 59) (w ++ x))) s × (after_part (parts.Specifier 59) (w ++ x) ≡ x)
+piece_is : (w x : List ℕ) (s : Specifier) → list_all (holds (classes.SpecifierPart 59)) w ≡ true → IsAscii w → run_of (classes.SpecifierPart 59) x ≡ [] → after_run (classes.SpecifierPart 59) x ≡ x → IsSpecifierText w s
+    → IsSpecifierText (encode_utf8_all (run_of (classes.SpecifierPart 59) (w ++ x))) s × (after_run (classes.SpecifierPart 59) (w ++ x) ≡ x)
 piece_is w x s all ascii e f h =
-    let run = run_over (parts.Specifier 59) w x all e f in
+    let run = run_over (classes.SpecifierPart 59) w x all e f in
     (subst (λ (t : List ℕ). IsSpecifierText t s) (sym (ap encode_utf8_all run.0 ∙ encodes-IsAscii w ascii)) h, run.1)
 
 -- the first character of an operator
@@ -85,7 +83,7 @@ record First (o : Operator) : Type 0 where
   is : operator_text o ≡ first_char o ∷ other_chars o
   unnamed : is_name_character (first_char o) ≡ false
   begins : is_comparison (first_char o) ≡ true
-  dark : is_in Space (first_char o) ≡ false
+  dark : holds Space (first_char o) ≡ false
   no_bracket : (first_char o == 91) ≡ false
 
 first_of : (o : Operator) → First o
@@ -130,7 +128,7 @@ pieces_read s [] tail left no_marker all =
 pieces_read s [] tail left (marker {text = m}) all =
     let plain = text-is_plain s all.0 in
     let w = specifier_text s ++ (32 ∷ []) in
-    let holds_all : list_all (holds (parts.Specifier 59)) w ≡ true = list_all-append (holds (parts.Specifier 59)) (specifier_text s) (32 ∷ []) ∙ and_from _ _ (plain_holds (specifier_text s) plain) refl in
+    let holds_all : list_all (holds (classes.SpecifierPart 59)) w ≡ true = list_all-append (holds (classes.SpecifierPart 59)) (specifier_text s) (32 ∷ []) ∙ and_from _ _ (plain_holds (specifier_text s) plain) refl in
     let ascii : IsAscii w = spaced-ascii (specifier_text s) (plain-ascii (specifier_text s) plain) in
     let h = piece_is w (59 ∷ m) s holds_all ascii refl refl (spaced s all.0) in
     subst (λ (x : List ℕ). Pieces 59 x (59 ∷ m) (s ∷ [])) (append_assoc (specifier_text s) (32 ∷ []) (59 ∷ m)) (last h.0 h.1 refl)
@@ -144,29 +142,29 @@ pieces_read s (t ∷ ss) tail left e all =
 -- ---- bodies
 
 -- what is printed behind the name and the extras
-record IsBodyText (text left : List ℕ) (asked : Asked) : Type 0 where
-  no_name : part_of parts.Name text ≡ []
-  rest : after_part parts.Name text ≡ text
+record IsAskedText (text left : List ℕ) (asked : Asked) : Type 0 where
+  no_name : run_of classes.NamePart text ≡ []
+  rest : after_run classes.NamePart text ≡ text
   no_bracket : begins_bracket (after_space text) ≡ false
-  body : IsBody (after_space text) left asked
+  body : IsAsked (after_space text) left asked
 
-bare_text : (tail left : List ℕ) → IsTailText tail left → IsBodyText tail left nothing
+bare_text : (tail left : List ℕ) → IsTailText tail left → IsAskedText tail left nothing
 bare_text tail left no_marker = record { no_name = refl; rest = refl; no_bracket = refl; body = left_out ended }
 bare_text tail left marker = record { no_name = refl; rest = refl; no_bracket = refl; body = left_out marked }
 
-specifiers_text : (s : Specifier) (ss : List Specifier) (tail left : List ℕ) → IsTailText tail left → IsSetOf (s ∷ ss) (s ∷ ss) → AllByRecursion IsWellFormed (s ∷ ss) → IsBodyText (specifier_text s ++ (later_specifiers ss ++ tail)) left (specifiers (s ∷ ss))
+specifiers_text : (s : Specifier) (ss : List Specifier) (tail left : List ℕ) → IsTailText tail left → IsSetOf (s ∷ ss) (s ∷ ss) → AllByRecursion IsWellFormed (s ∷ ss) → IsAskedText (specifier_text s ++ (later_specifiers ss ++ tail)) left (specifiers (s ∷ ss))
 specifiers_text s ss tail left e is_set all =
     let first = specifier_first s (later_specifiers ss ++ tail) in
     let f = first_of s.operator in
-    let fails = part_fails parts.Name (first_char s.operator) first.0 f.unnamed in
+    let fails = run_fails classes.NamePart (first_char s.operator) first.0 f.unnamed in
     let text : List ℕ = specifier_text s ++ (later_specifiers ss ++ tail) in
     let trimmed : after_space text ≡ text = ap after_space first.1 ∙ trimmed_cons (first_char s.operator) first.0 f.dark ∙ sym first.1 in
-    let here : IsBody text left (specifiers (s ∷ ss)) = bare (ap begins_specifier first.1 ∙ f.begins) (record { list = s ∷ ss; pieces = pieces_read s ss tail left e all; is_set = is_set }) in
+    let here : IsAsked text left (specifiers (s ∷ ss)) = bare (ap begins_specifier first.1 ∙ f.begins) (record { list = s ∷ ss; pieces = pieces_read s ss tail left e all; is_set = is_set }) in
     record {
-      no_name = ap (part_of parts.Name) first.1 ∙ fails.0;
-      rest = ap (after_part parts.Name) first.1 ∙ fails.1 ∙ sym first.1;
+      no_name = ap (run_of classes.NamePart) first.1 ∙ fails.0;
+      rest = ap (after_run classes.NamePart) first.1 ∙ fails.1 ∙ sym first.1;
       no_bracket = ap begins_bracket trimmed ∙ ap begins_bracket first.1 ∙ f.no_bracket;
-      body = subst (λ (x : List ℕ). IsBody x left (specifiers (s ∷ ss))) (sym trimmed) here;
+      body = subst (λ (x : List ℕ). IsAsked x left (specifiers (s ∷ ss))) (sym trimmed) here;
     }
 
 -- each specifier, one by one
@@ -178,28 +176,28 @@ all_good (s ∷ ss) h = (h 0 s (omega arith), all_good ss (λ k d less. h (suc k
 set_itself : (set : List Specifier) → IsSet set → IsSetOf set set
 set_itself set s = record { same = IsPermutation-refl set; sorted = s.sorted; stable = λ x. refl }
 
-head_of : (name : List ℕ) (extras : List (List ℕ)) (asked : Asked) (text left : List ℕ) → IsNormal name → AllByRecursion IsNormal extras → IsBodyText text left asked → IsHead (name ++ (extras_text extras ++ text)) left name extras asked
+head_of : (name : List ℕ) (extras : List (List ℕ)) (asked : Asked) (text left : List ℕ) → IsNormal name → AllByRecursion IsNormal extras → IsAskedText text left asked → IsHead (name ++ (extras_text extras ++ text)) left name extras asked
 head_of name [] asked text left h all b = record {
   after_name = text;
   after_extras = after_space text;
   named = name_at name text h b.no_name b.rest;
   extras_are = no_extras b.no_bracket;
   asks = record {
-    body = subst (λ (x : List ℕ). IsBody x left asked) (sym (trimmed_after_space text)) b.body;
+    asks = subst (λ (x : List ℕ). IsAsked x left asked) (sym (trimmed_after_space text)) b.body;
     no_archive = λ e a. normal_no_archive name h (subst IsArchive (name_run name text h b.no_name b.rest) a);
   };
 }
 head_of name (n ∷ ns) asked text left h all b =
     let back : List ℕ = n ++ (later_names ns ++ (93 ∷ text)) in
     let inside : IsExtras (91 ∷ back) text (n ∷ ns) = some (names_read n ns text all.0 all.1) in
-    let fails = part_fails parts.Name 91 back refl in
+    let fails = run_fails classes.NamePart 91 back refl in
     let here : IsHead (name ++ (91 ∷ back)) left name (n ∷ ns) asked = record {
       after_name = 91 ∷ back;
       after_extras = text;
       named = name_before name 91 back h refl;
       extras_are = subst (λ (x : List ℕ). IsExtras x text (n ∷ ns)) (sym (trimmed_cons 91 back refl)) inside;
       asks = record {
-        body = b.body;
+        asks = b.body;
         no_archive = λ e a. normal_no_archive name h (subst IsArchive (name_run name (91 ∷ back) h fails.0 fails.1) a);
       };
     } in
@@ -207,11 +205,11 @@ head_of name (n ∷ ns) asked text left h all b =
     append_assoc n (later_names ns ++ (93 ∷ [])) text ∙ ap (λ (x : List ℕ). n ++ x) (append_assoc (later_names ns) (93 ∷ []) text) in
     subst (λ (x : List ℕ). IsHead (name ++ (91 ∷ x)) left name (n ∷ ns) asked) (sym same) here
 
-body_text : (asked : Asked) (tail left : List ℕ) → IsPrintedAs asked → IsTailText tail left → IsBodyText (asked_text asked ++ tail) left asked
+body_text : (asked : Asked) (tail left : List ℕ) → IsPrintedAs asked → IsTailText tail left → IsAskedText (asked_text asked ++ tail) left asked
 body_text nothing tail left a e = bare_text tail left e
 body_text (specifiers []) tail left a e = absurd a
 body_text (specifiers (s ∷ ss)) tail left a e =
-    subst (λ (x : List ℕ). IsBodyText x left (specifiers (s ∷ ss))) (sym (append_assoc (specifier_text s) (later_specifiers ss) tail))
+    subst (λ (x : List ℕ). IsAskedText x left (specifiers (s ∷ ss))) (sym (append_assoc (specifier_text s) (later_specifiers ss) tail))
     (specifiers_text s ss tail left e (set_itself (s ∷ ss) a) (all_good (s ∷ ss) a.each))
 body_text (url text) tail left a e = absurd a
 

@@ -7,27 +7,28 @@ use Rattle.std.proofs.lemmas.Bool.{and_from, and_parts}
 use Rattle.std.proofs.lemmas.Bool.Decides.{nat_tests}
 use Rattle.std.proofs.lemmas.List.Folds.{list_all-append}
 use Rattle.std.proofs.lemmas.Str.{encodes-IsAscii}
-use Rattle.pep508_text.specs.Run.{after_space}
+use Rattle.pep508_text.specs.Run.{after_space, run_of, after_run}
 use Rattle.pep508_text.proofs.RunLaws.{trimmed_cons}
-use Rattle.pep508_names.specs.Name.{NormalizesTo, word, joined, is_name_character}
+use Rattle.pep508_text.specs.Class.{is_name_character}
+use Rattle.pep508_names.specs.Name.{NormalizesTo, word, joined}
 use Rattle.pep508_names.proofs.IdentifierLaws.{names_are_identifiers}
 use Rattle.requirement_words.specs.Archive.{IsArchive, archive, compressed}
-use Rattle.requirement_words.specs.Runs.{holds, part_of, after_part}
-use Rattle.requirement_words.specs.declared.runs.Part.{Part}
-use Rattle.requirement_words.specs.declared.runs.Part.TheVariants.{Name}
+use Rattle.pep508_text.specs.Class.{holds}
+use Rattle.pep508_text.specs.declared.classes.Class.{Class}
+use Rattle.pep508_text.specs.declared.classes.Class.TheVariants.{NamePart}
 use Rattle.requirement_words.specs.Extras.{IsNameAt, Names, last, more}
-use Rattle.requirement_words.specs.Part.{is_absent}
 use Rattle.requirement_words.proofs.NameEnds.{name_ascii}
-use Rattle.requirement_words.proofs.RunLaws.{part_holds, part_fails}
+use Rattle.requirement_words.proofs.OpenLaws.{is_absent}
+use Rattle.requirement_words.proofs.RunLaws.{run_holds, run_fails}
 use Rattle.requirement_text.specs.Text.{later_names, IsNormal}
 
 -- a run goes on over what belongs to it
-pub run_over : (p : Part) (w t : List ℕ) → list_all (holds p) w ≡ true → part_of p t ≡ [] → after_part p t ≡ t → (part_of p (w ++ t) ≡ w) × (after_part p (w ++ t) ≡ t)
+pub run_over : (p : Class) (w t : List ℕ) → list_all (holds p) w ≡ true → run_of p t ≡ [] → after_run p t ≡ t → (run_of p (w ++ t) ≡ w) × (after_run p (w ++ t) ≡ t)
 run_over p [] t h e f = (e, f)
 run_over p (c ∷ w) t h e f =
     let both = and_parts (holds p c) (list_all (holds p) w) h in
     let shorter = run_over p w t both.1 e f in
-    let step = part_holds p c (w ++ t) both.0 in
+    let step = run_holds p c (w ++ t) both.0 in
     (step.0 ∙ ap (λ (x : List ℕ). c ∷ x) shorter.0, step.1 ∙ shorter.1)
 
 first_dark : (c : ℕ) → is_ascii_alphanumeric c ≡ true → is_whitespace c ≡ false
@@ -44,21 +45,21 @@ trimmed_first (c ∷ n) t h = trimmed_cons c (n ++ t) (first_dark c h)
 pub name_trimmed : (n t : List ℕ) → IsNormal n → after_space (n ++ t) ≡ n ++ t
 name_trimmed n t h = trimmed_first n t ((names_are_identifiers n).0 (n, h)).first
 
-pub name_at : (n t : List ℕ) → IsNormal n → part_of Name t ≡ [] → after_part Name t ≡ t → IsNameAt (after_space (n ++ t)) t n
+pub name_at : (n t : List ℕ) → IsNormal n → run_of NamePart t ≡ [] → after_run NamePart t ≡ t → IsNameAt (after_space (n ++ t)) t n
 name_at n t h none all =
-    let run = run_over Name n t (name_parts n h) none all in
-    let bytes : encode_utf8_all (part_of Name (n ++ t)) ≡ n = ap encode_utf8_all run.0 ∙ encodes-IsAscii n (name_ascii n (name_parts n h)) in
+    let run = run_over NamePart n t (name_parts n h) none all in
+    let bytes : encode_utf8_all (run_of NamePart (n ++ t)) ≡ n = ap encode_utf8_all run.0 ∙ encodes-IsAscii n (name_ascii n (name_parts n h)) in
     let here : IsNameAt (n ++ t) t n = record { name = subst (λ (x : List ℕ). NormalizesTo x n) (sym bytes) h; rest = run.1 } in
     subst (λ (x : List ℕ). IsNameAt x t n) (sym (name_trimmed n t h)) here
 
 -- before a character that is no part of a name
 pub name_before : (n : List ℕ) (c : ℕ) (t : List ℕ) → IsNormal n → is_name_character c ≡ false → IsNameAt (after_space (n ++ (c ∷ t))) (c ∷ t) n
-name_before n c t h other = let ends = part_fails Name c t other in name_at n (c ∷ t) h ends.0 ends.1
+name_before n c t h other = let ends = run_fails NamePart c t other in name_at n (c ∷ t) h ends.0 ends.1
 
 -- the run of a name's characters there
-pub name_run : (n t : List ℕ) → IsNormal n → part_of Name t ≡ [] → after_part Name t ≡ t → encode_utf8_all (part_of Name (after_space (n ++ t))) ≡ n
+pub name_run : (n t : List ℕ) → IsNormal n → run_of NamePart t ≡ [] → after_run NamePart t ≡ t → encode_utf8_all (run_of NamePart (after_space (n ++ t))) ≡ n
 name_run n t h none all =
-    ap (λ (x : List ℕ). encode_utf8_all (part_of Name x)) (name_trimmed n t h) ∙ ap encode_utf8_all (run_over Name n t (name_parts n h) none all).0
+    ap (λ (x : List ℕ). encode_utf8_all (run_of NamePart x)) (name_trimmed n t h) ∙ ap encode_utf8_all (run_over NamePart n t (name_parts n h) none all).0
     ∙ encodes-IsAscii n (name_ascii n (name_parts n h))
 
 -- names with commas, and the bracket

@@ -3,6 +3,7 @@ pub mod ClosingLaws
 pub mod ExtrasLaws
 pub mod FaultLaws
 pub mod HeadLaws
+pub mod KindLaws
 pub mod NameEnds
 pub mod NamelessLaws
 pub mod OpenLaws

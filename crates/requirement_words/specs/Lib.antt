@@ -4,8 +4,6 @@ pub mod Fault
 pub mod Head
 pub mod Message
 pub mod Nameless
-pub mod Part
-pub mod Runs
 pub mod Specifiers
 pub mod Tail
 pub mod Unnamed

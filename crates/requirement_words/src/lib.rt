@@ -11,7 +11,6 @@ mod fault;
 mod head;
 pub mod laws;
 mod nameless;
-mod runs;
 mod specifiers;
 mod tail;
 mod unnamed;
@@ -19,9 +18,8 @@ mod url;
 
 pub use crate::extras::read_extras;
 pub use crate::fault::{Fault, FaultKind};
-pub use crate::head::{Body, Head, read_head};
+pub use crate::head::{Asked, Head, read_head};
 pub use crate::nameless::{is_archive, is_nameless};
-pub use crate::runs::{Part, split_part};
 pub use crate::specifiers::read_specifiers;
 pub use crate::tail::read_tail;
 pub use crate::unnamed::{UnnamedHead, read_unnamed_head};
