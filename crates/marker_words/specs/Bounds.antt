@@ -12,16 +12,16 @@ pairs_left it =
     option_to_list (option_map pair_of it.lower) ++ option_to_list (option_map pair_of it.upper)
 
 -- the comparisons hold at exactly the points between these bounds
-abbrev pub AreBetween : List (MarkerOperator × List ℕ) → Bound (List ℕ) → Bound (List ℕ) → Type 0
-AreBetween pairs lower upper = (p : Point (List ℕ)) → satisfies_all text_cmp pairs p
+abbrev pub HoldBetween : List (MarkerOperator × List ℕ) → Bound (List ℕ) → Bound (List ℕ) → Type 0
+HoldBetween pairs lower upper = (p : Point (List ℕ)) → satisfies_all text_cmp pairs p
     ≡ is_in_bounds text_cmp lower upper p
 
 -- the comparison, if any, holds at exactly the points from the bound on
-abbrev pub IsFrom : Option (MarkerOperator × List ℕ) → Bound (List ℕ) → Type 0
-IsFrom pair bound = (p : Point (List ℕ)) → satisfies_all text_cmp (option_to_list pair) p
+abbrev pub HoldsFrom : Option (MarkerOperator × List ℕ) → Bound (List ℕ) → Type 0
+HoldsFrom pair bound = (p : Point (List ℕ)) → satisfies_all text_cmp (option_to_list pair) p
     ≡ is_from text_cmp bound p
 
 -- at exactly those up to it
-abbrev pub IsUntil : Option (MarkerOperator × List ℕ) → Bound (List ℕ) → Type 0
-IsUntil pair bound = (p : Point (List ℕ)) → satisfies_all text_cmp (option_to_list pair) p
+abbrev pub HoldsUntil : Option (MarkerOperator × List ℕ) → Bound (List ℕ) → Type 0
+HoldsUntil pair bound = (p : Point (List ℕ)) → satisfies_all text_cmp (option_to_list pair) p
     ≡ is_until text_cmp bound p

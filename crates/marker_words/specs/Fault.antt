@@ -48,10 +48,10 @@ abbrev pub HasNoOperator : List ℕ → Type 0
 HasNoOperator text =
     (output : List ℕ) (operator : MarkerOperator) → IsOperator (chars text) output operator → ⊥
 
--- no comparison
+-- no two values with an operator between them stand at the front of the characters
 abbrev pub HasNoSides : List ℕ → Type 0
-HasNoSides text = (output : List ℕ) (left right : Value) (operator : MarkerOperator)
-    → Sides (chars text) output left operator right → ⊥
+HasNoSides input = (output : List ℕ) (left right : Value) (operator : MarkerOperator)
+    → Sides input output left operator right → ⊥
 
 -- it begins with no white space
 abbrev pub HasNoSpace : List ℕ → Type 0

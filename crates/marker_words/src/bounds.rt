@@ -34,7 +34,7 @@ impl<'a> Iterator for MarkerOperatorBounds<'a> {
 }
 
 impl MarkerOperator {
-    ghost use Rattle.marker_words.specs.Bounds.{AreBetween, IsFrom, IsUntil, pairs_left};
+    ghost use Rattle.marker_words.specs.Bounds.{HoldBetween, HoldsFrom, HoldsUntil, pairs_left};
 
     /// The comparisons that a text satisfies exactly where it lies between the bounds: one `==`
     /// where both include the same text, and else one for each bound that there is. Where no text
@@ -46,7 +46,7 @@ impl MarkerOperator {
             ≡ pairs_of text_eq (text_bound bounds.entry.0) (text_bound bounds.entry.1) }
 
         // The conjunction is the range, at each point.
-        ensures range { AreBetween (pairs_left result)
+        ensures range { HoldBetween (pairs_left result)
             (text_bound bounds.entry.0) (text_bound bounds.entry.1) }
     {
         let (lower, upper) = bounds;
@@ -68,7 +68,7 @@ impl MarkerOperator {
     /// where the bound is included, `>` where it is excluded, and none where there is no bound.
     pub fn from_lower_bound<'a>(bound: Bound<&'a String>) -> Option<(MarkerOperator, &'a String)>
         ensures pair { option_map pair_of result ≡ lower_pair (text_bound bound.entry) }
-        ensures range { IsFrom (option_map pair_of result) (text_bound bound.entry) }
+        ensures range { HoldsFrom (option_map pair_of result) (text_bound bound.entry) }
     {
         match bound {
             Bound::Included(text) => Some((MarkerOperator::GreaterEqual, text)),
@@ -81,7 +81,7 @@ impl MarkerOperator {
     /// where the bound is included, `<` where it is excluded, and none where there is no bound.
     pub fn from_upper_bound<'a>(bound: Bound<&'a String>) -> Option<(MarkerOperator, &'a String)>
         ensures pair { option_map pair_of result ≡ upper_pair (text_bound bound.entry) }
-        ensures range { IsUntil (option_map pair_of result) (text_bound bound.entry) }
+        ensures range { HoldsUntil (option_map pair_of result) (text_bound bound.entry) }
     {
         match bound {
             Bound::Included(text) => Some((MarkerOperator::LessEqual, text)),

@@ -221,7 +221,7 @@ fn expect(text: &str, awaited: char) -> Result<&str, Fault<'_>>
 pub fn sides(text: &str) -> Result<(ComparisonRef<'_>, &str), Fault<'_>>
     ensures found { IfOk result (λ x. Sides (chars text.now) (chars x.1.now)
         (value_of x.0.left) x.0.operator (value_of x.0.right)) }
-    ensures none { OnErr result (HasNoSides text.now) }
+    ensures none { OnErr result (HasNoSides (chars text.now)) }
     ensures fault { IfErr result (IsWordFault text.now) }
     ensures suffix { IfOk result (λ x. IsSuffix text.now x.1.now) }
     ensures shorter { IfOk result (λ x. length x.1.now < length text.now) }

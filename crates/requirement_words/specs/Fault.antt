@@ -32,7 +32,7 @@ abbrev pub IsHere : List ℕ → List ℕ → List ℕ → Type 0
 IsHere left piece back = chars (piece ++ back) ≡ left
 
 -- the piece is one character, of which this holds
-pub record IsOne (piece : List ℕ) (P : ℕ → Type 0) : Type 0 where
+pub record IsCharacter (piece : List ℕ) (P : ℕ → Type 0) : Type 0 where
   pub c : ℕ
   pub is : piece ≡ encode_utf8 c
   pub holds : P c
@@ -88,12 +88,12 @@ pub data FindsInExtras : List ℕ → FaultKind → List ℕ → List ℕ → Ty
       → piece ≡ 44 ∷ [] → FindsInExtras (91 ∷ inside) LeadingComma piece back
   -- a name may stand here, and another character does
   no_extra : {inside here piece back : List ℕ} {names : List (List ℕ)} → Listed inside names here
-      → IsHere here piece back → IsOne piece (BeginsNoExtra names)
+      → IsHere here piece back → IsCharacter piece (BeginsNoExtra names)
       → FindsInExtras (91 ∷ inside) NoExtra piece back
   -- another character stands right behind those of a name
   invalid_extra : {inside here piece back : List ℕ} {names : List (List ℕ)}
       → Listed inside names here → begins_name here ≡ true
-      → IsHere (after_run NamePart here) piece back → IsOne piece (λ c. may_follow_extra c ≡ false)
+      → IsHere (after_run NamePart here) piece back → IsCharacter piece (λ c. may_follow_extra c ≡ false)
       → FindsInExtras (91 ∷ inside) InvalidExtra piece back
   -- a separator is the last of them
   extra_end : {inside here piece back : List ℕ} {names : List (List ℕ)}
@@ -102,7 +102,7 @@ pub data FindsInExtras : List ℕ → FaultKind → List ℕ → List ℕ → Ty
   -- behind a name and white space stands neither a comma nor the bracket
   no_separator : {inside here rest n piece back : List ℕ} {names : List (List ℕ)}
       → Listed inside names here → IsNameAt here rest n → begins_space rest ≡ true
-      → IsHere (after_space rest) piece back → IsOne piece (λ c. (c ≢ 44) × (c ≢ 93))
+      → IsHere (after_space rest) piece back → IsCharacter piece (λ c. (c ≢ 44) × (c ≢ 93))
       → FindsInExtras (91 ∷ inside) NoSeparator piece back
   -- the bracket is never closed
   unclosed : {inside piece back : List ℕ} → IsHere (91 ∷ inside) piece back → piece ≡ 91 ∷ []
@@ -174,10 +174,10 @@ pub data FindsInHead (value : List ℕ → List ℕ) (text : List ℕ)
     : FaultKind → List ℕ → List ℕ → Type 0 where
   -- nothing but white space: its first character, or the end of an empty text
   blank : {piece back : List ℕ} → after_space (chars text) ≡ [] → text ≡ piece ++ back
-      → (text ≡ []) ⊎ IsOne piece (λ c. ⊤) → FindsInHead value text Blank piece back
+      → (text ≡ []) ⊎ IsCharacter piece (λ c. ⊤) → FindsInHead value text Blank piece back
   -- another character stands in place of a name, and no path or URL
   no_name : {piece back : List ℕ} → IsHere (after_space (chars text)) piece back
-      → IsOne piece (λ c. is_ascii_alphanumeric c ≡ false)
+      → IsCharacter piece (λ c. is_ascii_alphanumeric c ≡ false)
       → ¬ NamesNoPackage value (run_at_name text) → FindsInHead value text NoName piece back
   -- a path or URL that no name begins stands in its place
   unnamed_path : {piece back : List ℕ} → IsHere (after_space (chars text)) piece back
@@ -195,7 +195,7 @@ pub data FindsInHead (value : List ℕ → List ℕ) (text : List ℕ)
       → FindsInHead value text kind piece back
   -- another character stands behind the name and the extras, and all is no path or URL
   no_body : {piece back : List ℕ} → IsBehindExtras text (chars (piece ++ back))
-      → IsOne piece (λ c. may_follow_name c ≡ false)
+      → IsCharacter piece (λ c. may_follow_name c ≡ false)
       → ¬ NamesNoPackage value (run_at_name text) → FindsInHead value text NoBody piece back
   -- it is one
   unnamed_url : {piece back : List ℕ} → IsHere (after_space (chars text)) piece back
@@ -240,7 +240,7 @@ pub data FindsInTail (url rest : List ℕ) : FaultKind → List ℕ → List ℕ
       → goes_on (after_space (chars rest)) ≡ true → FindsInTail url rest AmbiguousEnd piece back
   -- another character stands where the text ends, or its marker begins
   trailing : {piece back : List ℕ} → IsHere (after_space (chars rest)) piece back
-      → IsOne piece (λ c. c ≢ 59) → ((mark : List ℕ) → ¬ EndsWithMark url mark)
+      → IsCharacter piece (λ c. c ≢ 59) → ((mark : List ℕ) → ¬ EndsWithMark url mark)
       → FindsInTail url rest Trailing piece back
 
 -- ---- faults of a text
