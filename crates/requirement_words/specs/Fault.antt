@@ -93,7 +93,8 @@ pub data FindsInExtras : List ℕ → FaultKind → List ℕ → List ℕ → Ty
   -- another character stands right behind those of a name
   invalid_extra : {inside here piece back : List ℕ} {names : List (List ℕ)}
       → Listed inside names here → begins_name here ≡ true
-      → IsHere (after_run NamePart here) piece back → IsCharacter piece (λ c. may_follow_extra c ≡ false)
+      → IsHere (after_run NamePart here) piece back
+      → IsCharacter piece (λ c. may_follow_extra c ≡ false)
       → FindsInExtras (91 ∷ inside) InvalidExtra piece back
   -- a separator is the last of them
   extra_end : {inside here piece back : List ℕ} {names : List (List ℕ)}

@@ -6,5 +6,6 @@ pub mod Message
 pub mod Nameless
 pub mod Specifiers
 pub mod Tail
+pub mod Text
 pub mod Unnamed
 pub mod Url

@@ -5,6 +5,7 @@ ghost use Rattle.requirement_words.specs.Extras.{ExtrasAreUnique};
 ghost use Rattle.requirement_words.specs.Head.{HeadIsUnique};
 ghost use Rattle.requirement_words.specs.Specifiers.{SpecifiersAreUnique};
 ghost use Rattle.requirement_words.specs.Tail.{TailIsUnique};
+ghost use Rattle.requirement_words.specs.Text.{HeadTextIsAscii, HeadTextReadsBack};
 ghost use Rattle.requirement_words.specs.Unnamed.{UnnamedHeadIsUnique};
 
 /// A text has one reading as extras: their names, and where they end.
@@ -32,4 +33,15 @@ pub fn unnamed_head_is_unique()
 /// What follows either has one marker, or none.
 pub fn tail_is_unique()
     ensures { TailIsUnique }
+{}
+
+/// The text of a requirement up to its marker is read back as its name, its extras and its
+/// specifiers, whatever marker follows it.
+pub fn head_text_reads_back()
+    ensures { HeadTextReadsBack }
+{}
+
+/// That text is ASCII, so its bytes are its characters.
+pub fn head_text_is_ascii()
+    ensures { HeadTextIsAscii }
 {}

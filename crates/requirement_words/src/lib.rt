@@ -13,6 +13,7 @@ pub mod laws;
 mod nameless;
 mod specifiers;
 mod tail;
+mod text;
 mod unnamed;
 mod url;
 
@@ -22,5 +23,6 @@ pub use crate::head::{Asked, Head, read_head};
 pub use crate::nameless::{is_archive, is_nameless};
 pub use crate::specifiers::read_specifiers;
 pub use crate::tail::read_tail;
+pub use crate::text::{write_extras, write_specifiers};
 pub use crate::unnamed::{UnnamedHead, read_unnamed_head};
 pub use crate::url::{UrlPlace, split_url};

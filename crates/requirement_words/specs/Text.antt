@@ -2,11 +2,12 @@
 -- as these are ASCII it is a list of bytes too.
 use Rattle.std.specs.Prelude.{ℕ, ⊤, List, [], ◌∷◌, ◌++◌}
 use Rattle.std.specs.List.{AllByRecursion, flat_map}
+use Rattle.std.specs.Str.{IsAscii}
 use Rattle.pep440_specifier.specs.Set.{IsSet}
 use Rattle.pep440_specifier.specs.Specifier.{Specifier}
 use Rattle.pep440_specifier.specs.Text.{specifier_text}
 use Rattle.pep508_names.specs.Name.{NormalizesTo}
-use Rattle.requirement_words.specs.Head.{Asked, nothing, specifiers, url}
+use Rattle.requirement_words.specs.Head.{Asked, nothing, specifiers, url, IsHead}
 
 -- names, each after a comma (44)
 abbrev pub later_names : List (List ℕ) → List ℕ
@@ -57,3 +58,13 @@ pub record IsPrintable (name : List ℕ) (extras : List (List ℕ)) (asked : Ask
   pub named : IsNormal name
   pub extras_are : AllByRecursion IsNormal extras
   pub asks : IsPrintedAs asked
+
+-- such a text is read back, whatever is printed behind it
+abbrev pub HeadTextReadsBack : Type 0
+HeadTextReadsBack = (name : List ℕ) (extras : List (List ℕ)) (asked : Asked) (tail left : List ℕ)
+    → IsPrintable name extras asked → IsTailText tail left
+    → IsHead (head_text name extras asked ++ tail) left name extras asked
+
+abbrev pub HeadTextIsAscii : Type 0
+HeadTextIsAscii = (name : List ℕ) (extras : List (List ℕ)) (asked : Asked)
+    → IsPrintable name extras asked → IsAscii (head_text name extras asked)

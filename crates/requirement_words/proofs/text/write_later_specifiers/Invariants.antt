@@ -1,7 +1,7 @@
 use Rattle.std.proofs.Common.{take}
 use Rattle.std.specs.Fmt.{HasWritten, IsPlainFormatter}
-use Rattle.requirement_text.specs.Text.{later_specifiers}
-use Rattle.requirement_text.proofs.text.write_later_specifiers.Given as goal
+use Rattle.requirement_words.specs.Text.{later_specifiers}
+use Rattle.requirement_words.proofs.text.write_later_specifiers.Given as goal
 
 abbrev pub invariant-loop-specifier : goal.invariant-loop-specifier
 invariant-loop-specifier g l =

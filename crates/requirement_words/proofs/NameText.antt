@@ -20,7 +20,7 @@ use Rattle.requirement_words.specs.Extras.{IsNameAt, Names, last, more}
 use Rattle.requirement_words.proofs.NameEnds.{name_ascii}
 use Rattle.requirement_words.proofs.OpenLaws.{is_absent}
 use Rattle.requirement_words.proofs.RunLaws.{run_holds, run_fails}
-use Rattle.requirement_text.specs.Text.{later_names, IsNormal}
+use Rattle.requirement_words.specs.Text.{later_names, IsNormal}
 
 -- a run goes on over what belongs to it
 pub run_over : (p : Class) (w t : List ℕ) → list_all (holds p) w ≡ true → run_of p t ≡ [] → after_run p t ≡ t → (run_of p (w ++ t) ≡ w) × (after_run p (w ++ t) ≡ t)

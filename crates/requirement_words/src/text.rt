@@ -2,7 +2,7 @@
 
 ghost use Rattle.std.specs.Prelude.{Some};
 ghost use Rattle.std.specs.Fmt.{DisplaysOnOk};
-ghost use Rattle.requirement_text.specs.Text.{extras_text, joined_text, later_names, later_specifiers};
+ghost use Rattle.requirement_words.specs.Text.{extras_text, joined_text, later_names, later_specifiers};
 
 use pep440_specifier::{VersionSpecifier, VersionSpecifiers};
 use pep508_names::ExtraName;

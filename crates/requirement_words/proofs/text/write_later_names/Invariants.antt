@@ -1,7 +1,7 @@
 use Rattle.std.proofs.Common.{take}
 use Rattle.std.specs.Fmt.{HasWritten, IsPlainFormatter}
-use Rattle.requirement_text.specs.Text.{later_names}
-use Rattle.requirement_text.proofs.text.write_later_names.Given as goal
+use Rattle.requirement_words.specs.Text.{later_names}
+use Rattle.requirement_words.proofs.text.write_later_names.Given as goal
 
 abbrev pub invariant-loop-name : goal.invariant-loop-name
 invariant-loop-name g l =

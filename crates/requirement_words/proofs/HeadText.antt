@@ -29,9 +29,9 @@ use Rattle.requirement_words.specs.Head.{Asked, nothing, specifiers, url, begins
 use Rattle.requirement_words.proofs.ExtrasLaws.{not_eqb}
 use Rattle.requirement_words.proofs.NameEnds.{name_ascii}
 use Rattle.requirement_words.proofs.RunLaws.{run_fails}
-use Rattle.requirement_text.specs.Text.{later_names, extras_text, later_specifiers, asked_text, head_text, IsTailText, no_marker, marker, IsNormal, IsPrintedAs, IsPrintable}
-use Rattle.requirement_text.proofs.NameText.{run_over, name_at, name_before, name_parts, name_run, names_read, normal_no_archive}
-use Rattle.requirement_text.proofs.PlainText.{IsPlain, ascii-cons, plain-ascii, plain-trim, plain-spaced, spaced-ascii}
+use Rattle.requirement_words.specs.Text.{later_names, extras_text, later_specifiers, asked_text, head_text, IsTailText, no_marker, marker, IsNormal, IsPrintedAs, IsPrintable}
+use Rattle.requirement_words.proofs.NameText.{run_over, name_at, name_before, name_parts, name_run, names_read, normal_no_archive}
+use Rattle.requirement_words.proofs.PlainText.{IsPlain, ascii-cons, plain-ascii, plain-trim, plain-spaced, spaced-ascii}
 
 -- ---- pieces
 
