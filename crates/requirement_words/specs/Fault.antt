@@ -120,8 +120,8 @@ pub data Preceded (end : ℕ) (input : List ℕ) : List ℕ → Type 0 where
 
 -- a piece between commas is no specifier, and this is what is wrong with it
 pub data FindsInSpecifiers (end : ℕ) (input : List ℕ) : FaultKind → List ℕ → List ℕ → Type 0 where
-  no_specifier : {left piece back : List ℕ} {error : VersionSpecifierError} → Preceded end input left
-      → IsHere left piece back → piece ≡ piece_of end left
+  no_specifier : {left piece back : List ℕ} {error : VersionSpecifierError}
+      → Preceded end input left → IsHere left piece back → piece ≡ piece_of end left
       → ((s : specifiers.Specifier) → ¬ IsSpecifierText piece s) → IsToldOf error piece
       → FindsInSpecifiers end input (Specifier error) piece back
 
@@ -293,7 +293,8 @@ RefusesExtras text = IsRefused (IsExtrasFault text) (HasNoExtras (chars text))
 
 -- with no specifiers
 abbrev pub RefusesSpecifiers : ℕ → List ℕ → Refusal Fault → Type 0
-RefusesSpecifiers end text = IsRefused (IsSpecifiersFault end text) (HasNoSpecifiers end (chars text))
+RefusesSpecifiers end text =
+    IsRefused (IsSpecifiersFault end text) (HasNoSpecifiers end (chars text))
 
 -- with nothing that a requirement may ask
 abbrev pub RefusesAsked : List ℕ → Refusal Fault → Type 0

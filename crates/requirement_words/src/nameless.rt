@@ -105,8 +105,10 @@ pub fn is_nameless(
     run: &str,
     surroundings: &Surroundings<'_>,
 ) -> Result<bool, AllocError>
-    ensures yes { IfOk result (λ is. IsTrue is → NamesNoPackage (value_of surroundings.now) run.now) }
-    ensures no { IfOk result (λ is. NamesNoPackage (value_of surroundings.now) run.now → IsTrue is) }
+    ensures yes { IfOk result (λ is.
+        IsTrue is → NamesNoPackage (value_of surroundings.now) run.now) }
+    ensures no { IfOk result (λ is.
+        NamesNoPackage (value_of surroundings.now) run.now → IsTrue is) }
 {
     let expanded = expand_env_vars(alloc, run, surroundings)?;
     Ok(is_path_or_url(without_extras(expanded.as_str())))
