@@ -13,7 +13,7 @@ use crate::formula::{FlatFormula, Token, append, join_and, join_or};
 use marker_parts::{ComparisonError, read_comparison};
 use marker_words::{Fault, FaultKind, Keyword, keyword};
 use pep508_errors::MarkerWarningKind;
-use pep508_text::{first, last, skip_space, strip};
+use pep508_text::{Place, first, last, skip_space, strip};
 use std::alloc::{AllocError, Global};
 
 // An open parenthesis: the text from it on, and whether the `or` and the `and` that it stands in
@@ -54,12 +54,8 @@ fn unexpected_fault(text: &str, found: char) -> Fault<'_>
     ensures { HasNoSpace text.now → NoKeyword (chars text.now) → IsTextFault text.now result }
 {
     match last(text) {
-        Some((piece, _)) => Fault {
-            kind: FaultKind::Unexpected(found),
-            piece,
-            left: text.len(),
-        },
-        None => Fault::at_end(FaultKind::Unexpected(found)),
+        Some((piece, _)) => FaultKind::Unexpected(found).at(Place::at_run(piece, text)),
+        None => FaultKind::Unexpected(found).at(Place::at_end()),
     }
 }
 
@@ -72,11 +68,11 @@ fn unclosed_fault<'a>(text: &'a str, group: &'a str) -> Fault<'a>
         → IsTextFault text.now result ⊎ IsTextFault group.now result }
 {
     if let Some((_, rest)) = first(text) {
-        return Fault::before(FaultKind::Missing(')'), text, rest);
+        return FaultKind::Missing(')').at(Place::before(text, rest));
     }
     match strip(group, '(') {
-        Some(rest) => Fault::before(FaultKind::Unclosed(')'), group, rest),
-        None => Fault::at_end(FaultKind::Unclosed(')')),
+        Some(rest) => FaultKind::Unclosed(')').at(Place::before(group, rest)),
+        None => FaultKind::Unclosed(')').at(Place::at_end()),
     }
 }
 

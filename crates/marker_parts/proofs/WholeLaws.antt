@@ -14,7 +14,7 @@ use Rattle.pep508_errors.specs.declared.warning.MarkerWarningKind.{MarkerWarning
 use Rattle.pep508_errors.specs.Kinds.{Adds, Keeps}
 use Rattle.marker_words.specs.declared.fault.Fault.{Fault}
 use Rattle.marker_words.specs.declared.fault.FaultKind.TheVariants.{Trailing}
-use Rattle.marker_words.specs.Fault.{NoneOpen, IsFault, IsWordFault, IsFaultAt, IsMarkerFault, message_of, span_len, IsAllButLast, HasNoSpace}
+use Rattle.marker_words.specs.Fault.{NoneOpen, IsFault, IsWordFault, IsFaultAt, IsMarkerFault, message_of, IsAllButLast, HasNoSpace}
 use Rattle.marker_words.proofs.FaultLaws.{fault_of_suffix, fault_in_front, fault_told}
 use Rattle.marker_parts.specs.declared.expression.MarkerExpression.{MarkerExpression}
 use Rattle.marker_parts.specs.declared.comparison.ComparisonError.{ComparisonError}
@@ -71,12 +71,12 @@ unread_behind fault read suffix some at = (more_follows read.compared some, faul
 -- an error that tells a fault of the text
 pub told_fault : {T E : Type 0} {Open : List ℕ → Type 0} {text : List ℕ} {fault : Fault} {error : Pep508Error T E} → IsFault Open text fault → Tells text fault error → IsErrorOf Open text error
 told_fault {Open = Open} {text} {fault} {error} at tells =
-    let said = message_of fault.kind fault.piece.now in
+    let said = message_of fault.kind fault.place.piece.now in
     record {
       input = tells.input;
       said = said;
       message = tells.message;
-      place = subst (λ (n : ℕ). IsMarkerFault Open text n error.len said) (sym tells.start) (subst (λ (n : ℕ). IsMarkerFault Open text (length text - fault.left) n said) (sym tells.len) (fault_told text fault at));
+      place = subst (λ (n : ℕ). IsMarkerFault Open text n error.len said) (sym tells.start) (subst (λ (n : ℕ). IsMarkerFault Open text (length text - fault.place.left) n said) (sym tells.len) (fault_told text fault at));
     }
 
 -- a text that is no comparison is refused

@@ -6,7 +6,8 @@ use Rattle.pep508_errors.specs.declared.error.Pep508Error.{Pep508Error}
 use Rattle.pep508_errors.specs.declared.error.Pep508ErrorSource.{Pep508ErrorSource}
 use Rattle.pep508_errors.specs.declared.error.Pep508ErrorSource.TheVariants as sources
 use Rattle.marker_words.specs.declared.fault.Fault.{Fault}
-use Rattle.marker_words.specs.Fault.{NoneOpen, IsMarkerFault, message_of, span_len}
+use Rattle.pep508_text.specs.Suffix.{span_len}
+use Rattle.marker_words.specs.Fault.{NoneOpen, IsMarkerFault, message_of}
 use Rattle.marker_parts.specs.declared.comparison.ComparisonError.{ComparisonError}
 use Rattle.marker_parts.specs.declared.comparison.ComparisonError.TheVariants as errors
 use Rattle.marker_parts.specs.Whole.{IsNoComparison}
@@ -21,9 +22,9 @@ module _ {T E : Type 0} where
   -- this fault, with its message and its place, and the text
   pub record Tells (text : List ℕ) (fault : Fault) (error : Pep508Error T E) : Type 0 where
     pub input : string_bytes error.input ≡ text
-    pub message : IsMessage error.message (message_of fault.kind fault.piece.now)
-    pub start : error.start ≡ length text - fault.left
-    pub len : error.len ≡ span_len fault
+    pub message : IsMessage error.message (message_of fault.kind fault.place.piece.now)
+    pub start : error.start ≡ length text - fault.place.left
+    pub len : error.len ≡ span_len fault.place
 
   -- memory ran out, or the fault is told
   abbrev pub Becomes : List ℕ → ComparisonError → Refusal (Pep508Error T E) → Type 0

@@ -6,7 +6,7 @@ use Rattle.marker_words.specs.declared.operator.MarkerOperator.{MarkerOperator}
 use Rattle.marker_words.specs.declared.parts.ComparisonRef.{ComparisonRef}
 use Rattle.marker_words.specs.Lexical.{Value, Sides}
 use Rattle.marker_words.specs.Part.{value_of}
-use Rattle.marker_words.specs.Fault.{IsWordFault}
+use Rattle.marker_words.specs.Fault.{HasNoSides, IsWordFault}
 use Rattle.pep508_errors.specs.declared.warning.MarkerWarningKind.{MarkerWarningKind}
 use Rattle.marker_parts.specs.declared.expression.MarkerExpression.{MarkerExpression}
 use Rattle.marker_parts.specs.declared.meaning.Outcome.{Outcome}
@@ -33,11 +33,6 @@ pub record ReadsComparison (text rest : List ℕ) (expression : Option MarkerExp
   pub compared : Compared (chars text) (chars rest) meaning
   pub test : option_map test_of expression ≡ meaning.test
   pub kinds : new ≡ old ++ meaning.kinds
-
--- no two values with an operator between them stand at the front
-abbrev pub HasNoSides : List ℕ → Type 0
-HasNoSides input = (output : List ℕ) (left right : Value) (operator : MarkerOperator) →
-    Sides input output left operator right → ⊥
 
 -- no comparison stands there
 pub record HasNoComparison (input : List ℕ) : Type 0 where

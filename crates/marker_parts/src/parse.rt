@@ -15,7 +15,7 @@ use crate::comparison::{ComparisonError, read_comparison};
 use crate::expression::MarkerExpression;
 use marker_words::{Fault, FaultKind};
 use pep508_errors::{MarkerWarningKind, Pep508Error, Pep508ErrorSource, Pep508Url, Reporter};
-use pep508_text::{first, last, skip_space};
+use pep508_text::{Place, first, last, skip_space};
 use refusal::Refusal;
 use std::alloc::{AllocError, Global};
 
@@ -27,17 +27,9 @@ fn trailing_fault(rest: &str) -> Option<Fault<'_>>
     ensures fault { IfSome result (IsWordFault rest.now) }
 {
     let text = skip_space(rest);
-    let Some((found, _)) = first(text) else {
-        return None;
-    };
-    let Some((piece, _)) = last(text) else {
-        return None;
-    };
-    Some(Fault {
-        kind: FaultKind::Trailing(found),
-        piece,
-        left: text.len(),
-    })
+    let (found, _) = first(text)?;
+    let (piece, _) = last(text)?;
+    Some(FaultKind::Trailing(found).at(Place::at_run(piece, text)))
 }
 
 // The comparison that the whole text is, and the kinds of its warnings.
@@ -71,7 +63,7 @@ fn error_of_fault<T: Pep508Url>(
     Ok(Pep508Error {
         message: Pep508ErrorSource::String(message),
         start: fault.start(text),
-        len: fault.len(),
+        len: fault.place.len(),
         input: String::from_str(alloc, text)?,
     })
 }

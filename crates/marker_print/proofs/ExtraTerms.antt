@@ -4,7 +4,7 @@ use Rattle.std.specs.List.{list_all, list_any}
 use Rattle.std.proofs.lemmas.Bool.{and_parts, and_from}
 use Rattle.std.proofs.lemmas.Bool.Decides.{nat_tests}
 use Rattle.std.proofs.lemmas.Str.{IsUtf8-string_bytes}
-use Rattle.pep508_names.specs.Name.{is_name_character}
+use Rattle.pep508_text.specs.Class.{is_name_character}
 use Rattle.pep508_names.proofs.IdentifierLaws.{names_are_identifiers}
 use Rattle.marker_words.specs.declared.operator.MarkerOperator.TheVariants.{Equal, NotEqual}
 use Rattle.marker_words.specs.declared.operator.ExtraOperator.{ExtraOperator}

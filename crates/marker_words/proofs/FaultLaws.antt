@@ -2,17 +2,15 @@
 use Rattle.std.proofs.Common.{◌≡◌, ℕ, ◌-◌, ◌<◌, Bool, cond, eqb, List, [], ◌++◌, length, refl, sym, ap, ◌∙◌, subst, arith, IsUtf8}
 use Rattle.std.specs.Prelude.{encode_utf8, encode_utf8_all, Result, Ok, Err, OnErr}
 use Rattle.std.specs.Str.{chars}
-use Rattle.std.proofs.lemmas.Bool.{eq-eqb}
-use Rattle.std.proofs.lemmas.Bool.Decides.{nat_tests}
-use Rattle.std.proofs.lemmas.List.{append_cancel_right}
 use Rattle.pep508_text.specs.Run.{run_of}
 use Rattle.pep508_text.specs.declared.classes.Class.{Class}
-use Rattle.pep508_text.specs.Suffix.{IsSuffix, IsPiece, IsSpan}
-use Rattle.pep508_text.proofs.SuffixLaws.{suffix_self, suffix_then, suffix_nil, piece_start, span_of_piece}
+use Rattle.pep508_text.specs.Suffix.{IsSuffix, IsPiece, span_len}
+use Rattle.pep508_text.specs.declared.place.Place.{Place}
+use Rattle.pep508_text.proofs.SuffixLaws.{len_inside, suffix_self, suffix_then, suffix_nil, piece_start, same_front, spanned}
 use Rattle.marker_words.specs.declared.fault.Fault.{Fault}
 use Rattle.marker_words.specs.declared.fault.FaultKind.{FaultKind}
 use Rattle.marker_words.specs.declared.fault.FaultKind.TheVariants.{ValueAtEnd, NoValue, NoOperator, NotAtEnd, NoSpaceAfterNot, Unclosed, MissingAtEnd, Missing, Unexpected, Trailing}
-use Rattle.marker_words.specs.Fault.{message_of, span_len, operator_class, IsLongest, IsUnclosed, quotes, parentheses, Finds, IsFault, IsFaultAt, NoneOpen, IsSpanOf, IsMarkerFault}
+use Rattle.marker_words.specs.Fault.{message_of, operator_class, IsLongest, IsUnclosed, quotes, parentheses, Finds, IsFault, IsFaultAt, NoneOpen, IsSpanOf, IsMarkerFault}
 
 -- what is known at any error
 pub on_err : {T E Q : Type 0} (r : Result T E) → Q → OnErr r Q
@@ -50,33 +48,32 @@ fault_in_front text piece back kind left utf8 ends joined left_is found = record
   found = found;
 }
 
--- the same of a fault that a call answers
-pub fault_before : {Open : List ℕ → Type 0} → (text back piece : List ℕ) (kind found_kind : FaultKind) (left : ℕ) → IsUtf8 text → IsUtf8 back → found_kind ≡ kind → text ≡ piece ++ back → left ≡ length text → Finds Open kind piece back → IsFaultAt Open text found_kind piece left
-fault_before {Open} text back piece kind found_kind left utf8 ends kind_is joined left_is found =
-    subst (λ (k : FaultKind). IsFaultAt Open text k piece left) (sym kind_is) (fault_in_front text piece back kind left utf8 ends joined left_is found)
+-- a fault with its kind and its place
+fault_at : {Open : List ℕ → Type 0} {text : List ℕ} {fault : Fault} (kind : FaultKind) (place : Place) → fault.kind ≡ kind → fault.place ≡ place → IsFaultAt Open text kind place.piece.now place.left → IsFault Open text fault
+fault_at {Open} {text} {fault} kind place kind_is place_is f =
+    subst (λ (k : FaultKind). IsFaultAt Open text k fault.place.piece.now fault.place.left) (sym kind_is) (subst (λ (p : Place). IsFaultAt Open text kind p.piece.now p.left) (sym place_is) f)
+
+-- at a piece that is known
+pub fault_at_piece : {Open : List ℕ → Type 0} {text piece : List ℕ} {left : ℕ} {fault : Fault} {place : Place} (kind : FaultKind) → fault.kind ≡ kind → fault.place ≡ place → place.piece.now ≡ piece → place.left ≡ left → IsFaultAt Open text kind piece left → IsFault Open text fault
+fault_at_piece {Open} {text} {piece} {left} {fault} {place} kind kind_is place_is piece_is left_is f =
+    fault_at kind place kind_is place_is (subst (λ (x : List ℕ). IsFaultAt Open text kind x place.left) (sym piece_is) (subst (IsFaultAt Open text kind piece) (sym left_is) f))
 
 -- at the end of the text
-pub fault_at_end : {Open : List ℕ → Type 0} → (text piece : List ℕ) (kind found_kind : FaultKind) (left : ℕ) → found_kind ≡ kind → piece ≡ [] → left ≡ 0 → Finds Open kind [] [] → IsFaultAt Open text found_kind piece left
-fault_at_end {Open} text piece kind found_kind left kind_is piece_is left_is found =
+pub fault_at_end : {Open : List ℕ → Type 0} {text : List ℕ} {fault : Fault} {place : Place} (kind : FaultKind) → fault.kind ≡ kind → fault.place ≡ place → place.piece.now ≡ [] → place.left ≡ 0 → Finds Open kind [] [] → IsFault Open text fault
+fault_at_end {Open} {text} {fault} {place} kind kind_is place_is piece_is left_is found =
     let here : IsFaultAt Open text kind [] 0 = record { place = record { back = []; begins = suffix_nil text; ends = (suffix_nil text).utf8; length_is = refl }; found = found } in
-    let there : IsFaultAt Open text found_kind [] 0 = subst (λ (k : FaultKind). IsFaultAt Open text k [] 0) (sym kind_is) here in
-    let piece_there : IsFaultAt Open text found_kind piece 0 = subst (λ (x : List ℕ). IsFaultAt Open text found_kind x 0) (sym piece_is) there in
-    subst (IsFaultAt Open text found_kind piece) (sym left_is) piece_there
+    let there : IsFaultAt Open text kind place.piece.now 0 = subst (λ (x : List ℕ). IsFaultAt Open text kind x 0) (sym piece_is) here in
+    fault_at kind place kind_is place_is (subst (IsFaultAt Open text kind place.piece.now) (sym left_is) there)
 
--- the piece in front of the same rest
-pub same_front : (text piece front rest : List ℕ) → text ≡ piece ++ rest → text ≡ front ++ rest → piece ≡ front
-same_front text piece front rest e f = append_cancel_right piece front rest (sym e ∙ f)
+-- at the text's first character
+pub fault_at_first : {Open : List ℕ → Type 0} {text rest : List ℕ} {fault : Fault} {place : Place} (c : ℕ) (kind : FaultKind) → IsUtf8 text → IsSuffix text rest → text ≡ encode_utf8 c ++ rest → fault.kind ≡ kind → fault.place ≡ place → text ≡ place.piece.now ++ rest → place.left ≡ length text → (place.piece.now ≡ encode_utf8 c → Finds Open kind place.piece.now rest) → IsFault Open text fault
+fault_at_first {text = text} {rest = rest} {place = place} c kind utf8 suffix first kind_is place_is joined left_is found =
+    fault_at kind place kind_is place_is (fault_in_front text place.piece.now rest kind place.left utf8 suffix.utf8 joined left_is (found (same_front text place.piece.now (encode_utf8 c) rest joined first)))
 
--- a fault at the text's first character
-pub fault_at_first : {Open : List ℕ → Type 0} → {text rest piece : List ℕ} {left : ℕ} {found_kind : FaultKind} (c : ℕ) (kind : FaultKind) → IsUtf8 text → IsSuffix text rest → text ≡ encode_utf8 c ++ rest → found_kind ≡ kind → text ≡ piece ++ rest → left ≡ length text → (piece ≡ encode_utf8 c → Finds Open kind piece rest) → IsFaultAt Open text found_kind piece left
-fault_at_first {text} {rest} {piece} {left} {found_kind} c kind utf8 suffix first kind_is joined left_is found =
-    fault_before text rest piece kind found_kind left utf8 suffix.utf8 kind_is joined left_is (found (same_front text piece (encode_utf8 c) rest joined first))
-
--- a fault at the run in front of a text
-pub fault_at_run : {Open : List ℕ → Type 0} → {text rest run piece : List ℕ} {left : ℕ} {found_kind : FaultKind} (kind : FaultKind) → IsUtf8 text → IsSuffix text rest → text ≡ run ++ rest → found_kind ≡ kind → piece ≡ run → left ≡ length text → Finds Open kind run rest → IsFaultAt Open text found_kind piece left
-fault_at_run {Open} {text} {rest} {run} {piece} {left} {found_kind} kind utf8 suffix joined kind_is piece_is left_is found =
-    subst (λ (x : List ℕ). IsFaultAt Open text found_kind x left) (sym piece_is)
-    (fault_before text rest run kind found_kind left utf8 suffix.utf8 kind_is joined left_is found)
+-- at the run in front of a text
+pub fault_at_run : {Open : List ℕ → Type 0} {text rest run : List ℕ} {fault : Fault} {place : Place} (kind : FaultKind) → IsUtf8 text → IsSuffix text rest → text ≡ run ++ rest → fault.kind ≡ kind → fault.place ≡ place → place.piece.now ≡ run → place.left ≡ length text → Finds Open kind run rest → IsFault Open text fault
+fault_at_run {Open} {text} {rest} {run} {fault} {place} kind utf8 suffix joined kind_is place_is piece_is left_is found =
+    fault_at kind place kind_is place_is (subst (λ (x : List ℕ). IsFaultAt Open text kind x place.left) (sym piece_is) (fault_in_front text run rest kind place.left utf8 suffix.utf8 joined left_is found))
 
 pub run_longest : (text rest run : List ℕ) (class : Class) → text ≡ run ++ rest → run ≡ encode_utf8_all (run_of class (chars text)) → IsLongest class run rest
 run_longest text rest run class joined run_is = subst (λ (t : List ℕ). run ≡ encode_utf8_all (run_of class (chars t))) joined run_is
@@ -86,33 +83,23 @@ longest_operator text rest run class class_is joined run_is =
     let here : run ≡ encode_utf8_all (run_of (operator_class (chars text)) (chars text)) = run_is ∙ ap (λ (k : Class). encode_utf8_all (run_of k (chars text))) (sym class_is) in
     subst (λ (t : List ℕ). run ≡ encode_utf8_all (run_of (operator_class (chars t)) (chars t))) joined here
 
-len_inside : (left n : ℕ) → 0 < left → cond (eqb left 0) 1 n ≡ n
-len_inside left n inside = grind (arith, nat_tests)
-
-len_ended : (left n : ℕ) → left ≡ 0 → cond (eqb left 0) 1 n ≡ 1
-len_ended left n ended = ap (λ (b : Bool). cond b 1 n) (eq-eqb left 0 ended)
-
--- the span of a fault's piece
-span_of : (text piece : List ℕ) (left : ℕ) → (place : IsPiece text piece left) → IsSpan text (length text - left) (cond (eqb left 0) 1 (length piece))
-span_of text piece left place = span_of_piece place (len_inside left (length piece)) (len_ended left (length piece))
-
 covers_of : (t n left : ℕ) → t - left < t → cond (eqb left 0) 1 n ≡ n
 covers_of t n left inside = len_inside left n (omega arith)
 
 -- a piece has a span
-abbrev spanned : (text piece : List ℕ) (left : ℕ) → IsPiece text piece left → IsSpanOf text piece (length text - left) (cond (eqb left 0) 1 (length piece))
-spanned text piece left place = record {
+abbrev is_span : (text piece : List ℕ) (left : ℕ) → IsPiece text piece left → IsSpanOf text piece (length text - left) (cond (eqb left 0) 1 (length piece))
+is_span text piece left place = record {
   stands = record { front = place.begins.front; back = place.back; joined = place.begins.joined; start_is = piece_start place };
-  span = span_of text piece left place;
+  span = spanned place;
   covers = covers_of (length text) (length piece) left;
 }
 
 told : {Open : List ℕ → Type 0} → (text piece : List ℕ) (left : ℕ) (kind : FaultKind) (place : IsPiece text piece left) → Finds Open kind piece place.back → IsMarkerFault Open text (length text - left) (cond (eqb left 0) 1 (length piece)) (message_of kind piece)
-told text piece left kind place found = record { kind = kind; piece = piece; place = spanned text piece left place; found = found; said = refl }
+told text piece left kind place found = record { kind = kind; piece = piece; place = is_span text piece left place; found = found; said = refl }
 
 -- a fault of a text is told as one of the messages, at its place
-pub fault_told : {Open : List ℕ → Type 0} → (text : List ℕ) (fault : Fault) → IsFault Open text fault → IsMarkerFault Open text (length text - fault.left) (span_len fault) (message_of fault.kind fault.piece.now)
-fault_told text fault f = told text fault.piece.now fault.left fault.kind f.place f.found
+pub fault_told : {Open : List ℕ → Type 0} → (text : List ℕ) (fault : Fault) → IsFault Open text fault → IsMarkerFault Open text (length text - fault.place.left) (span_len fault.place) (message_of fault.kind fault.place.piece.now)
+fault_told text fault f = told text fault.place.piece.now fault.place.left fault.kind f.place f.found
 
 -- a fault of words is one of each grammar that has them
 pub fault_of_words : {Open : List ℕ → Type 0} {text piece : List ℕ} {kind : FaultKind} {left : ℕ} → IsFaultAt NoneOpen text kind piece left → IsFaultAt Open text kind piece left

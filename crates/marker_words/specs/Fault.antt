@@ -1,13 +1,13 @@
 -- The faults of marker texts. Texts, pieces and messages are lists of bytes, and lengths count
 -- bytes.
-use Rattle.std.specs.Prelude.{◌≡◌, ◌≢◌, ◌⊎◌, ℕ, ◌<◌, ◌==◌, Bool, false, List, [], ◌∷◌, ◌++◌, length, if◌then◌else◌, codes, encode_utf8, encode_utf8_all}
+use Rattle.std.specs.Prelude.{◌≡◌, ◌≢◌, ◌⊎◌, ℕ, ◌<◌, Bool, false, List, [], ◌∷◌, ◌++◌, length, if◌then◌else◌, codes, encode_utf8, encode_utf8_all}
 use Rattle.std.specs.Str.{chars}
 use Rattle.pep508_text.specs.Class.{holds}
 use Rattle.pep508_text.specs.Run.{run_of, after_run, after_space}
-use Rattle.pep508_text.specs.Suffix.{IsPiece, StandsAt, IsSpan}
+use Rattle.pep508_text.specs.Suffix.{IsPiece, StandsAt, IsSpan, span_len}
 use Rattle.pep508_text.specs.declared.classes.Class.{Class}
 use Rattle.pep508_text.specs.declared.classes.Class.TheVariants.{Space, KeyPart, Comparison, WordPart, NotQuote, Alphabetic}
-use Rattle.marker_words.specs.Lexical.{Value, IsQuote, IsValue, IsOperator}
+use Rattle.marker_words.specs.Lexical.{Value, IsQuote, IsValue, IsOperator, Sides}
 use Rattle.marker_words.specs.Keyword.{NoKeyword}
 use Rattle.marker_words.specs.declared.operator.MarkerOperator.{MarkerOperator}
 use Rattle.marker_words.specs.declared.fault.Fault.{Fault}
@@ -47,6 +47,11 @@ HasNoValue text = (output : List ℕ) (value : Value) → IsValue (chars text) o
 abbrev pub HasNoOperator : List ℕ → Type 0
 HasNoOperator text =
     (output : List ℕ) (operator : MarkerOperator) → IsOperator (chars text) output operator → ⊥
+
+-- no two values with an operator between them stand at the front of the characters
+abbrev pub HasNoSides : List ℕ → Type 0
+HasNoSides input = (output : List ℕ) (left right : Value) (operator : MarkerOperator)
+    → Sides input output left operator right → ⊥
 
 -- it begins with no white space
 abbrev pub HasNoSpace : List ℕ → Type 0
@@ -101,7 +106,7 @@ pub record IsFaultAt (Open : List ℕ → Type 0) (text : List ℕ) (kind : Faul
 
 -- the fault is one of this text
 abbrev pub IsFault : (List ℕ → Type 0) → List ℕ → Fault → Type 0
-IsFault Open text fault = IsFaultAt Open text fault.kind fault.piece.now fault.left
+IsFault Open text fault = IsFaultAt Open text fault.kind fault.place.piece.now fault.place.left
 
 -- a fault of words, which have no parentheses
 abbrev pub NoneOpen : List ℕ → Type 0
@@ -126,6 +131,7 @@ pub record IsMarkerFault (Open : List ℕ → Type 0) (text : List ℕ) (start l
   pub found : Finds Open kind piece place.stands.back
   pub said : message ≡ message_of kind piece
 
--- the length of a fault's span
-abbrev pub span_len : Fault → ℕ
-span_len fault = if fault.left == 0 then 1 else length fault.piece.now
+-- at this start, the fault of words is one of the text, with its length and message
+abbrev pub IsTold : List ℕ → Fault → ℕ → Type 0
+IsTold text fault start = IsMarkerFault NoneOpen text start (span_len fault.place)
+    (message_of fault.kind fault.place.piece.now)

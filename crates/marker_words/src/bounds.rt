@@ -1,9 +1,8 @@
 //! The comparisons that a range of texts is.
 
-ghost use Rattle.std.specs.Prelude.{◌≡◌, ℕ, List, true};
-ghost use Rattle.std.specs.Option.{option_map, option_to_list};
-ghost use Rattle.version_ranges.specs.Point.{Point, is_from, is_until, is_in_bounds};
-ghost use Rattle.marker_words.specs.Compare.{pair_of, lower_pair, upper_pair, pairs_of, satisfies_all, text_bound, text_cmp, text_eq};
+ghost use Rattle.std.specs.Prelude.{◌≡◌, true};
+ghost use Rattle.std.specs.Option.{option_map};
+ghost use Rattle.marker_words.specs.Compare.{pair_of, lower_pair, upper_pair, pairs_of, text_bound, text_eq};
 
 use crate::operator::MarkerOperator;
 use std::ops::Bound;
@@ -35,7 +34,7 @@ impl<'a> Iterator for MarkerOperatorBounds<'a> {
 }
 
 impl MarkerOperator {
-    ghost use Rattle.marker_words.specs.Bounds.{pairs_left};
+    ghost use Rattle.marker_words.specs.Bounds.{HoldBetween, HoldsFrom, HoldsUntil, pairs_left};
 
     /// The comparisons that a text satisfies exactly where it lies between the bounds: one `==`
     /// where both include the same text, and else one for each bound that there is. Where no text
@@ -47,8 +46,8 @@ impl MarkerOperator {
             ≡ pairs_of text_eq (text_bound bounds.entry.0) (text_bound bounds.entry.1) }
 
         // The conjunction is the range, at each point.
-        ensures range { (p : Point (List ℕ)) → satisfies_all text_cmp (pairs_left result) p
-            ≡ is_in_bounds text_cmp (text_bound bounds.entry.0) (text_bound bounds.entry.1) p }
+        ensures range { HoldBetween (pairs_left result)
+            (text_bound bounds.entry.0) (text_bound bounds.entry.1) }
     {
         let (lower, upper) = bounds;
         match (&lower, &upper) {
@@ -69,9 +68,7 @@ impl MarkerOperator {
     /// where the bound is included, `>` where it is excluded, and none where there is no bound.
     pub fn from_lower_bound<'a>(bound: Bound<&'a String>) -> Option<(MarkerOperator, &'a String)>
         ensures pair { option_map pair_of result ≡ lower_pair (text_bound bound.entry) }
-        ensures range { (p : Point (List ℕ)) →
-            satisfies_all text_cmp (option_to_list (option_map pair_of result)) p
-            ≡ is_from text_cmp (text_bound bound.entry) p }
+        ensures range { HoldsFrom (option_map pair_of result) (text_bound bound.entry) }
     {
         match bound {
             Bound::Included(text) => Some((MarkerOperator::GreaterEqual, text)),
@@ -84,9 +81,7 @@ impl MarkerOperator {
     /// where the bound is included, `<` where it is excluded, and none where there is no bound.
     pub fn from_upper_bound<'a>(bound: Bound<&'a String>) -> Option<(MarkerOperator, &'a String)>
         ensures pair { option_map pair_of result ≡ upper_pair (text_bound bound.entry) }
-        ensures range { (p : Point (List ℕ)) →
-            satisfies_all text_cmp (option_to_list (option_map pair_of result)) p
-            ≡ is_until text_cmp (text_bound bound.entry) p }
+        ensures range { HoldsUntil (option_map pair_of result) (text_bound bound.entry) }
     {
         match bound {
             Bound::Included(text) => Some((MarkerOperator::LessEqual, text)),

@@ -1,9 +1,9 @@
 //! What is wrong with a marker text, and where.
 
-ghost use Rattle.std.specs.Prelude.{◌≡◌, ◌++◌, ◌-◌, [], Some, length};
-ghost use Rattle.pep508_text.specs.Suffix.{IsSuffix};
-ghost use Rattle.marker_words.specs.Fault.{message_of, span_len, NoneOpen, IsWordFault, IsMarkerFault};
+ghost use Rattle.std.specs.Prelude.{◌≡◌, ◌-◌, Some, length};
+ghost use Rattle.marker_words.specs.Fault.{message_of, IsTold, IsWordFault};
 
+use pep508_text::Place;
 use std::fmt;
 use std::fmt::Display;
 
@@ -33,83 +33,42 @@ pub enum FaultKind {
     Trailing(char),
 }
 
+impl FaultKind {
+    /// This fault, at a place of the text.
+    pub fn at(self, place: Place<'_>) -> Fault<'_>
+        ensures kind { result.kind ≡ self }
+        ensures place { result.place ≡ place.entry }
+    {
+        Fault { kind: self, place }
+    }
+}
+
 /// What is wrong with a marker text, and where. It prints as its message.
 #[derive(Clone, Copy, Debug, PartialEq, Eq)]
 pub struct Fault<'a> {
     /// What is wrong there.
     pub kind: FaultKind,
-    /// What stands at the place.
-    pub piece: &'a str,
-    /// The bytes from the place to the end of the text.
-    pub left: usize,
+    /// Where the text is wrong.
+    pub place: Place<'a>,
 }
 
-impl<'a> Fault<'a> {
-    /// A fault where the text ends.
-    pub fn at_end(kind: FaultKind) -> Fault<'a>
-        ensures kind { result.kind ≡ kind }
-        ensures piece { result.piece.now ≡ [] }
-        ensures left { result.left ≡ 0 }
-    {
-        Fault {
-            kind,
-            piece: "",
-            left: 0,
-        }
-    }
-
-    /// A fault at the front of a text that is left, where its piece stands before `rest`.
-    pub fn before(kind: FaultKind, text: &'a str, rest: &str) -> Fault<'a>
-        requires { IsSuffix text.now rest.now }
-        ensures kind { result.kind ≡ kind }
-        ensures piece { text.now ≡ result.piece.now ++ rest.now }
-        ensures left { result.left ≡ length text.now }
-    {
-        Fault {
-            kind,
-            piece: text.split_at(text.len() - rest.len()).0,
-            left: text.len(),
-        }
-    }
-
-    /// A fault at the front of a text that is left, with the run that stands there.
-    pub fn at_run(kind: FaultKind, run: &'a str, text: &str) -> Fault<'a>
-        ensures kind { result.kind ≡ kind }
-        ensures piece { result.piece.now ≡ run.now }
-        ensures left { result.left ≡ length text.now }
-    {
-        Fault {
-            kind,
-            piece: run,
-            left: text.len(),
-        }
-    }
-
+impl Fault<'_> {
     /// Where the fault begins, in bytes from the start of the text that it is in.
     pub fn start(&self, text: &str) -> usize
-        ensures value { result ≡ length text.now - self.now.left }
+        ensures value { result ≡ length text.now - self.now.place.left }
 
-        // A fault of words is told as one of the text: at this start, with its length and message.
-        ensures told { IsWordFault text.now self.now
-            → IsMarkerFault NoneOpen text.now result (span_len self.now)
-            (message_of self.now.kind self.now.piece.now) }
+        // A fault of words is one of the text: at this start, with its length and message.
+        ensures told { IsWordFault text.now self.now → IsTold text.now self.now result }
     {
-        text.len().saturating_sub(self.left)
-    }
-
-    /// How many bytes the fault spans, or 1 at the end of the text.
-    pub fn len(&self) -> usize
-        ensures { result ≡ span_len self.now }
-    {
-        if self.left == 0 { 1 } else { self.piece.len() }
+        self.place.start(text)
     }
 }
 
 impl Display for Fault<'_> {
-    ghost output = { λ fault. Some (message_of fault.kind fault.piece.now) };
+    ghost output = { λ fault. Some (message_of fault.kind fault.place.piece.now) };
 
     fn fmt<W: fmt::Write>(&self, f: &mut fmt::Formatter<W>) -> fmt::Result {
-        let piece = self.piece;
+        let piece = self.place.piece;
         match self.kind {
             FaultKind::ValueAtEnd => {
                 f.write_str("Expected marker value, found end of dependency specification")

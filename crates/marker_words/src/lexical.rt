@@ -10,38 +10,37 @@ ghost use Rattle.marker_words.specs.Key.{version_key_name, key_name};
 ghost use Rattle.marker_words.specs.Lexical.{Value, IsQuote, IsValue, symbol_text, IsOperator, Sides};
 ghost use Rattle.marker_words.specs.Part.{value_of, IsNamed, IsBehindNot};
 ghost use Rattle.marker_words.specs.Keyword.{IsKeyword};
-ghost use Rattle.marker_words.specs.Fault.{IsWordFault, IsLetterOfIn, begins_word};
+ghost use Rattle.marker_words.specs.Fault.{HasNoOperator, HasNoSides, HasNoValue, IsWordFault, IsLetterOfIn, begins_word};
 
 use crate::fault::{Fault, FaultKind};
 use crate::key::{MarkerValueString, MarkerValueVersion};
 use crate::operator::MarkerOperator;
 use crate::parts::{ComparisonRef, Keyword, MarkerValueRef};
-use pep508_text::{Class, first, skip_space, split_run, strip};
+use pep508_text::{Class, Place, first, skip_space, split_run, strip};
 
 // The value at the front of the text, which is a quoted text, a key or `extra`. There is none at
 // the end of the text, at a quote that is not closed, and at any other run of characters.
 fn value(text: &str) -> Result<(MarkerValueRef<'_>, &str), Fault<'_>>
     ensures found { IfOk result (λ x. IsValue (chars text.now) (chars x.1.now) (value_of x.0)) }
-    ensures none { OnErr result
-        ((output : List ℕ) (value : Value) → IsValue (chars text.now) output value → ⊥) }
+    ensures none { OnErr result (HasNoValue text.now) }
     ensures fault { IfErr result (IsWordFault text.now) }
     ensures suffix { IfOk result (λ x. IsSuffix text.now x.1.now) }
     ensures shorter { IfOk result (λ x. length x.1.now < length text.now) }
 {
     let Some((c, after)) = first(text) else {
-        return Err(Fault::at_end(FaultKind::ValueAtEnd));
+        return Err(FaultKind::ValueAtEnd.at(Place::at_end()));
     };
     if is_quote(c) {
         let (quoted, end) = split_run(after, Class::NotQuote(c));
         match first(end) {
             Some((_, rest)) => Ok((MarkerValueRef::QuotedString(quoted), rest)),
-            None => Err(Fault::before(FaultKind::Unclosed(c), text, after)),
+            None => Err(FaultKind::Unclosed(c).at(Place::before(text, after))),
         }
     } else {
         let (run, rest) = split_run(text, Class::KeyPart);
         match value_of_name(run) {
             Some(value) => Ok((value, rest)),
-            None => Err(Fault::at_run(FaultKind::NoValue, run, text)),
+            None => Err(FaultKind::NoValue.at(Place::at_run(run, text))),
         }
     }
 }
@@ -130,8 +129,7 @@ fn text_key(name: &str) -> Option<MarkerValueString>
 // `in` stand.
 pub(crate) fn comparison_operator(text: &str) -> Result<(MarkerOperator, &str), Fault<'_>>
     ensures found { IfOk result (λ x. IsOperator (chars text.now) (chars x.1.now) x.0) }
-    ensures none { OnErr result ((output : List ℕ) (operator : MarkerOperator)
-        → IsOperator (chars text.now) output operator → ⊥) }
+    ensures none { OnErr result (HasNoOperator text.now) }
     ensures fault { IfErr result (IsWordFault text.now) }
     ensures suffix { IfOk result (λ x. IsSuffix text.now x.1.now) }
     ensures no_longer { IfOk result (λ x. length x.1.now ≤ length text.now) }
@@ -144,13 +142,13 @@ pub(crate) fn comparison_operator(text: &str) -> Result<(MarkerOperator, &str), 
                 Ok(rest) => Ok((MarkerOperator::NotIn, rest)),
                 Err(fault) => Err(fault),
             },
-            _ => Err(Fault::at_run(FaultKind::NoOperator, run, text)),
+            _ => Err(FaultKind::NoOperator.at(Place::at_run(run, text))),
         }
     } else {
         let (run, rest) = split_run(text, Class::Comparison);
         match symbol(run) {
             Some(operator) => Ok((operator, rest)),
-            None => Err(Fault::at_run(FaultKind::NoOperator, run, text)),
+            None => Err(FaultKind::NoOperator.at(Place::at_run(run, text))),
         }
     }
 }
@@ -191,10 +189,10 @@ fn behind_not(text: &str) -> Result<&str, Fault<'_>>
     ensures no_longer { IfOk result (λ rest. length rest.now ≤ length text.now) }
 {
     let Some((c, after)) = first(text) else {
-        return Err(Fault::at_end(FaultKind::NotAtEnd));
+        return Err(FaultKind::NotAtEnd.at(Place::at_end()));
     };
     if !Class::Space.holds(c) {
-        return Err(Fault::before(FaultKind::NoSpaceAfterNot, text, after));
+        return Err(FaultKind::NoSpaceAfterNot.at(Place::before(text, after)));
     }
     let rest = expect(skip_space(after), 'i')?;
     let end = expect(rest, 'n')?;
@@ -210,10 +208,10 @@ fn expect(text: &str, awaited: char) -> Result<&str, Fault<'_>>
     ensures no_longer { IfOk result (λ rest. length rest.now ≤ length text.now) }
 {
     let Some((c, rest)) = first(text) else {
-        return Err(Fault::at_end(FaultKind::MissingAtEnd(awaited)));
+        return Err(FaultKind::MissingAtEnd(awaited).at(Place::at_end()));
     };
     if c != awaited {
-        return Err(Fault::before(FaultKind::Missing(awaited), text, rest));
+        return Err(FaultKind::Missing(awaited).at(Place::before(text, rest)));
     }
     Ok(rest)
 }
@@ -223,8 +221,7 @@ fn expect(text: &str, awaited: char) -> Result<&str, Fault<'_>>
 pub fn sides(text: &str) -> Result<(ComparisonRef<'_>, &str), Fault<'_>>
     ensures found { IfOk result (λ x. Sides (chars text.now) (chars x.1.now)
         (value_of x.0.left) x.0.operator (value_of x.0.right)) }
-    ensures none { OnErr result ((output : List ℕ) (left right : Value) (operator : MarkerOperator)
-        → Sides (chars text.now) output left operator right → ⊥) }
+    ensures none { OnErr result (HasNoSides (chars text.now)) }
     ensures fault { IfErr result (IsWordFault text.now) }
     ensures suffix { IfOk result (λ x. IsSuffix text.now x.1.now) }
     ensures shorter { IfOk result (λ x. length x.1.now < length text.now) }

@@ -4,8 +4,8 @@ use Rattle.refusal.specs.declared.Refusal.{Refusal}
 use Rattle.refusal.specs.declared.Refusal.TheVariants as refusals
 use Rattle.pep508_errors.specs.declared.error.Pep508Error.{Pep508Error}
 use Rattle.marker_words.specs.declared.fault.Fault.{Fault}
-use Rattle.marker_words.specs.Fault.{message_of, span_len, IsMarkerFault}
-use Rattle.pep508_text.specs.Suffix.{IsSuffix}
+use Rattle.marker_words.specs.Fault.{message_of, IsMarkerFault}
+use Rattle.pep508_text.specs.Suffix.{IsSuffix, span_len}
 use Rattle.marker_words.proofs.FaultLaws.{fault_of_suffix, fault_told}
 use Rattle.marker_parts.specs.declared.comparison.ComparisonError.{ComparisonError}
 use Rattle.marker_parts.specs.declared.comparison.ComparisonError.TheVariants as errors
@@ -23,8 +23,8 @@ refused_behind text marker errors.OutOfMemory (refusals.Fault e) suffix unread t
 refused_behind text marker (errors.Fault fault) (refusals.Fault e) suffix unread told = (unread.1, told_fault (fault_of_suffix suffix unread.0) told)
 
 -- a fault of a text, in a reply
-pub told_reply : (text : List ℕ) (fault : Fault) (start len : ℕ) (message : List ℕ) → IsTextFault text fault → start ≡ length text - fault.left → len ≡ span_len fault → message ≡ message_of fault.kind fault.piece.now → IsMarkerFault IsMarker text start len message
+pub told_reply : (text : List ℕ) (fault : Fault) (start len : ℕ) (message : List ℕ) → IsTextFault text fault → start ≡ length text - fault.place.left → len ≡ span_len fault.place → message ≡ message_of fault.kind fault.place.piece.now → IsMarkerFault IsMarker text start len message
 told_reply text fault start len message at start_is len_is said =
     subst (λ (n : ℕ). IsMarkerFault IsMarker text n len message) (sym start_is)
-    (subst (λ (n : ℕ). IsMarkerFault IsMarker text (length text - fault.left) n message) (sym len_is)
-    (subst (λ (m : List ℕ). IsMarkerFault IsMarker text (length text - fault.left) (span_len fault) m) (sym said) (fault_told text fault at)))
+    (subst (λ (n : ℕ). IsMarkerFault IsMarker text (length text - fault.place.left) n message) (sym len_is)
+    (subst (λ (m : List ℕ). IsMarkerFault IsMarker text (length text - fault.place.left) (span_len fault.place) m) (sym said) (fault_told text fault at)))

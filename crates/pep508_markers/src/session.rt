@@ -180,7 +180,7 @@ impl Session {
             ComparisonError::Fault(fault) => match fault.to_string(alloc) {
                 Ok(message) => Reason::Marker {
                     start: fault.start(text),
-                    len: fault.len(),
+                    len: fault.place.len(),
                     message,
                 },
                 Err(_) => Reason::OutOfMemory,

@@ -4,7 +4,8 @@ use Rattle.std.proofs.lemmas.Bool.{and_parts, and_from, or_cases, cases_Bool}
 use Rattle.std.proofs.lemmas.List.Folds.{list_all-append}
 use Rattle.std.specs.Char.{is_ascii_alphanumeric, to_ascii_lowercase}
 use Rattle.std.specs.List.{list_all}
-use Rattle.pep508_names.specs.Name.{is_separator, is_name_character, IsWord, IsRun, NormalizesTo, word, joined, IsName, IsIdentifier}
+use Rattle.pep508_text.specs.Class.{is_separator, is_name_character}
+use Rattle.pep508_names.specs.Name.{IsWord, IsRun, NormalizesTo, word, joined, IsName, IsIdentifier}
 use Rattle.pep508_names.proofs.NameLaws.{squeeze, squeeze-separator, squeeze-next_separator, squeeze-other, alphanumeric-separator, separator-alphanumeric}
 
 -- letters, digits and separators, with a letter or digit at the end; `ok` says whether the text may end here

@@ -7,7 +7,8 @@ use Rattle.std.proofs.lemmas.Str.{IsUtf8-from_ascii}
 use Rattle.std.specs.Char.{is_ascii_alphanumeric, to_ascii_lowercase}
 use Rattle.std.specs.List.{list_all}
 use Rattle.std.specs.Str.{IsAscii, IsUtf8}
-use Rattle.pep508_names.specs.Name.{is_separator, IsWord, IsRun, NormalizesTo, word, joined}
+use Rattle.pep508_text.specs.Class.{is_separator}
+use Rattle.pep508_names.specs.Name.{IsWord, IsRun, NormalizesTo, word, joined}
 
 -- ---- characters
 

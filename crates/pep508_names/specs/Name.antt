@@ -1,13 +1,10 @@
 -- Names of packages and of extras: which texts are names (PEP 508), and the normal form of a name
 -- (PEP 503). A text is its bytes.
-use Rattle.std.specs.Prelude.{◌≢◌, ◌==◌, ◌||◌, ◌-◌, ℕ, Bool, List, [], ◌∷◌, ◌++◌, length, map, slice_get, if◌then◌else◌, IsTrue, IsSomeAnd}
+use Rattle.std.specs.Prelude.{◌≢◌, ◌==◌, ◌-◌, ℕ, List, [], ◌∷◌, ◌++◌, length, map, slice_get, if◌then◌else◌, IsTrue, IsSomeAnd}
 use Rattle.std.specs.Char.{is_ascii_alphanumeric}
 use Rattle.std.specs.List.{list_all}
 use Rattle.std.specs.Str.{str_to_ascii_lowercase}
-
--- `-`, `_` or `.`
-abbrev pub is_separator : ℕ → Bool
-is_separator c = c == 45 || c == 95 || c == 46
+use Rattle.pep508_text.specs.Class.{is_name_character, is_separator}
 
 -- one or more letters and digits of ASCII
 pub record IsWord (w : List ℕ) : Type 0 where
@@ -29,10 +26,6 @@ pub data NormalizesTo : List ℕ → List ℕ → Type 0 where
 -- the text is a name
 abbrev pub IsName : List ℕ → Type 0
 IsName t = (n : List ℕ) × NormalizesTo t n
-
--- a letter, a digit or a separator
-abbrev pub is_name_character : ℕ → Bool
-is_name_character c = is_ascii_alphanumeric c || is_separator c
 
 -- the same texts, as PEP 508 tells them: letters, digits and separators, with a letter or digit at
 -- each end

@@ -4,7 +4,8 @@ ghost use Rattle.std.specs.Prelude.{◌≡◌, ◌↔◌, ◌≤◌, ◌==◌, l
 ghost use Rattle.std.specs.List.{list_all};
 ghost use Rattle.serde.specs.Event.{text};
 ghost use Rattle.serde.specs.Steps.{Gives};
-ghost use Rattle.pep508_names.specs.Name.{is_name_character, is_separator, IsIdentifier, IsName, NormalizesTo};
+ghost use Rattle.pep508_text.specs.Class.{is_name_character, is_separator};
+ghost use Rattle.pep508_names.specs.Name.{IsIdentifier, IsName, NormalizesTo};
 
 use crate::invalid_name::InvalidNameError;
 use serde::{Deserializer, Format};

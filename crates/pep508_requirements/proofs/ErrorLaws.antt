@@ -9,13 +9,11 @@ use Rattle.pep508_errors.specs.declared.error.Pep508Error.{Pep508Error}
 use Rattle.pep508_errors.specs.declared.error.Pep508ErrorSource.{Pep508ErrorSource}
 use Rattle.pep508_errors.specs.declared.error.Pep508ErrorSource.TheVariants as sources
 use Rattle.requirement_words.specs.declared.fault.Fault.{Fault}
-use Rattle.requirement_words.specs.declared.fault.FaultKind.{FaultKind}
-use Rattle.requirement_words.specs.declared.fault.FaultKind.TheVariants.{Blank, NoName, NameEnd, NoBody, LeadingComma, NoSeparator, NoExtra, InvalidExtra, ExtraEnd, UnclosedBracket, UnclosedParenthesis, Specifier, NoUrl, AmbiguousEnd, Trailing, PathWithoutName, UrlWithoutName, ArchiveWithoutName}
 use Rattle.requirement_words.specs.Extras.{IsExtras}
-use Rattle.requirement_words.specs.Fault.{IsFault}
+use Rattle.requirement_words.specs.Fault.{IsExtrasFault, IsFault, IsTailFault, IsUnnamedFault}
 use Rattle.requirement_words.specs.Head.{Asked, nothing, specifiers, url}
 use Rattle.requirement_words.specs.Message.{is_unsupported}
-use Rattle.requirement_words.specs.Part.{Finds, IsPartFault}
+use Rattle.requirement_words.proofs.KindLaws.{extras_supported, tail_supported, unnamed_supported}
 use Rattle.pep508_requirements.specs.Requirement.{IsNoEnd}
 use Rattle.pep508_requirements.specs.Unnamed.{IsUnnamedHeadless, IsUnnamedHeadError}
 use Rattle.pep508_requirements.specs.Refused.{url_text, IsHeadless, IsNameless, IsSource, IsErrorIn, OnError, IsToldOf, IsHeadSource, IsHeadError, IsExtrasError, IsEndError, IsEndRefusal, IsUrlFault, IsUrlSource, IsUrlError}
@@ -31,27 +29,6 @@ pub placed_url : (text rest : List ℕ) (a : Asked) → IsSuffix text rest → (
 placed_url text rest nothing s p = s
 placed_url text rest (specifiers set) s p = s
 placed_url text rest (url t) s p = p t refl
-
--- a fault of the end of a requirement is none of a name
-pub supported : (kind : FaultKind) (piece back : List ℕ) → Finds kind piece back → is_unsupported kind ≡ false
-supported Blank piece back h = refl
-supported NoName piece back h = refl
-supported NameEnd piece back h = refl
-supported NoBody piece back h = refl
-supported LeadingComma piece back h = refl
-supported NoSeparator piece back h = refl
-supported NoExtra piece back h = refl
-supported InvalidExtra piece back h = refl
-supported ExtraEnd piece back h = refl
-supported UnclosedBracket piece back h = refl
-supported UnclosedParenthesis piece back h = refl
-supported (Specifier error) piece back h = refl
-supported NoUrl piece back h = refl
-supported AmbiguousEnd piece back h = refl
-supported Trailing piece back h = refl
-supported PathWithoutName piece back h = absurd h
-supported UrlWithoutName piece back h = absurd h
-supported ArchiveWithoutName piece back h = absurd h
 
 module _ {T E : Type 0} where
   head_source : (value : List ℕ → List ℕ) (text : List ℕ) (b : Bool) (m : Pep508ErrorSource T E) → IsSource b m → (b ≡ true → IsNameless value text) → IsHeadSource value text m
@@ -74,36 +51,36 @@ module _ {T E : Type 0} where
   }
 
   -- no end of a requirement is left
-  pub end_error : (whole text rest : List ℕ) (fault : Fault) (refusal : Refusal (Pep508Error T E)) → IsPartFault whole fault → IsNoEnd rest
+  pub end_error : (front behind text rest : List ℕ) (fault : Fault) (refusal : Refusal (Pep508Error T E)) → IsTailFault front behind fault → IsNoEnd rest
       → OnError (IsToldOf text (is_unsupported fault.kind)) refusal → IsEndRefusal text rest refusal
-  end_error whole text rest fault refusals.OutOfMemory f none t = tt
-  end_error whole text rest fault refusals.SegmentAtEnd f none t = absurd t
-  end_error whole text rest fault (refusals.Fault error) f none t = record {
+  end_error front behind text rest fault refusals.OutOfMemory f none t = tt
+  end_error front behind text rest fault refusals.SegmentAtEnd f none t = absurd t
+  end_error front behind text rest fault (refusals.Fault error) f none t = record {
     told = t.told;
-    source = subst (λ (b : Bool). IsSource b error.message) (supported fault.kind fault.piece.now f.place.back f.found) t.source;
+    source = subst (λ (b : Bool). IsSource b error.message) (tail_supported f.found) t.source;
     no_end = none;
   }
 
   -- no extras stand at the front of the text
-  pub extras_error : (text : List ℕ) (fault : Fault) (refusal : Refusal (Pep508Error T E)) → IsPartFault text fault
+  pub extras_error : (text : List ℕ) (fault : Fault) (refusal : Refusal (Pep508Error T E)) → IsExtrasFault text fault
       → ((rest : List ℕ) (names : List (List ℕ)) → ¬ IsExtras (chars text) rest names)
       → OnError (IsToldOf text (is_unsupported fault.kind)) refusal → OnError (IsExtrasError text) refusal
   extras_error text fault refusals.OutOfMemory f none t = tt
   extras_error text fault refusals.SegmentAtEnd f none t = absurd t
   extras_error text fault (refusals.Fault error) f none t = record {
     told = t.told;
-    source = subst (λ (b : Bool). IsSource b error.message) (supported fault.kind fault.piece.now f.place.back f.found) t.source;
+    source = subst (λ (b : Bool). IsSource b error.message) (extras_supported f.found) t.source;
     none = none;
   }
 
   -- no requirement without a name begins in the text
-  pub unnamed_head_error : (text : List ℕ) (fault : Fault) (refusal : Refusal (Pep508Error T E)) → IsPartFault text fault → IsUnnamedHeadless text
+  pub unnamed_head_error : (text : List ℕ) (fault : Fault) (refusal : Refusal (Pep508Error T E)) → IsUnnamedFault text fault → IsUnnamedHeadless text
       → OnError (IsToldOf text (is_unsupported fault.kind)) refusal → OnError (IsUnnamedHeadError text) refusal
   unnamed_head_error text fault refusals.OutOfMemory f none t = tt
   unnamed_head_error text fault refusals.SegmentAtEnd f none t = absurd t
   unnamed_head_error text fault (refusals.Fault error) f none t = record {
     told = t.told;
-    source = subst (λ (b : Bool). IsSource b error.message) (supported fault.kind fault.piece.now f.place.back f.found) t.source;
+    source = subst (λ (b : Bool). IsSource b error.message) (unnamed_supported f.found) t.source;
     headless = none;
   }
 

@@ -17,8 +17,8 @@ use Rattle.marker_readable.specs.Text.{TellsText}
 use Rattle.marker_readable.specs.Text.{ReadsBack as MarkerReadsBack}
 use Rattle.requirement_words.specs.Head.{Asked, nothing, specifiers, IsHead}
 use Rattle.requirement_words.specs.Tail.{unmarked, marked}
-use Rattle.requirement_text.proofs.PlainText.{ascii-cons}
-use Rattle.requirement_text.specs.Text.{extras_text, asked_text, head_text, IsTailText, no_marker, marker, IsNormal, IsPrintedAs, IsPrintable}
+use Rattle.requirement_words.proofs.PlainText.{ascii-cons}
+use Rattle.requirement_words.specs.Text.{extras_text, asked_text, head_text, IsTailText, no_marker, marker, IsNormal, IsPrintedAs, IsPrintable}
 use Rattle.pep508_requirements.specs.declared.version_or_url.VersionOrUrl.{VersionOrUrl}
 use Rattle.pep508_requirements.specs.declared.version_or_url.VersionOrUrl.TheVariants as wants
 use Rattle.pep508_requirements.specs.Requirement.{IsWanted}

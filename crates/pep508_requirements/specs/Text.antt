@@ -10,7 +10,7 @@ use Rattle.marker_graph.specs.Contents.{Contents, truth}
 use Rattle.marker_readable.specs.Readable.{IsReadableTruth}
 use Rattle.marker_readable.specs.Text.{TellsText}
 use Rattle.pep508_markers.specs.Json.{string_of, IsStringOf}
-use Rattle.requirement_text.specs.Text.{extras_text, joined_text}
+use Rattle.requirement_words.specs.Text.{extras_text, joined_text}
 use Rattle.pep508_requirements.specs.Requirement.{IsReadAs}
 use Rattle.pep508_requirements.specs.declared.version_or_url.VersionOrUrl.{VersionOrUrl}
 use Rattle.pep508_requirements.specs.declared.version_or_url.VersionOrUrl.TheVariants.{VersionSpecifier, Url}

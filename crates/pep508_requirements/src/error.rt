@@ -1,7 +1,7 @@
 //! How a text that is no requirement is told.
 
 ghost use Rattle.std.specs.Prelude.{◌≡◌, ◌++◌, IfOk};
-ghost use Rattle.pep508_text.specs.Suffix.{IsPiece, IsSpan, IsSuffix};
+ghost use Rattle.pep508_text.specs.Suffix.{IsPlaceIn, IsSpan, IsSuffix};
 ghost use Rattle.requirement_words.specs.Message.{is_unsupported};
 ghost use Rattle.pep508_requirements.specs.Refused.{IsErrorIn, IsSource, IsToldOf, OnError};
 
@@ -28,14 +28,14 @@ fn error_of_fault<T: Pep508Url>(
     text: &str,
     fault: Fault<'_>,
 ) -> Result<Pep508Error<T>, AllocError>
-    requires { IsPiece text.now fault.piece.now fault.left }
+    requires { IsPlaceIn text.now fault.place }
     ensures { IfOk result (IsToldOf text.now (is_unsupported fault.entry.kind)) }
 {
     let message = fault.to_string(alloc)?;
     Ok(Pep508Error {
-        message: source(fault.is_unsupported(), message),
-        start: fault.start(text),
-        len: fault.len(),
+        message: source(fault.kind.is_unsupported(), message),
+        start: fault.place.start(text),
+        len: fault.place.len(),
         input: String::from_str(alloc, text)?,
     })
 }
@@ -47,7 +47,7 @@ pub(crate) fn refusal_of_fault<T: Pep508Url>(
     text: &str,
     fault: Fault<'_>,
 ) -> Refusal<Pep508Error<T>>
-    requires { IsPiece text.now fault.piece.now fault.left }
+    requires { IsPlaceIn text.now fault.place }
     ensures { OnError (IsToldOf text.now (is_unsupported fault.entry.kind)) result }
 {
     match error_of_fault(alloc, text, fault) {

@@ -12,7 +12,7 @@ use crate::error::{refusal_of_fault, refusal_of_url};
 use crate::version_or_url::VersionOrUrl;
 use pep508_errors::{Pep508Error, Pep508Url, Surroundings};
 use refusal::Refusal;
-use requirement_words::{Body, Head, read_head};
+use requirement_words::{Asked, Head, read_head};
 use std::alloc::Global;
 
 // A requirement up to its marker, and what follows it.
@@ -23,14 +23,14 @@ pub(crate) fn read_named<'a, T: Pep508Url>(
     surroundings: &Surroundings<'_>,
 ) -> Result<(Head<'a>, &'a str), Refusal<Pep508Error<T>>>
     ensures found { IfOk result (λ x. IsHead (chars text.now) (chars x.1.now) x.0.name
-        x.0.extras.items (asked_of x.0.body)) }
+        x.0.extras.items (asked_of x.0.asked)) }
     ensures refused { IfErr result
         (OnError (IsHeadError (value_of surroundings.now) text.now)) }
     ensures suffix { IfOk result (λ x. IsSuffix text.now x.1.now) }
 
     // A URL stands right before what follows it.
     ensures placed { IfOk result (λ x. IsSuffix text.now
-        (url_text (asked_of x.0.body) ++ x.1.now)) }
+        (url_text (asked_of x.0.asked) ++ x.1.now)) }
 {
     match read_head(alloc, text, surroundings) {
         Ok((head, rest)) => Ok((head, rest)),
@@ -40,11 +40,11 @@ pub(crate) fn read_named<'a, T: Pep508Url>(
 }
 
 // The text of the URL that is asked, or none.
-pub(crate) fn written_url<'a>(body: &Body<'a>) -> &'a str
-    ensures { result.now ≡ url_text (asked_of body.now) }
+pub(crate) fn written_url<'a>(asked: &Asked<'a>) -> &'a str
+    ensures { result.now ≡ url_text (asked_of asked.now) }
 {
-    match body {
-        Body::Url(url) => *url,
+    match asked {
+        Asked::Url(url) => *url,
         _ => "",
     }
 }
@@ -53,21 +53,21 @@ pub(crate) fn written_url<'a>(body: &Body<'a>) -> &'a str
 pub(crate) fn read_version_or_url<T: Pep508Url>(
     alloc: Global,
     text: &str,
-    body: Body<'_>,
+    asked: Asked<'_>,
     rest: &str,
     surroundings: &Surroundings<'_>,
 ) -> Result<Option<VersionOrUrl<T>>, Refusal<Pep508Error<T>>>
-    requires { IsSuffix text.now (url_text (asked_of body) ++ rest.now) }
+    requires { IsSuffix text.now (url_text (asked_of asked) ++ rest.now) }
     ensures found { IfOk result
-        (IsWanted (λ piece url. T.names piece surroundings.now url) (asked_of body.entry)) }
+        (IsWanted (λ piece url. T.names piece surroundings.now url) (asked_of asked.entry)) }
     ensures refused { IfErr result (OnError (IsUrlError
         (λ piece url. T.names piece surroundings.now url) T.tells_size
-        (λ piece. T.may_overflow piece surroundings.now) text.now (asked_of body.entry))) }
+        (λ piece. T.may_overflow piece surroundings.now) text.now (asked_of asked.entry))) }
 {
-    match body {
-        Body::Nothing => Ok(None),
-        Body::Specifiers(set) => Ok(Some(VersionOrUrl::VersionSpecifier(set))),
-        Body::Url(piece) => match T::parse_url(alloc, piece, surroundings) {
+    match asked {
+        Asked::Nothing => Ok(None),
+        Asked::Specifiers(set) => Ok(Some(VersionOrUrl::VersionSpecifier(set))),
+        Asked::Url(piece) => match T::parse_url(alloc, piece, surroundings) {
             Ok(url) => Ok(Some(VersionOrUrl::Url(url))),
             Err(Refusal::Fault(fault)) => Err(refusal_of_url(alloc, text, piece, rest, fault)),
             Err(_) => Err(Refusal::OutOfMemory),

@@ -69,12 +69,19 @@ fn read<T: Pep508Url>(
     ensures untouched { OnFault result (interner.new ≡ interner.old) }
 {
     let alloc = interner.allocator();
-    let (Head { name, extras, body }, rest) = match read_named(alloc, text, surroundings) {
+    let (
+        Head {
+            name,
+            extras,
+            asked,
+        },
+        rest,
+    ) = match read_named(alloc, text, surroundings) {
         Ok(read) => read,
         Err(refusal) => return Err(refusal),
     };
-    let url = written_url(&body);
-    let version_or_url = match read_version_or_url(alloc, text, body, rest, surroundings) {
+    let url = written_url(&asked);
+    let version_or_url = match read_version_or_url(alloc, text, asked, rest, surroundings) {
         Ok(version_or_url) => version_or_url,
         Err(refusal) => return Err(refusal),
     };

@@ -11,7 +11,7 @@ use marker_graph::Interner;
 use pep508_markers::MarkerText;
 use pep508_names::ExtraName;
 use pep508_urls::UnnamedRequirementUrl;
-use requirement_text::write_extras;
+use requirement_words::write_extras;
 use std::alloc::AllocError;
 use std::fmt;
 use std::fmt::Display;

@@ -1,6 +1,8 @@
 -- Runs and white space on lists of characters: that each is determined by the list that it stands in.
-use Rattle.std.proofs.Common.{◌≡◌, ℕ, Bool, true, false, cond, List, [], ◌∷◌, ◌++◌, refl, sym, ap, ◌∙◌, subst}
+use Rattle.std.proofs.Common.{◌≡◌, ℕ, ◌≤◌, Bool, true, false, cond, List, [], ◌∷◌, ◌++◌, length, refl, sym, ap, ◌∙◌, subst, arith}
 use Rattle.std.specs.Prelude.{encode_utf8_all}
+use Rattle.std.specs.List.{list_all}
+use Rattle.std.proofs.lemmas.Bool.{and_from}
 use Rattle.std.proofs.lemmas.Str.{encodes_same}
 use Rattle.pep508_text.specs.Class.{holds}
 use Rattle.pep508_text.specs.Run.{run_of, after_run, after_space, Run, Spaces, none, more}
@@ -46,6 +48,37 @@ after_run-after_run p (c ∷ cs) = go (holds p c) refl (after_run-after_run p cs
     go : (b : Bool) → holds p c ≡ b → after_run p (after_run p cs) ≡ after_run p cs → after_run p (cond b (after_run p cs) (c ∷ cs)) ≡ cond b (after_run p cs) (c ∷ cs)
     go true e shorter = shorter
     go false e shorter = after_run-fails p c cs e
+
+-- all characters of a run are of the class
+pub run_all : (p : Class) (cs : List ℕ) → list_all (holds p) (run_of p cs) ≡ true
+run_all p [] = refl
+run_all p (c ∷ cs) = go (holds p c) refl (run_all p cs)
+  where
+    go : (b : Bool) → holds p c ≡ b → list_all (holds p) (run_of p cs) ≡ true → list_all (holds p) (cond b (c ∷ run_of p cs) []) ≡ true
+    go true e others = and_from _ _ e others
+    go false e others = refl
+
+shorter_than : (p : Class) (cs : List ℕ) → length (after_run p cs) ≤ length cs
+shorter_than p [] = omega arith
+shorter_than p (c ∷ cs) = go (holds p c) (shorter_than p cs)
+  where
+    go : (b : Bool) → length (after_run p cs) ≤ length cs → length (cond b (after_run p cs) (c ∷ cs)) ≤ length (c ∷ cs)
+    go true h = omega arith
+    go false h = omega arith
+
+-- what begins with no run begins with no character of the class
+pub after_run-first : (p : Class) (c : ℕ) (cs t : List ℕ) → after_run p t ≡ t → t ≡ c ∷ cs → holds p c ≡ false
+after_run-first p c cs t longest e = go (holds p c) refl
+  where
+    same : after_run p (c ∷ cs) ≡ c ∷ cs
+    same = subst (λ (x : List ℕ). after_run p x ≡ x) e longest
+
+    go : (b : Bool) → holds p c ≡ b → b ≡ false
+    go true h =
+        let short = shorter_than p cs in
+        let size : length (after_run p cs) ≡ length (c ∷ cs) = ap length (sym (after_run-holds p c cs h) ∙ same) in
+        absurd (omega arith)
+    go false h = refl
 
 -- the list has one longest run, and it is that of the calls
 pub longest_run : (p : Class) (i : List ℕ) → Run p i (run_of p i) (after_run p i)

@@ -1,9 +1,12 @@
 -- Places in what is left of a text are places in the text.
-use Rattle.std.proofs.Common.{◌≡◌, ℕ, ◌+◌, ◌-◌, ◌<◌, ◌≤◌, List, [], ◌++◌, length, refl, sym, ap, ◌∙◌, subst, append_assoc, arith, length-append, IsUtf8, ⊎_elim}
-use Rattle.std.specs.Str.{IsCharBoundary}
-use Rattle.std.proofs.lemmas.List.{append-nil}
-use Rattle.std.proofs.lemmas.Str.{IsUtf8-nil, IsCharBoundary-at_seam}
-use Rattle.std.proofs.lemmas.Bool.{cases_lt}
+use Rattle.std.proofs.Common.{◌≡◌, ℕ, ◌+◌, ◌-◌, ◌<◌, ◌≤◌, cond, eqb, List, [], ◌∷◌, ◌++◌, length, get_or, drop, zero, suc, refl, sym, ap, ◌∙◌, subst, append_assoc, arith, length-append, IsUtf8, ⊎_elim}
+use Rattle.std.specs.Prelude.{encode_utf8}
+use Rattle.std.specs.Str.{IsAscii, IsCharBoundary}
+use Rattle.std.proofs.lemmas.List.{append-nil, append_cancel_right, drop_at}
+use Rattle.std.proofs.lemmas.Str.{encode_ascii, IsCharBoundary-before_ascii, IsUtf8-append, IsUtf8-from_ascii, IsUtf8-nil, IsCharBoundary-at_seam}
+use Rattle.std.proofs.lemmas.Bool.{cases_lt, eq-eqb}
+use Rattle.std.proofs.lemmas.Bool.Decides.{nat_tests}
+use Rattle.std.proofs.Math.Seq.{get_or-append_seam}
 use Rattle.pep508_text.specs.Suffix.{IsSuffix, IsPiece, StandsAt, IsSpan, within, at_end}
 
 pub suffix_self : (t : List ℕ) → IsUtf8 t → IsSuffix t t
@@ -84,3 +87,50 @@ span_of_piece {t} {piece} {left} {len} p inside ended = ⊎_elim spans stops (ca
 
 pub span_at_end : (t : List ℕ) → IsSpan t (length t) 1
 span_at_end t = at_end refl refl
+
+pub len_inside : (left n : ℕ) → 0 < left → cond (eqb left 0) 1 n ≡ n
+len_inside left n inside = grind (arith, nat_tests)
+
+len_ended : (left n : ℕ) → left ≡ 0 → cond (eqb left 0) 1 n ≡ 1
+len_ended left n ended = ap (λ b. cond b 1 n) (eq-eqb left 0 ended)
+
+-- the span of a place's piece
+pub spanned : {t piece : List ℕ} {left : ℕ} → IsPiece t piece left → IsSpan t (length t - left) (cond (eqb left 0) 1 (length piece))
+spanned {piece = piece} {left = left} place = span_of_piece place (len_inside left (length piece)) (len_ended left (length piece))
+
+-- the piece in front of the same rest
+pub same_front : (text piece front rest : List ℕ) → text ≡ piece ++ rest → text ≡ front ++ rest → piece ≡ front
+same_front text piece front rest e f = append_cancel_right piece front rest (sym e ∙ f)
+
+-- ---- the last character of a run
+
+last_index : (run front : List ℕ) (c : ℕ) → run ≡ front ++ (c ∷ []) → length run - 1 ≡ length front
+last_index run front c joined = omega (arith, ap length joined, length-append front (c ∷ []))
+
+-- it begins between two characters where it is one of ASCII
+pub last_begins : (run front : List ℕ) (c : ℕ) → run ≡ front ++ (c ∷ []) → c < 128 → IsCharBoundary run (length run - 1)
+last_begins run front c joined ascii =
+    let place = last_index run front c joined in
+    let here : get_or run (length front) 0 ≡ c = ap (λ (x : List ℕ). get_or x (length front) 0) joined ∙ get_or-append_seam front c [] 0 in
+    let inside : length front < length run = omega (arith, ap length joined, length-append front (c ∷ [])) in
+    subst (IsCharBoundary run) (sym place) (IsCharBoundary-before_ascii run (length front) inside (subst (λ (x : ℕ). x < 128) (sym here) ascii))
+
+pub last_is : (run front : List ℕ) (c : ℕ) → run ≡ front ++ (c ∷ []) → drop (length run - 1) run ≡ c ∷ []
+last_is run front c joined =
+    ap (λ (n : ℕ). drop n run) (last_index run front c joined) ∙ ap (drop (length front)) joined ∙ drop_at front (c ∷ []) (length front) refl
+
+-- and with what follows it is the end of a text
+pub last_suffix : (text run front rest piece : List ℕ) (c : ℕ) → text ≡ run ++ rest → IsSuffix text rest → run ≡ front ++ (c ∷ []) → c < 128
+    → piece ≡ drop (length run - 1) run → IsSuffix text (piece ++ rest)
+last_suffix text run front rest piece c cut suffix joined ascii piece_is =
+    let one : piece ≡ c ∷ [] = piece_is ∙ last_is run front c joined in
+    let here : run ≡ front ++ piece = joined ∙ ap (λ (x : List ℕ). front ++ x) (sym one) in
+    let utf8 : IsUtf8 piece = subst IsUtf8 (encode_ascii c ascii ∙ sym one) (IsUtf8-one c ascii) in
+    record { front = front; joined = cut ∙ ap (λ (x : List ℕ). x ++ rest) here ∙ append_assoc front piece rest; utf8 = IsUtf8-append piece rest utf8 suffix.utf8 }
+  where
+    none_else : (c : ℕ) → c < 128 → IsAscii (c ∷ [])
+    none_else c h zero = h
+    none_else c h (suc i) = omega arith
+
+    IsUtf8-one : (c : ℕ) → c < 128 → IsUtf8 (encode_utf8 c)
+    IsUtf8-one c h = subst IsUtf8 (sym (encode_ascii c h)) (IsUtf8-from_ascii (c ∷ []) (none_else c h))

@@ -1,5 +1,5 @@
 ghost use Rattle.std.specs.Prelude.{◌≡◌};
-ghost use Rattle.pep508_text.specs.Class.{is_comparison};
+ghost use Rattle.pep508_text.specs.Class.{is_comparison, is_line_break, is_name_character};
 
 use unicode::properties::is_alphabetic;
 
@@ -20,6 +20,13 @@ pub enum Class {
     NotQuote(char),
     /// Unicode's Alphabetic: an operator that begins with such a character is a word.
     Alphabetic,
+    /// Letters and digits of ASCII, `-`, `_` and `.`: the characters of a name.
+    NamePart,
+    /// Any character but a comma and this one, which ends a list of specifiers: the characters of a
+    /// specifier.
+    SpecifierPart(char),
+    /// White space within a line: no carriage return and no line feed.
+    LineSpace,
 }
 
 impl Class {
@@ -37,6 +44,9 @@ impl Class {
             Class::WordPart => !(c.is_whitespace() || c == '\'' || c == '"'),
             Class::NotQuote(quote) => c != quote,
             Class::Alphabetic => is_alphabetic(c),
+            Class::NamePart => is_name_character(c),
+            Class::SpecifierPart(end) => !(c == ',' || c == end),
+            Class::LineSpace => c.is_whitespace() && !is_line_break(c),
         }
     }
 }
@@ -45,4 +55,17 @@ fn is_comparison(c: char) -> bool
     ensures { result ≡ is_comparison c }
 {
     matches!(c, '<' | '=' | '>' | '~' | '!')
+}
+
+fn is_name_character(c: char) -> bool
+    ensures { result ≡ is_name_character c }
+{
+    c.is_ascii_alphanumeric() || matches!(c, '-' | '_' | '.')
+}
+
+/// Whether the character ends a line: a carriage return or a line feed.
+pub fn is_line_break(c: char) -> bool
+    ensures { result ≡ is_line_break c }
+{
+    c == '\r' || c == '\n'
 }

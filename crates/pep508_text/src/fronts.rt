@@ -28,9 +28,7 @@ pub fn last(text: &str) -> Option<(&str, char)>
     ensures shorter { IfSome result (λ x. length x.0.now < length text.now) }
 {
     let mut characters = text.chars();
-    let Some(c) = characters.next_back() else {
-        return None;
-    };
+    let c = characters.next_back()?;
     Some((characters.as_str(), c))
 }
 

@@ -10,18 +10,17 @@ use Rattle.pep508_text.specs.Run.{after_space}
 use Rattle.pep508_text.proofs.Splits.{chars-last, front_is_utf8}
 use Rattle.pep508_urls.specs.Extras.{IsNoBracket, SplitsExtras}
 use Rattle.requirement_words.specs.Extras.{Names, last, more, IsExtras, left_out, none, some, begins_bracket}
-use Rattle.requirement_words.specs.Part.{is_absent, IsOpen}
-use Rattle.requirement_words.specs.declared.runs.Part.TheVariants.{Name}
+use Rattle.pep508_text.specs.declared.classes.Class.TheVariants.{NamePart}
 use Rattle.requirement_words.proofs.Characters.{tails}
 use Rattle.requirement_words.proofs.ExtrasLaws.{not_eqb}
-use Rattle.requirement_words.proofs.OpenLaws.{open_start, open_space, open_part, open_one}
+use Rattle.requirement_words.proofs.OpenLaws.{is_absent, IsOpen, open_start, open_space, open_part, open_one}
 
 -- no bracket closes among the names
 names_open : {i o : List ℕ} {ns : List (List ℕ)} (inside : List ℕ) → IsOpen 93 inside i → Names i o ns → IsOpen 93 inside (93 ∷ o)
 names_open inside o (last name bracket) =
-    subst (IsOpen 93 inside) bracket (open_space refl (subst (IsOpen 93 inside) name.rest (open_part Name refl (open_space refl o))))
+    subst (IsOpen 93 inside) bracket (open_space refl (subst (IsOpen 93 inside) name.rest (open_part NamePart refl (open_space refl o))))
 names_open inside o (more {b = b} name comma h) =
-    names_open inside (open_one 44 b (open_space refl (subst (IsOpen 93 inside) name.rest (open_part Name refl (open_space refl o)))) comma refl) h
+    names_open inside (open_one 44 b (open_space refl (subst (IsOpen 93 inside) name.rest (open_part NamePart refl (open_space refl o)))) comma refl) h
 
 -- nor before the bracket behind them
 closes_first : {i o : List ℕ} {ns : List (List ℕ)} (inside : List ℕ) → i ≡ 91 ∷ inside → IsExtras i o ns → IsOpen 93 inside (93 ∷ o)

@@ -1,29 +1,33 @@
 -- Reading a list of extras name by name.
 use Rattle.std.proofs.Common.{◌≡◌, ◌≢◌, ◌||◌, ◌≤◌, ℕ, Bool, true, false, cond, eqb, List, [], ◌∷◌, ◌++◌, length, refl, sym, ap, ◌∙◌, subst, append_assoc, length-append, arith, lit<, IsUtf8}
-use Rattle.std.specs.Prelude.{encode_utf8_all, IsTrue, IsSomeAnd, slice_get}
+use Rattle.std.specs.Prelude.{encode_utf8, encode_utf8_all, IsTrue, IsSomeAnd, slice_get}
 use Rattle.std.specs.Char.{is_ascii_alphanumeric, is_whitespace}
 use Rattle.std.specs.List.{list_all}
 use Rattle.std.specs.Str.{chars}
 use Rattle.std.proofs.lemmas.Bool.{eqb-true, false≢true}
 use Rattle.std.proofs.lemmas.List.{nil_from_length}
-use Rattle.std.proofs.lemmas.Str.{encode_ascii}
-use Rattle.pep508_text.specs.Run.{after_space}
+use Rattle.std.proofs.lemmas.Str.{encode_ascii, encodes-chars}
+use Rattle.pep508_text.specs.Run.{Run, after_space, run_of, after_run}
 use Rattle.pep508_text.specs.Suffix.{IsSuffix}
-use Rattle.pep508_text.specs.declared.classes.Class.TheVariants.{Space}
-use Rattle.pep508_text.proofs.RunLaws.{after_run-holds, trimmed_after_space}
-use Rattle.pep508_names.specs.Name.{NormalizesTo, word, joined, IsName, is_name_character, is_separator}
+use Rattle.pep508_text.specs.declared.classes.Class.{Class}
+use Rattle.pep508_text.specs.declared.classes.Class.TheVariants.{Space, NamePart}
+use Rattle.pep508_text.proofs.RunLaws.{after_run-fails, after_run-first, run_all, trimmed_after_space}
+use Rattle.pep508_text.specs.Class.{is_name_character, is_separator}
+use Rattle.pep508_names.specs.Name.{NormalizesTo, word, joined, IsName}
 use Rattle.refusal.specs.declared.Refusal.{Refusal}
 use Rattle.refusal.specs.declared.Refusal.TheVariants as refusals
 use Rattle.pep508_names.specs.Fault.{IsNameRefusal}
 use Rattle.pep508_names.proofs.IdentifierLaws.{names_are_identifiers}
-use Rattle.requirement_words.specs.Runs.{part_of, after_part}
-use Rattle.requirement_words.specs.Part.{IsBehindName, IsOpen, IsRunOf, may_follow_extra}
-use Rattle.requirement_words.specs.declared.runs.Part.TheVariants.{Name}
+use Rattle.requirement_words.specs.Fault.{begins_name, FindsInExtras, unclosed, IsCutOff, IsFaultAt, Listed, may_follow_extra}
+use Rattle.requirement_words.specs.Fault as faults
+use Rattle.requirement_words.specs.Url.{begins_space}
+use Rattle.requirement_words.specs.declared.fault.FaultKind.{FaultKind}
+use Rattle.requirement_words.specs.declared.fault.FaultKind.TheVariants.{UnclosedBracket}
 use Rattle.requirement_words.specs.Extras.{IsNameAt, Names, last, more, IsExtras, left_out, none, some, begins_bracket}
 use Rattle.requirement_words.proofs.Characters.{firsts, tails}
 use Rattle.requirement_words.proofs.NameEnds.{EndsSeparator, ends_separator, name_byte}
-use Rattle.requirement_words.proofs.OpenLaws.{open_start, open_space, open_part, open_one}
-use Rattle.requirement_words.proofs.RunLaws.{longest_first, part_all, part_fails, part_holds, part_longest}
+use Rattle.requirement_words.proofs.FaultLaws.{fault_behind}
+use Rattle.requirement_words.proofs.RunLaws.{run_fails, run_holds}
 
 -- what follows a name is determined
 pub name_rest : {i a b m n : List ℕ} → IsNameAt i a m → IsNameAt i b n → a ≡ b
@@ -35,10 +39,10 @@ pub record Reading (text left : List ℕ) (names : List (List ℕ)) : Type 0 whe
   pub found : (output : List ℕ) (ns : List (List ℕ)) → Names (chars left) output ns → IsExtras (chars text) output (names ++ ns)
   pub only : (output : List ℕ) (ns : List (List ℕ)) → IsExtras (chars text) output ns → (others : List (List ℕ)) × Names (chars left) output others
 
--- the same, and no bracket has closed
+-- the same, and where another name may stand
 pub record Going (text inside left : List ℕ) (names : List (List ℕ)) : Type 0 where
   pub reading : Reading text left names
-  pub not_closed : IsOpen 93 (chars inside) (chars left)
+  pub listed : Listed (chars inside) names (after_space (chars left))
 
 -- behind the bracket
 found_start : (i inside output : List ℕ) (ns : List (List ℕ)) → i ≡ 91 ∷ inside → Names inside output ns → IsExtras i output ns
@@ -143,7 +147,7 @@ unnamed (word h) e = h.nonempty e
 unnamed (joined {w = w} {s = s} {t = t} h r g) e = h.nonempty (empty_front w (s ++ t) e)
 
 no_name_at : {i o a n : List ℕ} → i ≡ 93 ∷ o → IsNameAt i a n → ⊥
-no_name_at {i} {o} e name = unnamed name.name (ap (λ (x : List ℕ). encode_utf8_all (part_of Name x)) e)
+no_name_at {i} {o} e name = unnamed name.name (ap (λ (x : List ℕ). encode_utf8_all (run_of NamePart x)) e)
 
 pub closed_name : {i o p : List ℕ} {ns : List (List ℕ)} → after_space i ≡ 93 ∷ o → Names i p ns → ⊥
 closed_name e (last name bracket) = no_name_at e name
@@ -162,39 +166,38 @@ extras_rest (some h) (some g) = names_rest h g
 
 -- ---- what is wrong
 
--- behind a run stands no more of a name
-pub no_name_follows : {text run rest cs : List ℕ} {c : ℕ} → IsRunOf text run rest → chars rest ≡ c ∷ cs → is_name_character c ≡ false
-no_name_follows {text} {cs = cs} {c = c} r e =
-    longest_first Name c cs (after_part Name (chars text)) (part_longest Name (chars text)) (sym r.rest_is ∙ e)
+-- what begins as a name is not empty
+pub begun : (t : List ℕ) → begins_name t ≡ true → (c : ℕ) × (cs : List ℕ) × (t ≡ c ∷ cs) × (is_ascii_alphanumeric c ≡ true)
+begun [] e = absurd (false≢true e)
+begun (c ∷ cs) e = (c, cs, refl, e)
 
-pub ended_run : {text run rest : List ℕ} → IsRunOf text run rest → after_part Name (chars rest) ≡ chars rest
-ended_run {text} r = ap (after_part Name) r.rest_is ∙ part_longest Name (chars text) ∙ sym r.rest_is
+pub is_run : {class : Class} {input run output : List ℕ} → run ≡ run_of class input → output ≡ after_run class input → Run class input run output
+is_run e f = record { run_is = sym e; rest_is = sym f }
 
 -- a run that begins as a name and is none ends with a separator
-pub run_ends : {text run rest : List ℕ} → IsRunOf text run rest → IsUtf8 run
-    → ((c : ℕ) × (cs : List ℕ) × (chars text ≡ c ∷ cs) × (is_ascii_alphanumeric c ≡ true)) → ¬ IsName run → EndsSeparator run
-run_ends {text} {run} r utf8 begins none_ =
-    let c = begins.0 in
-    let holds_ : is_name_character c ≡ true = ap (λ (b : Bool). b || is_separator c) begins.3 in
-    let first : chars run ≡ c ∷ part_of Name begins.1 = r.run_is ∙ ap (part_of Name) begins.2 ∙ (part_holds Name c begins.1 holds_).0 in
-    ends_separator run (part_of Name begins.1) c utf8 first
-    (ap (list_all is_name_character) r.run_is ∙ part_all Name (chars text)) begins.3 none_
+pub run_ends : (text rest : List ℕ) {run : List ℕ} → Run NamePart (chars text) (chars run) (chars rest) → IsUtf8 run → begins_name (chars text) ≡ true → ¬ IsName run → EndsSeparator run
+run_ends text rest {run} r utf8 begins none_ =
+    let b = begun (chars text) begins in
+    let holds_ : is_name_character b.0 ≡ true = ap (λ (x : Bool). x || is_separator b.0) b.3 in
+    let first : chars run ≡ b.0 ∷ run_of NamePart b.1 = sym r.run_is ∙ ap (run_of NamePart) b.2 ∙ (run_holds NamePart b.0 b.1 holds_).0 in
+    ends_separator run (run_of NamePart b.1) b.0 utf8 first
+    (ap (list_all is_name_character) (sym r.run_is) ∙ run_all NamePart (chars text)) b.3 none_
 
 -- the name of an extra, which the reader of names has read
-pub named : (left place run rest n : List ℕ) → chars place ≡ after_space (chars left) → run ≡ encode_utf8_all (part_of Name (chars place)) → chars rest ≡ after_part Name (chars place)
+pub named : (left place run rest n : List ℕ) → chars place ≡ after_space (chars left) → run ≡ encode_utf8_all (run_of NamePart (chars place)) → chars rest ≡ after_run NamePart (chars place)
     → NormalizesTo run n → IsNameAt (after_space (chars left)) (chars rest) n
 named left place run rest n place_is bytes rest_is read =
     subst (λ (x : List ℕ). IsNameAt x (chars rest) n) place_is (record { name = subst (λ (x : List ℕ). NormalizesTo x n) bytes read; rest = sym rest_is })
 
 -- no name
-pub not_named : (left place run : List ℕ) → chars place ≡ after_space (chars left) → run ≡ encode_utf8_all (part_of Name (chars place)) → ¬ IsName run
+pub not_named : (left place run : List ℕ) → chars place ≡ after_space (chars left) → run ≡ encode_utf8_all (run_of NamePart (chars place)) → ¬ IsName run
     → (o n : List ℕ) → ¬ IsNameAt (after_space (chars left)) o n
 not_named left place run place_is bytes none_ o n h =
     let here : IsNameAt (chars place) o n = subst (λ (x : List ℕ). IsNameAt x o n) (sym place_is) h in
     none_ (n, subst (λ (x : List ℕ). NormalizesTo x n) (sym bytes) here.name)
 
 pub nothing_named : (left place : List ℕ) → chars place ≡ after_space (chars left) → chars place ≡ [] → (o n : List ℕ) → ¬ IsNameAt (after_space (chars left)) o n
-nothing_named left place place_is e o n h = unnamed h.name (ap (λ (x : List ℕ). encode_utf8_all (part_of Name x)) (sym place_is ∙ e))
+nothing_named left place place_is e o n h = unnamed h.name (ap (λ (x : List ℕ). encode_utf8_all (run_of NamePart x)) (sym place_is ∙ e))
 
 first_byte : (t : List ℕ) (c : ℕ) (cs : List ℕ) → IsName t → t ≡ c ∷ cs → is_ascii_alphanumeric c ≡ true
 first_byte t c cs h e = subst (λ (x : List ℕ). IsSomeAnd (slice_get x 0) (λ d. IsTrue (is_ascii_alphanumeric d))) e ((names_are_identifiers t).0 h).first
@@ -204,66 +207,65 @@ begins_unnamed t c cs o n e other h = go (is_name_character c) refl
   where
     go : (b : Bool) → is_name_character c ≡ b → ⊥
     go true is =
-        let run = (part_holds Name c cs is).0 in
-        let bytes : encode_utf8_all (part_of Name t) ≡ c ∷ encode_utf8_all (part_of Name cs) =
-        ap (λ (x : List ℕ). encode_utf8_all (part_of Name x)) e ∙ ap encode_utf8_all run ∙ ap (λ (x : List ℕ). x ++ encode_utf8_all (part_of Name cs)) (encode_ascii c (name_byte c is)) in
+        let run = (run_holds NamePart c cs is).0 in
+        let bytes : encode_utf8_all (run_of NamePart t) ≡ c ∷ encode_utf8_all (run_of NamePart cs) =
+        ap (λ (x : List ℕ). encode_utf8_all (run_of NamePart x)) e ∙ ap encode_utf8_all run ∙ ap (λ (x : List ℕ). x ++ encode_utf8_all (run_of NamePart cs)) (encode_ascii c (name_byte c is)) in
         false≢true (sym other ∙ first_byte _ c _ (n, h.name) bytes)
-    go false is = unnamed h.name (ap (λ (x : List ℕ). encode_utf8_all (part_of Name x)) e ∙ ap encode_utf8_all (part_fails Name c cs is).0)
+    go false is = unnamed h.name (ap (λ (x : List ℕ). encode_utf8_all (run_of NamePart x)) e ∙ ap encode_utf8_all (run_fails NamePart c cs is).0)
 
 pub not_begun : (left place : List ℕ) (c : ℕ) (cs : List ℕ) → chars place ≡ after_space (chars left) → chars place ≡ c ∷ cs → is_ascii_alphanumeric c ≡ false
     → (o n : List ℕ) → ¬ IsNameAt (after_space (chars left)) o n
 not_begun left place c cs place_is e other o n h = begins_unnamed (chars place) c cs o n e other (subst (λ (x : List ℕ). IsNameAt x o n) (sym place_is) h)
 
--- ---- the bracket has not closed
+-- a name begins as one
+pub name_begins : {here rest n : List ℕ} → IsNameAt here rest n → begins_name here ≡ true
+name_begins {here = []} name = absurd (unnamed name.name refl)
+name_begins {here = c ∷ cs} {rest = rest} {n = n} name = go (is_ascii_alphanumeric c) refl
+  where
+    go : (b : Bool) → is_ascii_alphanumeric c ≡ b → b ≡ true
+    go true e = refl
+    go false e = absurd (begins_unnamed (c ∷ cs) c cs rest n refl e name)
 
-pub open_place : {i : List ℕ} (left place : List ℕ) → IsOpen 93 i (chars left) → chars place ≡ after_space (chars left) → IsOpen 93 i (chars place)
-open_place {i} left place o e = subst (IsOpen 93 i) (sym e) (open_space refl o)
+-- ---- where another name may stand
 
-pub open_rest : {i : List ℕ} (place rest : List ℕ) → IsOpen 93 i (chars place) → chars rest ≡ after_part Name (chars place) → IsOpen 93 i (chars rest)
-open_rest {i} place rest o e = subst (IsOpen 93 i) (sym e) (open_part Name refl o)
+no_append : (names : List (List ℕ)) (n : List ℕ) → names ++ (n ∷ []) ≡ [] → ⊥
+no_append [] n e = absurd cc
+no_append (m ∷ names) n e = absurd cc
+
+-- the first stands right behind the bracket
+pub listed_first : {inside here : List ℕ} {names : List (List ℕ)} → Listed inside names here → names ≡ [] → here ≡ after_space inside
+listed_first faults.none e = refl
+listed_first (faults.more {names = names} {n = n} listed name comma) e = absurd (no_append names n e)
 
 pub going_start : (text inside : List ℕ) (names : List (List ℕ)) → names ≡ [] → IsSuffix text inside → chars text ≡ 91 ∷ chars inside → ((rest : List ℕ) → after_space (chars inside) ≢ 93 ∷ rest) → Going text inside inside names
-going_start text inside names e suffix bracket open_ = record {
-  reading = subst (Reading text inside) (sym e) (reading_start text inside suffix bracket open_);
-  not_closed = open_start 93 (chars inside);
+going_start text inside names e suffix bracket open_ =
+    let first : Listed (chars inside) [] (after_space (chars inside)) = faults.none in
+    record {
+      reading = subst (Reading text inside) (sym e) (reading_start text inside suffix bracket open_);
+      listed = subst (λ (x : List (List ℕ)). Listed (chars inside) x (after_space (chars inside))) (sym e) first;
+    }
+
+pub going_more : (text inside left rest behind next n : List ℕ) (names new : List (List ℕ)) → Going text inside left names → IsNameAt (after_space (chars left)) (chars rest) n
+    → chars behind ≡ after_space (chars rest) → chars behind ≡ 44 ∷ chars next → IsSuffix text next → new ≡ names ++ (n ∷ []) → Going text inside next new
+going_more text inside left rest behind next n names new going name behind_is comma suffix e = record {
+  reading = subst (Reading text next) (sym e) (reading_more text left rest next n names going.reading suffix name (sym behind_is ∙ comma));
+  listed = subst (λ (x : List (List ℕ)). Listed (chars inside) x (after_space (chars next))) (sym e) (faults.more going.listed name (sym behind_is ∙ comma));
 }
 
-pub going_more : (text inside left place rest behind next n : List ℕ) (names new : List (List ℕ)) → Going text inside left names
-    → chars place ≡ after_space (chars left) → chars rest ≡ after_part Name (chars place) → IsNameAt (after_space (chars left)) (chars rest) n
-    → chars behind ≡ after_space (chars rest) → chars behind ≡ 44 ∷ chars next → IsSuffix text next → new ≡ names ++ (n ∷ []) → Going text inside next new
-going_more text inside left place rest behind next n names new going place_is rest_is name behind_is comma suffix e = record {
-  reading = subst (Reading text next) (sym e) (reading_more text left rest next n names going.reading suffix name (sym behind_is ∙ comma));
-  not_closed = open_one 44 (chars next) (open_place rest behind (open_rest place rest (open_place left place going.not_closed place_is) rest_is) behind_is) comma refl;
-}
+-- ---- faults
+
+-- a fault of what stands in the brackets is one of the text
+pub in_text : {text here piece : List ℕ} {kind : FaultKind} {left : ℕ} (inside : List ℕ) → IsSuffix text here → chars text ≡ 91 ∷ inside → IsFaultAt (FindsInExtras (91 ∷ inside)) here kind piece left → IsFaultAt (FindsInExtras (chars text)) text kind piece left
+in_text {text} inside suffix bracket f =
+    fault_behind (FindsInExtras (91 ∷ inside)) (FindsInExtras (chars text)) suffix (λ k p b g. subst (λ (x : List ℕ). FindsInExtras x k p b) (sym bracket) g) f
+
+-- the bracket itself
+pub never_closed : {text inside piece : List ℕ} → chars text ≡ 91 ∷ chars inside → text ≡ piece ++ inside → piece ≡ encode_utf8 91 → IsCutOff (chars inside) → FindsInExtras (chars text) UnclosedBracket piece inside
+never_closed {text} {inside} {piece} bracket text_is piece_is cut =
+    let there : FindsInExtras (91 ∷ chars inside) UnclosedBracket piece inside = unclosed (ap chars (sym text_is) ∙ bracket) (piece_is ∙ encode_ascii 91 (lit< tt)) cut in
+    subst (λ (x : List ℕ). FindsInExtras x UnclosedBracket piece inside) (sym bracket) there
 
 -- ---- behind a name
-
-space_shorter : (cs : List ℕ) → length (after_space cs) ≤ length cs
-space_shorter [] = omega arith
-space_shorter (c ∷ cs) = go (is_whitespace c) (space_shorter cs)
-  where
-    go : (b : Bool) → length (after_space cs) ≤ length cs → length (cond b (after_space cs) (c ∷ cs)) ≤ length (c ∷ cs)
-    go true h = omega arith
-    go false h = omega arith
-
--- what begins with no white space
-pub trimmed_first : (c : ℕ) (cs t : List ℕ) → after_space t ≡ t → t ≡ c ∷ cs → is_whitespace c ≡ false
-trimmed_first c cs t trimmed e = go (is_whitespace c) refl
-  where
-    same : after_space (c ∷ cs) ≡ c ∷ cs
-    same = subst (λ (x : List ℕ). after_space x ≡ x) e trimmed
-
-    go : (b : Bool) → is_whitespace c ≡ b → b ≡ false
-    go true h =
-        let short = space_shorter cs in
-        let size : length (after_space cs) ≡ length (c ∷ cs) = ap length (sym (after_run-holds Space c cs h) ∙ same) in
-        absurd (omega arith)
-    go false h = refl
-
-nothing_skipped : (rest behind : List ℕ) → IsSuffix rest behind → length behind ≡ length rest → behind ≡ rest
-nothing_skipped rest behind s e =
-    let none_ : s.front ≡ [] = nil_from_length s.front (omega (arith, ap length s.joined, length-append s.front behind)) in
-    sym (s.joined ∙ ap (λ (x : List ℕ). x ++ behind) none_)
 
 pub not_eqb : (c d : ℕ) → c ≢ d → eqb c d ≡ false
 not_eqb c d h = go (eqb c d) refl
@@ -272,22 +274,33 @@ not_eqb c d h = go (eqb c d) refl
     go true e = absurd (h (eqb-true c d e))
     go false e = refl
 
--- right behind a name
-pub follows_at_once : {rest behind cs : List ℕ} {c : ℕ} → IsBehindName rest behind → chars behind ≡ c ∷ cs → c ≢ 44 → c ≢ 93 → length behind ≡ length rest
-    → (is_name_character c ≡ false) × (may_follow_extra c ≡ false)
-follows_at_once {rest} {behind} {cs} {c} b e comma bracket size =
-    let same = nothing_skipped rest behind b.suffix size in
-    let longest : after_part Name (chars behind) ≡ chars behind = subst (λ (x : List ℕ). after_part Name (chars x) ≡ chars x) (sym same) b.longest in
-    let trimmed : after_space (chars behind) ≡ chars behind = ap after_space b.behind_is ∙ trimmed_after_space (chars rest) ∙ sym b.behind_is in
-    let dark : is_whitespace c ≡ false = trimmed_first c cs (chars behind) trimmed e in
-    (longest_first Name c cs (chars behind) longest e, rw (not_eqb c 44 comma, not_eqb c 93 bracket) dark)
+-- what begins with no white space
+pub trimmed_first : (c : ℕ) (cs t : List ℕ) → after_space t ≡ t → t ≡ c ∷ cs → is_whitespace c ≡ false
+trimmed_first c cs t trimmed e = after_run-first Space c cs t trimmed e
 
-pub behind_name : (text rest behind : List ℕ) → chars rest ≡ after_part Name (chars text) → chars behind ≡ after_space (chars rest) → IsSuffix rest behind → IsBehindName rest behind
-behind_name text rest behind rest_is behind_is suffix = record {
-  longest = ap (after_part Name) rest_is ∙ part_longest Name (chars text) ∙ sym rest_is;
-  behind_is = behind_is;
-  suffix = suffix;
-}
+-- what stands behind a name and white space follows no name at once
+pub not_followed : (rest behind : List ℕ) (c : ℕ) (cs : List ℕ) → chars behind ≡ after_space (chars rest) → chars behind ≡ c ∷ cs → c ≢ 44 → c ≢ 93 → may_follow_extra c ≡ false
+not_followed rest behind c cs skipped e comma bracket =
+    let trimmed : after_space (chars behind) ≡ chars behind = ap after_space skipped ∙ trimmed_after_space (chars rest) ∙ sym skipped in
+    rw (not_eqb c 44 comma, not_eqb c 93 bracket) (trimmed_first c cs (chars behind) trimmed e)
+
+-- nothing was skipped, or white space was
+pub nothing_skipped : (rest behind : List ℕ) → IsSuffix rest behind → length behind ≡ length rest → behind ≡ rest
+nothing_skipped rest behind s e =
+    let none_ : s.front ≡ [] = nil_from_length s.front (omega (arith, ap length s.joined, length-append s.front behind)) in
+    sym (s.joined ∙ ap (λ (x : List ℕ). x ++ behind) none_)
+
+space_skipped : (t : List ℕ) → (after_space t ≡ t → ⊥) → begins_space t ≡ true
+space_skipped [] h = absurd (h refl)
+space_skipped (c ∷ cs) h = go (is_whitespace c) refl
+  where
+    go : (b : Bool) → is_whitespace c ≡ b → b ≡ true
+    go true e = refl
+    go false e = absurd (h (after_run-fails Space c cs e))
+
+pub something_skipped : (rest behind : List ℕ) → IsUtf8 rest → IsUtf8 behind → chars behind ≡ after_space (chars rest) → length behind ≢ length rest → begins_space (chars rest) ≡ true
+something_skipped rest behind utf8 behind_utf8 skipped other =
+    space_skipped (chars rest) (λ same. other (ap length (sym (encodes-chars behind behind_utf8) ∙ ap encode_utf8_all (skipped ∙ same) ∙ encodes-chars rest utf8)))
 
 -- a text that the reader of names refuses at fault is no name
 pub refused_name : (t x : List ℕ) (r : Refusal (List ℕ)) → r ≡ refusals.Fault x → IsNameRefusal t r → ¬ IsName t

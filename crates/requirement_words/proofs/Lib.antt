@@ -3,9 +3,13 @@ pub mod ClosingLaws
 pub mod ExtrasLaws
 pub mod FaultLaws
 pub mod HeadLaws
+pub mod HeadText
+pub mod KindLaws
 pub mod NameEnds
+pub mod NameText
 pub mod NamelessLaws
 pub mod OpenLaws
+pub mod PlainText
 pub mod Readings
 pub mod RunLaws
 pub mod SpecifierLaws

@@ -10,7 +10,8 @@ use Rattle.std.proofs.lemmas.List.Folds.{list_all-append}
 use Rattle.std.proofs.lemmas.Option.{slice_get-get_or}
 use Rattle.std.proofs.Math.Seq.{get_or-append_seam}
 use Rattle.std.proofs.lemmas.Str.{encodes-IsAscii, encodes-chars}
-use Rattle.pep508_names.specs.Name.{IsName, is_name_character, is_separator}
+use Rattle.pep508_text.specs.Class.{is_name_character, is_separator}
+use Rattle.pep508_names.specs.Name.{IsName}
 use Rattle.pep508_names.proofs.IdentifierLaws as identifiers
 use Rattle.requirement_words.proofs.FaultLaws.{last_of}
 
@@ -64,6 +65,7 @@ pub record EndsSeparator (run : List ℕ) : Type 0 where
   pub front : List ℕ
   pub c : ℕ
   pub joined : run ≡ front ++ (c ∷ [])
+  pub characters : chars run ≡ front ++ (c ∷ [])
   pub separator : is_separator c ≡ true
   pub ascii : c < 128
 
@@ -84,6 +86,7 @@ ends_separator run rest a utf8 begins all first_is unnamed =
       front = end.0;
       c = end.1;
       joined = joined;
+      characters = sym (run_bytes run utf8 all) ∙ joined;
       separator = go end.1 (is_ascii_alphanumeric end.1) refl (λ e. unnamed (ends_name run end.0 rest a end.1 joined here all_bytes first_is e)) holds_;
       ascii = name_byte end.1 holds_;
     }

@@ -7,7 +7,7 @@ use Rattle.pep508_urls.specs.Variables.{Expands}
 use Rattle.pep508_urls.proofs.ExtrasLaws.{extras_same}
 use Rattle.pep508_urls.proofs.VariableLaws.{expands_same}
 use Rattle.requirement_words.specs.Archive.{HasExtension, IsArchive, archive, compressed, is_archive_extension, is_compressed_extension}
-use Rattle.requirement_words.specs.Nameless.{IsNameless, IsPathOrUrl, dotted, slashed, backslashed, with_scheme, archived, WithoutExtras, cut, whole}
+use Rattle.requirement_words.specs.Nameless.{NamesNoPackage, IsPathOrUrl, dotted, slashed, backslashed, with_scheme, archived, WithoutExtras, cut, whole}
 
 -- a list is cut at a place by what stands there
 pub cut_at : (bs : List ℕ) (k c : ℕ) → k < length bs → get_or bs k 0 ≡ c → bs ≡ take k bs ++ (c ∷ drop (k + 1) bs)
@@ -107,7 +107,7 @@ without_same (whole none e) (cut {before = x} {extras = y} h f) = absurd (none x
 without_same (whole none e) (whole other f) = e ∙ sym f
 
 -- a run comes to one text
-pub comes_to : {value : List ℕ → List ℕ} {run expanded rest : List ℕ} → Expands value run expanded → WithoutExtras expanded rest → IsNameless value run → IsPathOrUrl rest
+pub comes_to : {value : List ℕ → List ℕ} {run expanded rest : List ℕ} → Expands value run expanded → WithoutExtras expanded rest → NamesNoPackage value run → IsPathOrUrl rest
 comes_to {rest = rest} expands without n =
     let same = expands_same n.expands expands in
     let here : WithoutExtras _ n.rest = subst (λ (x : List ℕ). WithoutExtras x n.rest) same n.without_extras in

@@ -5,12 +5,20 @@ use Rattle.std.specs.List.{list_all}
 use Rattle.std.proofs.lemmas.Bool.{and_from, and_parts, eqb-true, false≢true}
 use Rattle.std.proofs.lemmas.List.Folds.{list_all-append}
 use Rattle.pep508_text.specs.declared.classes.Class.TheVariants.{Space}
-use Rattle.pep508_text.specs.Run.{after_space, run_of}
-use Rattle.pep508_text.proofs.RunLaws.{run_of-after_run}
-use Rattle.requirement_words.specs.Runs.{holds, part_of, after_part}
-use Rattle.requirement_words.specs.declared.runs.Part.{Part}
-use Rattle.requirement_words.specs.Part.{is_absent, IsOpen}
-use Rattle.requirement_words.proofs.RunLaws.{part_all, part_joined}
+use Rattle.pep508_text.specs.Run.{after_space, run_of, after_run}
+use Rattle.pep508_text.proofs.RunLaws.{run_of-after_run, run_all}
+use Rattle.pep508_text.specs.Class.{holds}
+use Rattle.pep508_text.specs.declared.classes.Class.{Class}
+
+-- the character is none of the characters
+abbrev pub is_absent : ℕ → List ℕ → Bool
+is_absent c cs = list_all (λ d. not (eqb d c)) cs
+
+-- `left` is the end of a text, and before it the character does not stand
+pub record IsOpen (closing : ℕ) (inside left : List ℕ) : Type 0 where
+  pub front : List ℕ
+  pub joined : inside ≡ front ++ left
+  pub absent : is_absent closing front ≡ true
 
 pub open_start : (c : ℕ) (inside : List ℕ) → IsOpen c inside inside
 open_start c inside = record { front = []; joined = refl; absent = refl }
@@ -46,14 +54,9 @@ pub open_space : {c : ℕ} {inside left : List ℕ} → is_whitespace c ≡ fals
 open_space {c} {inside} {left} dark o =
     open_past (run_of Space left) (after_space left) o (sym (run_of-after_run Space left)) (absent_of is_whitespace c (run_of Space left) dark (space_all left))
 
-pub open_part : {c : ℕ} {inside left : List ℕ} (p : Part) → holds p c ≡ false → IsOpen c inside left → IsOpen c inside (after_part p left)
+pub open_part : {c : ℕ} {inside left : List ℕ} (p : Class) → holds p c ≡ false → IsOpen c inside left → IsOpen c inside (after_run p left)
 open_part {c} {inside} {left} p other o =
-    open_past (part_of p left) (after_part p left) o (sym (part_joined p left)) (absent_of (holds p) c (part_of p left) other (part_all p left))
+    open_past (run_of p left) (after_run p left) o (sym (run_of-after_run p left)) (absent_of (holds p) c (run_of p left) other (run_all p left))
 
 pub open_one : {c : ℕ} {inside left : List ℕ} (d : ℕ) (rest : List ℕ) → IsOpen c inside left → left ≡ d ∷ rest → eqb d c ≡ false → IsOpen c inside rest
 open_one {c} d rest o e other = open_past (d ∷ []) rest o e (and_from _ _ (ap not other) refl)
-
--- it never stands
-pub open_ended : {c : ℕ} {inside left : List ℕ} → IsOpen c inside left → left ≡ [] → is_absent c inside ≡ true
-open_ended {c} {inside} {left} o e =
-    ap (is_absent c) (o.joined ∙ ap (λ (x : List ℕ). o.front ++ x) e ∙ append-nil o.front) ∙ o.absent

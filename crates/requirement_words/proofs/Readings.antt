@@ -8,17 +8,16 @@ use Rattle.pep440_specifier.specs.Set.{is_lower}
 use Rattle.pep440_specifier.specs.Specifier.{Specifier}
 use Rattle.pep440_specifier.proofs.Texts.{one_specifier}
 use Rattle.pep508_names.proofs.NameLaws.{normal_form-unique}
-use Rattle.pep508_text.specs.Run.{after_space}
+use Rattle.pep508_text.specs.Run.{after_space, after_run}
 use Rattle.pep508_urls.proofs.ExtrasLaws.{extras_same}
 use Rattle.requirement_words.specs.Extras.{IsNameAt, Names, last, more, IsExtras, left_out, none, some}
-use Rattle.requirement_words.specs.Head.{Asked, nothing, specifiers, url, IsUrl, begins_specifier, IsBare, IsBody, IsHead}
+use Rattle.requirement_words.specs.Head.{Asked, nothing, specifiers, url, IsUrl, begins_specifier, IsBare, IsAsked, IsHead}
 use Rattle.requirement_words.specs.Head as bodies
-use Rattle.requirement_words.specs.Runs.{after_part}
 use Rattle.requirement_words.specs.Specifiers.{piece_of, Pieces, IsSetOf, IsSpecifiers}
 use Rattle.requirement_words.specs.Specifiers as pieces
 use Rattle.requirement_words.specs.Tail.{IsTail, unmarked, marked}
 use Rattle.requirement_words.specs.Unnamed.{IsCut, bare, with_extras, IsUnnamedHead}
-use Rattle.requirement_words.specs.declared.runs.Part.TheVariants as parts
+use Rattle.pep508_text.specs.declared.classes.Class.TheVariants as classes
 use Rattle.requirement_words.specs.declared.url.UrlPlace.{UrlPlace}
 use Rattle.requirement_words.proofs.Characters.{firsts, tails}
 use Rattle.requirement_words.proofs.ExtrasLaws.{closed_name, extras_rest, name_rest}
@@ -65,7 +64,7 @@ pieces_same (pieces.last x rest alone) (pieces.more y comma others) =
 pieces_same (pieces.more x comma others) (pieces.last y rest alone) =
     absurd (false≢true (sym alone ∙ ap pieces.begins_comma (sym rest ∙ comma)))
 pieces_same {end} {i} {o} (pieces.more {next = n} {s = s} {others = os} x comma h) (pieces.more {next = k} {s = t} y other g) =
-    let same : n ≡ k = tails 44 n k (after_part (parts.Specifier end) i) (after_part (parts.Specifier end) i) refl comma other in
+    let same : n ≡ k = tails 44 n k (after_run (classes.SpecifierPart end) i) (after_run (classes.SpecifierPart end) i) refl comma other in
     ap (λ (z : Specifier). z ∷ os) (one_specifier _ s t x y)
     ∙ ap (λ (l : List Specifier). t ∷ l) (pieces_same (subst (λ (z : List ℕ). Pieces end z o os) same h) g)
 
@@ -85,13 +84,13 @@ specifiers_same_and_rest end i o p set other h g = (pieces_rest h.pieces g.piece
 url_same : {place : UrlPlace} {i o p t u : List ℕ} → IsUrl place i o t → IsUrl place i p u → (o ≡ p) × (t ≡ u)
 url_same x y = (sym x.rest ∙ y.rest, x.text_is ∙ sym y.text_is)
 
-body_left_out : {i o : List ℕ} {a : Asked} → IsBare i → IsBody i o a → (i ≡ o) × (nothing ≡ a)
+body_left_out : {i o : List ℕ} {a : Asked} → IsBare i → IsAsked i o a → (i ≡ o) × (nothing ≡ a)
 body_left_out b (bodies.left_out c) = (refl, refl)
 body_left_out b (bodies.at_url {input = j} u) = absurd (differ 59 64 (bare_first b 64 j refl) (lit< tt))
 body_left_out b (bodies.bare begins s) = absurd (bare_begins b begins)
 body_left_out b (bodies.enclosed {input = j} s) = absurd (differ 40 59 (sym (bare_first b 40 j refl)) (lit< tt))
 
-body_same : {i o p : List ℕ} {a b : Asked} → IsBody i o a → IsBody i p b → (o ≡ p) × (a ≡ b)
+body_same : {i o p : List ℕ} {a b : Asked} → IsAsked i o a → IsAsked i p b → (o ≡ p) × (a ≡ b)
 body_same (bodies.left_out b) h = body_left_out b h
 body_same (bodies.at_url {input = j} u) h =
     let g = body_at j refl h in
@@ -107,7 +106,7 @@ body_same {p = p} (bodies.enclosed {input = j} {output = o} s) h =
 pub head_same : (i o p n m : List ℕ) (ns ms : List (List ℕ)) (a b : Asked) → IsHead i o n ns a → IsHead i p m ms b → (o ≡ p) × (n ≡ m) × (ns ≡ ms) × (a ≡ b)
 head_same i o p n m ns ms a b h g =
     let again : IsExtras (after_space g.after_name) h.after_extras ns = subst (λ (x : List ℕ). IsExtras (after_space x) h.after_extras ns) (name_rest h.named g.named) h.extras_are in
-    let body = body_same (subst (λ (x : List ℕ). IsBody (after_space x) o a) (extras_rest again g.extras_are) h.asks.body) g.asks.body in
+    let body = body_same (subst (λ (x : List ℕ). IsAsked (after_space x) o a) (extras_rest again g.extras_are) h.asks.asks) g.asks.asks in
     (body.0, name_same h.named g.named, extras_alike again g.extras_are, body.1)
 
 -- ---- a requirement without a name, up to its marker

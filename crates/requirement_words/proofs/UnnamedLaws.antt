@@ -17,10 +17,6 @@ use Rattle.requirement_words.specs.declared.url.UrlPlace.TheVariants.{Alone}
 use Rattle.requirement_words.proofs.ClosingLaws.{extras_end}
 use Rattle.pep508_text.proofs.Splits.{front_is_utf8}
 
--- nothing stands before what is left
-pub nothing_before : (piece rest : List ℕ) → rest ≡ piece ++ rest → piece ≡ []
-nothing_before piece rest e = nil_from_length piece (omega (arith, ap length e, length-append piece rest))
-
 -- a URL without bytes is empty
 pub empty_url : (p : UrlPlace) (place text : List ℕ) → text ≡ encode_utf8_all (url_of p 0 place) → text ≡ [] → url_of p 0 place ≡ []
 empty_url p place text text_is none = encodes_same _ _ (sym text_is ∙ none)

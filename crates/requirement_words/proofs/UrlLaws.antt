@@ -4,15 +4,14 @@ use Rattle.std.specs.Prelude.{◌&&◌, encode_utf8}
 use Rattle.std.specs.Char.{is_whitespace}
 use Rattle.std.specs.Str.{chars}
 use Rattle.std.proofs.lemmas.Bool.{and_parts, eqb-true, false≢true}
-use Rattle.pep508_text.specs.declared.classes.Class.TheVariants.{Space}
-use Rattle.pep508_text.specs.Run.{after_space}
+use Rattle.pep508_text.specs.declared.classes.Class.TheVariants.{Space, LineSpace}
+use Rattle.pep508_text.specs.Run.{after_space, run_of, after_run}
 use Rattle.pep508_text.proofs.RunLaws.{after_run-holds}
-use Rattle.requirement_words.specs.Runs.{is_line_break, holds, part_of, after_part}
-use Rattle.requirement_words.specs.declared.runs.Part.TheVariants.{Blank}
+use Rattle.pep508_text.specs.Class.{is_line_break, holds}
 use Rattle.requirement_words.specs.Url.{after_url, closes, is_url_stop, may_end_before, open_behind, stops, url_of}
 use Rattle.requirement_words.specs.declared.url.UrlPlace.{UrlPlace}
 use Rattle.requirement_words.specs.declared.url.UrlPlace.TheVariants.{BehindName, Alone}
-use Rattle.requirement_words.proofs.RunLaws.{part_holds, part_fails}
+use Rattle.requirement_words.proofs.RunLaws.{run_holds, run_fails}
 use Rattle.pep508_text.proofs.Splits.{PassedAs, Stopped, none_passed, passed_more, passed_run, stopped, stopped_behind}
 
 url_step : UrlPlace → ℕ → ℕ → List ℕ → Bool → Bool → List ℕ
@@ -99,24 +98,24 @@ not_true false e = refl
 
 -- a run of it in one line
 pub blank_goes : (p : UrlPlace) (cs : List ℕ) → is_url_stop (after_space cs) ≡ false
-    → (url_of p 0 cs ≡ part_of Blank cs ++ url_of p 0 (after_part Blank cs)) × (after_url p 0 cs ≡ after_url p 0 (after_part Blank cs))
+    → (url_of p 0 cs ≡ run_of LineSpace cs ++ url_of p 0 (after_run LineSpace cs)) × (after_url p 0 cs ≡ after_url p 0 (after_run LineSpace cs))
 blank_goes p [] stays = (refl, refl)
-blank_goes p (c ∷ cs) stays = go (holds Blank c) refl (λ later. blank_goes p cs later)
+blank_goes p (c ∷ cs) stays = go (holds LineSpace c) refl (λ later. blank_goes p cs later)
   where
-    go : (b : Bool) → holds Blank c ≡ b
-        → (is_url_stop (after_space cs) ≡ false → (url_of p 0 cs ≡ part_of Blank cs ++ url_of p 0 (after_part Blank cs)) × (after_url p 0 cs ≡ after_url p 0 (after_part Blank cs)))
-        → (url_of p 0 (c ∷ cs) ≡ part_of Blank (c ∷ cs) ++ url_of p 0 (after_part Blank (c ∷ cs))) × (after_url p 0 (c ∷ cs) ≡ after_url p 0 (after_part Blank (c ∷ cs)))
+    go : (b : Bool) → holds LineSpace c ≡ b
+        → (is_url_stop (after_space cs) ≡ false → (url_of p 0 cs ≡ run_of LineSpace cs ++ url_of p 0 (after_run LineSpace cs)) × (after_url p 0 cs ≡ after_url p 0 (after_run LineSpace cs)))
+        → (url_of p 0 (c ∷ cs) ≡ run_of LineSpace (c ∷ cs) ++ url_of p 0 (after_run LineSpace (c ∷ cs))) × (after_url p 0 (c ∷ cs) ≡ after_url p 0 (after_run LineSpace (c ∷ cs)))
     go false e again =
-        let f = part_fails Blank c cs e in
-        (sym (ap (λ (x : List ℕ). x ++ url_of p 0 (after_part Blank (c ∷ cs))) f.0 ∙ ap (url_of p 0) f.1), sym (ap (after_url p 0) f.1))
+        let f = run_fails LineSpace c cs e in
+        (sym (ap (λ (x : List ℕ). x ++ url_of p 0 (after_run LineSpace (c ∷ cs))) f.0 ∙ ap (url_of p 0) f.1), sym (ap (after_url p 0) f.1))
     go true e again =
         let parts = and_parts (is_whitespace c) (not (is_line_break c)) e in
         let here : after_space (c ∷ cs) ≡ after_space cs = after_run-holds Space c cs parts.0 in
         let later : is_url_stop (after_space cs) ≡ false = sym (ap is_url_stop here) ∙ stays in
         let step = white_goes p c cs parts.0 (not_true (is_line_break c) parts.1) later in
         let others = again later in
-        let f = part_holds Blank c cs e in (
-          step.0 ∙ ap (λ (x : List ℕ). c ∷ x) others.0 ∙ sym (ap (λ (x : List ℕ). x ++ url_of p 0 (after_part Blank (c ∷ cs))) f.0 ∙ ap (λ (x : List ℕ). (c ∷ part_of Blank cs) ++ url_of p 0 x) f.1),
+        let f = run_holds LineSpace c cs e in (
+          step.0 ∙ ap (λ (x : List ℕ). c ∷ x) others.0 ∙ sym (ap (λ (x : List ℕ). x ++ url_of p 0 (after_run LineSpace (c ∷ cs))) f.0 ∙ ap (λ (x : List ℕ). (c ∷ run_of LineSpace cs) ++ url_of p 0 x) f.1),
           step.1 ∙ others.1 ∙ sym (ap (after_url p 0) f.1),
         )
 
@@ -159,7 +158,7 @@ going_more p text rest after n m c utf8 going same_line dark goes bytes characte
 pub going_white : (p : UrlPlace) (text rest after run behind : List ℕ) (n c : ℕ) → IsUtf8 text → Going p text rest n
     → is_line_break c ≡ false → may_end_before n c ≡ true → is_url_stop (after_space (chars after)) ≡ false
     → rest ≡ encode_utf8 c ++ after → chars rest ≡ c ∷ chars after → length after < length rest
-    → after ≡ run ++ behind → IsUtf8 behind → chars run ≡ part_of Blank (chars after) → chars behind ≡ after_part Blank (chars after) → length behind ≤ length after
+    → after ≡ run ++ behind → IsUtf8 behind → chars run ≡ run_of LineSpace (chars after) → chars behind ≡ after_run LineSpace (chars after) → length behind ≤ length after
     → Going p text behind n
 going_white p text rest after run behind n c utf8 going same_line may stays bytes characters shorter joined behind_utf8 run_is behind_is no_longer =
     let parts = and_parts (eqb n 0) (is_whitespace c) may in
@@ -169,7 +168,7 @@ going_white p text rest after run behind n c utf8 going same_line may stays byte
     let blank = blank_goes p (chars after) stays in
     let one = passed_more (url_of p 0) (after_url p 0) (url_of p 0) (after_url p 0) (url_of p 0) (after_url p 0) text rest after c utf8 here.passed bytes characters step.0 step.1 in
     let all = passed_run (url_of p 0) (after_url p 0) (url_of p 0) (after_url p 0) (url_of p 0) (after_url p 0) text after run behind utf8 one joined behind_utf8
-    (blank.0 ∙ ap (λ (x : List ℕ). x ++ url_of p 0 (after_part Blank (chars after))) (sym run_is) ∙ ap (λ (x : List ℕ). chars run ++ url_of p 0 x) (sym behind_is))
+    (blank.0 ∙ ap (λ (x : List ℕ). x ++ url_of p 0 (after_run LineSpace (chars after))) (sym run_is) ∙ ap (λ (x : List ℕ). chars run ++ url_of p 0 x) (sym behind_is))
     (blank.1 ∙ ap (after_url p 0) (sym behind_is)) in
     let room = here.room in
     subst (Going p text behind) (sym none) (record { passed = all; room = fits (length rest) (length after) (length behind) (length text) shorter no_longer room })

@@ -2,15 +2,18 @@
 -- before a part to what is left behind it; texts are lists of characters, and names are bytes in
 -- their normal form.
 use Rattle.std.specs.Prelude.{◌≡◌, ℕ, Bool, false, List, [], ◌∷◌, ◌==◌, encode_utf8_all}
-use Rattle.pep508_text.specs.Run.{after_space}
+use Rattle.pep508_text.specs.Run.{after_space, run_of, after_run}
 use Rattle.pep508_names.specs.Name.{NormalizesTo}
-use Rattle.requirement_words.specs.Runs.{part_of, after_part}
-use Rattle.requirement_words.specs.declared.runs.Part.TheVariants.{Name}
+use Rattle.pep508_text.specs.declared.classes.Class.TheVariants.{NamePart}
 
 -- the longest run of letters, digits, `-`, `_` and `.` is a name
 pub record IsNameAt (input output n : List ℕ) : Type 0 where
-  pub name : NormalizesTo (encode_utf8_all (part_of Name input)) n
-  pub rest : after_part Name input ≡ output
+  pub name : NormalizesTo (encode_utf8_all (run_of NamePart input)) n
+  pub rest : after_run NamePart input ≡ output
+
+-- no name stands there
+abbrev pub HasNoName : List ℕ → Type 0
+HasNoName input = (output n : List ℕ) → ¬ IsNameAt input output n
 
 -- Names with a comma between each two, up to the bracket behind the last, and any white space
 -- around each. 44 is `,` and 93 is `]`.
@@ -31,3 +34,12 @@ pub data IsExtras : List ℕ → List ℕ → List (List ℕ) → Type 0 where
       → IsExtras (91 ∷ input) output []
   some : {input output : List ℕ} {ns : List (List ℕ)} → Names input output ns
       → IsExtras (91 ∷ input) output ns
+
+-- no extras stand there
+abbrev pub HasNoExtras : List ℕ → Type 0
+HasNoExtras input = (output : List ℕ) (names : List (List ℕ)) → ¬ IsExtras input output names
+
+-- a text has one reading as extras: their names, and where they end
+abbrev pub ExtrasAreUnique : Type 0
+ExtrasAreUnique = (text rest left : List ℕ) (names others : List (List ℕ))
+    → IsExtras text rest names → IsExtras text left others → (rest ≡ left) × (names ≡ others)

@@ -1,32 +1,155 @@
--- What is wrong with a text that begins with no requirement. Texts are lists of bytes.
-use Rattle.std.specs.Prelude.{◌≡◌, ℕ, ⊤, Bool, true, false, List, [], ◌∷◌, ◌++◌, ◌||◌, ◌==◌, ◌⊎◌, encode_utf8_all}
-use Rattle.std.specs.Char.{is_ascii_alphanumeric}
+-- What is wrong with a text in which the words of requirements are not found, and where. Each
+-- relation says when a kind of fault is true: `piece` stands at its place, and `back` from there to
+-- the end of the text, both as bytes; what is left of a text before it is a list of characters.
+use Rattle.std.specs.Prelude.{◌≡◌, ◌≢◌, ℕ, ⊤, Bool, true, false, not, List, [], ◌∷◌, ◌++◌, ◌||◌, ◌==◌, ◌⊎◌, encode_utf8, encode_utf8_all}
+use Rattle.std.specs.Char.{is_ascii_alphanumeric, is_whitespace}
 use Rattle.std.specs.Str.{chars}
-use Rattle.pep508_names.specs.Name.{is_separator}
-use Rattle.pep508_text.specs.Class.{is_comparison}
-use Rattle.pep508_text.specs.Run.{after_space, run_of}
+use Rattle.refusal.specs.declared.Refusal.{Refusal}
+use Rattle.refusal.specs.declared.Refusal.TheVariants as refusals
+use Rattle.pep440_specifier.specs.Fault.{IsToldOf}
+use Rattle.pep440_specifier.specs.Grammar.{IsSpecifierText}
+use Rattle.pep440_specifier.specs.Specifier as specifiers
+use Rattle.pep440_specifier.specs.declared.error.VersionSpecifierError.{VersionSpecifierError}
+use Rattle.pep508_text.specs.Class.{is_comparison, is_separator}
+use Rattle.pep508_text.specs.Run.{after_run, after_space, run_of}
 use Rattle.pep508_text.specs.Suffix.{IsPiece}
-use Rattle.pep508_text.specs.declared.classes.Class.TheVariants.{NotSpace}
+use Rattle.pep508_text.specs.declared.classes.Class.TheVariants.{NamePart, NotSpace}
+use Rattle.pep508_urls.specs.Extras.{SplitsExtras}
 use Rattle.requirement_words.specs.Archive.{IsArchive}
-use Rattle.requirement_words.specs.Extras.{IsNameAt, IsExtras}
-use Rattle.requirement_words.specs.Head.{IsBare, written_name}
-use Rattle.requirement_words.specs.Nameless.{IsNameless}
-use Rattle.requirement_words.specs.Part.{Finds, IsOne}
-use Rattle.requirement_words.specs.Runs.{after_part}
-use Rattle.requirement_words.specs.declared.runs.Part.TheVariants.{Name}
+use Rattle.requirement_words.specs.Extras.{HasNoExtras, HasNoName, IsNameAt, IsExtras}
+use Rattle.requirement_words.specs.Head.{begins_specifier, HasNoAsked, HasNoAskedIn, HasNoHead, IsBare, IsUrl, written_name}
+use Rattle.requirement_words.specs.Nameless.{NamesNoPackage}
+use Rattle.requirement_words.specs.Specifiers.{HasNoSpecifiers, piece_of, after_piece}
+use Rattle.requirement_words.specs.Unnamed.{HasNoUnnamedHead}
+use Rattle.requirement_words.specs.Url.{begins_space, url_of}
+use Rattle.requirement_words.specs.declared.url.UrlPlace.TheVariants.{Alone, BehindName}
 use Rattle.requirement_words.specs.declared.fault.Fault.{Fault}
 use Rattle.requirement_words.specs.declared.fault.FaultKind.{FaultKind}
 use Rattle.requirement_words.specs.declared.fault.FaultKind.TheVariants.{Blank, NoName, NameEnd, NoBody, LeadingComma, NoSeparator, NoExtra, InvalidExtra, ExtraEnd, UnclosedBracket, UnclosedParenthesis, Specifier, NoUrl, AmbiguousEnd, Trailing, PathWithoutName, UrlWithoutName, ArchiveWithoutName}
 
--- the run without white space at the place of the name
-abbrev pub run_at_name : List ℕ → List ℕ
-run_at_name text = encode_utf8_all (run_of NotSpace (after_space (chars text)))
+-- the piece begins where this is left of the text
+abbrev pub IsHere : List ℕ → List ℕ → List ℕ → Type 0
+IsHere left piece back = chars (piece ++ back) ≡ left
+
+-- the piece is one character, of which this holds
+pub record IsCharacter (piece : List ℕ) (P : ℕ → Type 0) : Type 0 where
+  pub c : ℕ
+  pub is : piece ≡ encode_utf8 c
+  pub holds : P c
 
 abbrev pub begins_name : List ℕ → Bool
 begins_name [] = false
 begins_name (c ∷ cs) = is_ascii_alphanumeric c
 
--- what may stand behind a name and its extras: `@` (64), `(` (40), a specifier, or `;` (59)
+-- what begins as a name ends with a separator, and the piece is this one
+pub record EndsNoName (here piece : List ℕ) : Type 0 where
+  pub front : List ℕ
+  pub c : ℕ
+  pub begins : begins_name here ≡ true
+  pub ends : run_of NamePart here ≡ front ++ c ∷ []
+  pub is : piece ≡ encode_utf8 c
+  pub separator : is_separator c ≡ true
+
+-- ---- extras: 44 is `,`, 91 and 93 are the brackets
+
+-- behind the bracket stand these names, each with a comma behind it, and another may stand here
+pub data Listed (inside : List ℕ) : List (List ℕ) → List ℕ → Type 0 where
+  none : Listed inside [] (after_space inside)
+  more : {names : List (List ℕ)} {here rest next n : List ℕ} → Listed inside names here
+      → IsNameAt here rest n → after_space rest ≡ 44 ∷ next
+      → Listed inside (names ++ n ∷ []) (after_space next)
+
+-- no name begins with the character, and right behind the bracket it is no comma and no bracket
+pub record BeginsNoExtra (names : List (List ℕ)) (c : ℕ) : Type 0 where
+  pub no_letter : is_ascii_alphanumeric c ≡ false
+  pub no_comma : names ≡ [] → c ≢ 44
+  pub no_bracket : names ≡ [] → c ≢ 93
+
+-- what may follow the name of an extra: a comma, the bracket or white space
+abbrev pub may_follow_extra : ℕ → Bool
+may_follow_extra c = c == 44 || (c == 93 || is_whitespace c)
+
+-- that, or the end of the text
+abbrev pub ends_extra : List ℕ → Bool
+ends_extra [] = true
+ends_extra (c ∷ cs) = may_follow_extra c
+
+-- the text ends before a name, or behind one
+pub data IsCutOff (inside : List ℕ) : Type 0 where
+  before_name : {names : List (List ℕ)} {here : List ℕ} → Listed inside names here → here ≡ []
+      → IsCutOff inside
+  behind_name : {names : List (List ℕ)} {here rest n : List ℕ} → Listed inside names here
+      → IsNameAt here rest n → after_space rest ≡ [] → IsCutOff inside
+
+-- what is wrong with extras in brackets
+pub data FindsInExtras : List ℕ → FaultKind → List ℕ → List ℕ → Type 0 where
+  -- a comma stands first
+  leading_comma : {inside piece back : List ℕ} → IsHere (after_space inside) piece back
+      → piece ≡ 44 ∷ [] → FindsInExtras (91 ∷ inside) LeadingComma piece back
+  -- a name may stand here, and another character does
+  no_extra : {inside here piece back : List ℕ} {names : List (List ℕ)} → Listed inside names here
+      → IsHere here piece back → IsCharacter piece (BeginsNoExtra names)
+      → FindsInExtras (91 ∷ inside) NoExtra piece back
+  -- another character stands right behind those of a name
+  invalid_extra : {inside here piece back : List ℕ} {names : List (List ℕ)}
+      → Listed inside names here → begins_name here ≡ true
+      → IsHere (after_run NamePart here) piece back
+      → IsCharacter piece (λ c. may_follow_extra c ≡ false)
+      → FindsInExtras (91 ∷ inside) InvalidExtra piece back
+  -- a separator is the last of them
+  extra_end : {inside here piece back : List ℕ} {names : List (List ℕ)}
+      → Listed inside names here → EndsNoName here piece → chars back ≡ after_run NamePart here
+      → ends_extra (chars back) ≡ true → FindsInExtras (91 ∷ inside) ExtraEnd piece back
+  -- behind a name and white space stands neither a comma nor the bracket
+  no_separator : {inside here rest n piece back : List ℕ} {names : List (List ℕ)}
+      → Listed inside names here → IsNameAt here rest n → begins_space rest ≡ true
+      → IsHere (after_space rest) piece back → IsCharacter piece (λ c. (c ≢ 44) × (c ≢ 93))
+      → FindsInExtras (91 ∷ inside) NoSeparator piece back
+  -- the bracket is never closed
+  unclosed : {inside piece back : List ℕ} → IsHere (91 ∷ inside) piece back → piece ≡ 91 ∷ []
+      → IsCutOff inside → FindsInExtras (91 ∷ inside) UnclosedBracket piece back
+
+-- ---- what is asked: 40 and 41 are the parentheses, 64 is `@`, 59 is `;`
+
+-- specifiers stand at the front of a text, each with a comma behind it, and then this is left
+pub data Preceded (end : ℕ) (input : List ℕ) : List ℕ → Type 0 where
+  none : Preceded end input input
+  more : {left next : List ℕ} {s : specifiers.Specifier} → Preceded end input left
+      → IsSpecifierText (piece_of end left) s → after_piece end left ≡ 44 ∷ next
+      → Preceded end input next
+
+-- a piece between commas is no specifier, and this is what is wrong with it
+pub data FindsInSpecifiers (end : ℕ) (input : List ℕ) : FaultKind → List ℕ → List ℕ → Type 0 where
+  no_specifier : {left piece back : List ℕ} {error : VersionSpecifierError}
+      → Preceded end input left → IsHere left piece back → piece ≡ piece_of end left
+      → ((s : specifiers.Specifier) → ¬ IsSpecifierText piece s) → IsToldOf error piece
+      → FindsInSpecifiers end input (Specifier error) piece back
+
+-- what is wrong with what is asked
+pub data FindsInAsked : List ℕ → FaultKind → List ℕ → List ℕ → Type 0 where
+  -- no URL stands behind `@`
+  no_url : {behind piece back : List ℕ} → IsHere (after_space behind) piece back → piece ≡ []
+      → url_of BehindName 0 (after_space behind) ≡ []
+      → FindsInAsked (64 ∷ behind) NoUrl piece back
+  -- the parenthesis is never closed: the last piece goes on to the end of the text
+  unclosed : {behind left piece back : List ℕ} → IsHere (40 ∷ behind) piece back
+      → piece ≡ 40 ∷ [] → Preceded 41 (after_space behind) left → after_piece 41 left ≡ []
+      → FindsInAsked (40 ∷ behind) UnclosedParenthesis piece back
+  -- a specifier in parentheses, which ends before the text does
+  enclosed : {behind piece back : List ℕ} {kind : FaultKind}
+      → FindsInSpecifiers 41 (after_space behind) kind piece back → back ≢ []
+      → FindsInAsked (40 ∷ behind) kind piece back
+  -- a specifier without them
+  bare : {input piece back : List ℕ} {kind : FaultKind} → begins_specifier input ≡ true
+      → FindsInSpecifiers 59 input kind piece back → FindsInAsked input kind piece back
+
+-- ---- the whole, up to its marker
+
+-- the run without white space at the place of the name
+abbrev pub run_at_name : List ℕ → List ℕ
+run_at_name text = encode_utf8_all (run_of NotSpace (after_space (chars text)))
+
+-- what may stand behind a name and its extras: `@`, `(`, a specifier, or `;`
 abbrev pub may_follow_name : ℕ → Bool
 may_follow_name c = c == 64 || (c == 40 || (c == 59 || is_comparison c))
 
@@ -47,49 +170,149 @@ pub record IsBroken (text : List ℕ) : Type 0 where
   pub behind : IsBehindExtras text (c ∷ others)
   pub no_body : may_follow_name c ≡ false
 
--- the piece and what follows it stand at the place of the name
-abbrev pub IsAtName : List ℕ → List ℕ → List ℕ → Type 0
-IsAtName text piece back = chars (piece ++ back) ≡ after_space (chars text)
+-- what is wrong with a requirement up to its marker; `value` is what variables stand for
+pub data FindsInHead (value : List ℕ → List ℕ) (text : List ℕ)
+    : FaultKind → List ℕ → List ℕ → Type 0 where
+  -- nothing but white space: its first character, or the end of an empty text
+  blank : {piece back : List ℕ} → after_space (chars text) ≡ [] → text ≡ piece ++ back
+      → (text ≡ []) ⊎ IsCharacter piece (λ c. ⊤) → FindsInHead value text Blank piece back
+  -- another character stands in place of a name, and no path or URL
+  no_name : {piece back : List ℕ} → IsHere (after_space (chars text)) piece back
+      → IsCharacter piece (λ c. is_ascii_alphanumeric c ≡ false)
+      → ¬ NamesNoPackage value (run_at_name text) → FindsInHead value text NoName piece back
+  -- a path or URL that no name begins stands in its place
+  unnamed_path : {piece back : List ℕ} → IsHere (after_space (chars text)) piece back
+      → piece ≡ run_at_name text → NamesNoPackage value piece
+      → begins_name (after_space (chars text)) ≡ false
+      → FindsInHead value text PathWithoutName piece back
+  -- a separator stands last of the characters of the name
+  name_end : {piece back : List ℕ} → EndsNoName (after_space (chars text)) piece
+      → chars back ≡ after_run NamePart (after_space (chars text))
+      → FindsInHead value text NameEnd piece back
+  -- the extras behind the name
+  extras : {after_name name piece back : List ℕ} {kind : FaultKind}
+      → IsNameAt (after_space (chars text)) after_name name
+      → FindsInExtras (after_space after_name) kind piece back
+      → FindsInHead value text kind piece back
+  -- another character stands behind the name and the extras, and all is no path or URL
+  no_body : {piece back : List ℕ} → IsBehindExtras text (chars (piece ++ back))
+      → IsCharacter piece (λ c. may_follow_name c ≡ false)
+      → ¬ NamesNoPackage value (run_at_name text) → FindsInHead value text NoBody piece back
+  -- it is one
+  unnamed_url : {piece back : List ℕ} → IsHere (after_space (chars text)) piece back
+      → piece ≡ run_at_name text → NamesNoPackage value piece → IsBroken text
+      → FindsInHead value text UrlWithoutName piece back
+  -- the name is that of an archive, and nothing is asked
+  unnamed_archive : {behind piece back : List ℕ} → IsHere (after_space (chars text)) piece back
+      → piece ≡ written_name (chars text) → IsArchive piece → IsBehindExtras text behind
+      → IsBare behind → FindsInHead value text ArchiveWithoutName piece back
+  -- what is asked behind the name and the extras
+  asked : {behind piece back : List ℕ} {kind : FaultKind} → IsBehindExtras text behind
+      → FindsInAsked behind kind piece back → FindsInHead value text kind piece back
 
--- What was found in the text at a fault of this kind: the piece, and `back` from its end to the end
--- of the text. `value` is what variables stand for.
-abbrev pub Holds : (List ℕ → List ℕ) → FaultKind → List ℕ → List ℕ → List ℕ → Type 0
-Holds value Blank text piece back = (after_space (chars text) ≡ []) × (text ≡ piece ++ back)
-    × ((text ≡ []) ⊎ IsOne piece (λ c. ⊤))
-Holds value NoName text piece back = IsAtName text piece back
-    × IsOne piece (λ c. is_ascii_alphanumeric c ≡ false) × ¬ IsNameless value (run_at_name text)
--- the last character of the run of a name's characters at its place
-Holds value NameEnd text piece back = IsOne piece (λ c. is_separator c ≡ true)
-    × (chars back ≡ after_part Name (after_space (chars text)))
-    × (begins_name (after_space (chars text)) ≡ true)
-Holds value NoBody text piece back = IsBehindExtras text (chars (piece ++ back))
-    × IsOne piece (λ c. may_follow_name c ≡ false) × ¬ IsNameless value (run_at_name text)
-Holds value PathWithoutName text piece back = IsAtName text piece back × (piece ≡ run_at_name text)
-    × IsNameless value piece × (begins_name (after_space (chars text)) ≡ false)
-Holds value UrlWithoutName text piece back = IsAtName text piece back × (piece ≡ run_at_name text)
-    × IsNameless value piece × IsBroken text
-Holds value ArchiveWithoutName text piece back = IsAtName text piece back
-    × (piece ≡ written_name (chars text)) × IsArchive piece
-    × ((behind : List ℕ) × IsBehindExtras text behind × IsBare behind)
--- faults of parts
-Holds value LeadingComma text piece back = Finds LeadingComma piece back
-Holds value NoSeparator text piece back = Finds NoSeparator piece back
-Holds value NoExtra text piece back = Finds NoExtra piece back
-Holds value InvalidExtra text piece back = Finds InvalidExtra piece back
-Holds value ExtraEnd text piece back = Finds ExtraEnd piece back
-Holds value UnclosedBracket text piece back = Finds UnclosedBracket piece back
-Holds value UnclosedParenthesis text piece back = Finds UnclosedParenthesis piece back
-Holds value (Specifier error) text piece back = Finds (Specifier error) piece back
-Holds value NoUrl text piece back = Finds NoUrl piece back
-Holds value AmbiguousEnd text piece back = Finds AmbiguousEnd piece back
-Holds value Trailing text piece back = Finds Trailing piece back
+-- what is wrong with a requirement without a name, up to its marker
+pub data FindsInUnnamed (text : List ℕ) : FaultKind → List ℕ → List ℕ → Type 0 where
+  -- no URL stands there
+  no_url : {piece back : List ℕ} → IsHere (after_space (chars text)) piece back → piece ≡ []
+      → url_of Alone 0 (after_space (chars text)) ≡ [] → FindsInUnnamed text NoUrl piece back
+  -- the extras at the end of the URL
+  extras : {given url written rest piece back : List ℕ} {kind : FaultKind}
+      → IsUrl Alone (after_space (chars text)) rest given → SplitsExtras given url written
+      → FindsInExtras (chars written ++ rest) kind piece back
+      → FindsInUnnamed text kind piece back
 
--- a fault of this kind stands in the text
-pub record IsFaultAt (value : List ℕ → List ℕ) (text : List ℕ) (kind : FaultKind)
-    (piece : List ℕ) (left : ℕ) : Type 0 where
+-- ---- its end: 35 is `#`
+
+-- white space, and then neither the end nor the marker's `;`
+abbrev pub goes_on : List ℕ → Bool
+goes_on [] = false
+goes_on (c ∷ cs) = not (c == 59)
+
+-- the text ends with the character
+pub record EndsWithMark (text piece : List ℕ) : Type 0 where
+  pub front : List ℕ
+  pub joined : text ≡ front ++ piece
+  pub mark : (piece ≡ 59 ∷ []) ⊎ (piece ≡ 35 ∷ [])
+
+-- what is wrong with `rest` behind a URL, as it is written
+pub data FindsInTail (url rest : List ℕ) : FaultKind → List ℕ → List ℕ → Type 0 where
+  -- the URL ends with `;` or `#`, and no marker follows
+  ambiguous : {piece back : List ℕ} → EndsWithMark url piece → back ≡ rest
+      → goes_on (after_space (chars rest)) ≡ true → FindsInTail url rest AmbiguousEnd piece back
+  -- another character stands where the text ends, or its marker begins
+  trailing : {piece back : List ℕ} → IsHere (after_space (chars rest)) piece back
+      → IsCharacter piece (λ c. c ≢ 59) → ((mark : List ℕ) → ¬ EndsWithMark url mark)
+      → FindsInTail url rest Trailing piece back
+
+-- ---- faults of a text
+
+-- a fault of this kind stands in the text, and this is found there
+pub record IsFaultAt (Finds : FaultKind → List ℕ → List ℕ → Type 0) (text : List ℕ)
+    (kind : FaultKind) (piece : List ℕ) (left : ℕ) : Type 0 where
   pub place : IsPiece text piece left
-  pub found : Holds value kind text piece place.back
+  pub found : Finds kind piece place.back
 
--- the fault is one of this text
+abbrev pub IsFaultBy : (FaultKind → List ℕ → List ℕ → Type 0) → List ℕ → Fault → Type 0
+IsFaultBy Finds text fault = IsFaultAt Finds text fault.kind fault.place.piece.now fault.place.left
+
+-- the fault is one of the extras in brackets at the front of the text
+abbrev pub IsExtrasFault : List ℕ → Fault → Type 0
+IsExtrasFault text = IsFaultBy (FindsInExtras (chars text)) text
+
+-- of the specifiers at its front
+abbrev pub IsSpecifiersFault : ℕ → List ℕ → Fault → Type 0
+IsSpecifiersFault end text = IsFaultBy (FindsInSpecifiers end (chars text)) text
+
+-- of what is asked at its front
+abbrev pub IsAskedFault : List ℕ → Fault → Type 0
+IsAskedFault text = IsFaultBy (FindsInAsked (chars text)) text
+
+-- of the requirement that it begins with, up to its marker
 abbrev pub IsFault : (List ℕ → List ℕ) → List ℕ → Fault → Type 0
-IsFault value text fault = IsFaultAt value text fault.kind fault.piece.now fault.left
+IsFault value text = IsFaultBy (FindsInHead value text) text
+
+-- of the requirement without a name
+abbrev pub IsUnnamedFault : List ℕ → Fault → Type 0
+IsUnnamedFault text = IsFaultBy (FindsInUnnamed text) text
+
+-- of the end of a requirement
+abbrev pub IsTailFault : List ℕ → List ℕ → Fault → Type 0
+IsTailFault url rest = IsFaultBy (FindsInTail url rest) (url ++ rest)
+
+-- ---- refusals
+
+-- memory ran out, or the text has such a fault, and then this holds
+abbrev pub IsRefused : (Fault → Type 0) → Type 0 → Refusal Fault → Type 0
+IsRefused IsFaulty P refusals.OutOfMemory = ⊤
+IsRefused IsFaulty P refusals.SegmentAtEnd = ⊥
+IsRefused IsFaulty P (refusals.Fault fault) = IsFaulty fault × P
+
+-- the text begins with no extras
+abbrev pub RefusesExtras : List ℕ → Refusal Fault → Type 0
+RefusesExtras text = IsRefused (IsExtrasFault text) (HasNoExtras (chars text))
+
+-- with no specifiers
+abbrev pub RefusesSpecifiers : ℕ → List ℕ → Refusal Fault → Type 0
+RefusesSpecifiers end text =
+    IsRefused (IsSpecifiersFault end text) (HasNoSpecifiers end (chars text))
+
+-- with nothing that a requirement may ask
+abbrev pub RefusesAsked : List ℕ → Refusal Fault → Type 0
+RefusesAsked text = IsRefused (IsAskedFault text) (HasNoAsked (chars text))
+
+-- with no name
+abbrev pub RefusesName : (List ℕ → List ℕ) → List ℕ → Refusal Fault → Type 0
+RefusesName value text = IsRefused (IsFault value text) (HasNoName (after_space (chars text)))
+
+-- with a name and extras, behind which nothing stands that it may ask
+abbrev pub RefusesAskedIn : (List ℕ → List ℕ) → List ℕ → List ℕ → Refusal Fault → Type 0
+RefusesAskedIn value text behind =
+    IsRefused (IsFault value text) (HasNoAskedIn (chars text) (chars behind))
+
+-- with no requirement
+abbrev pub RefusesHead : (List ℕ → List ℕ) → List ℕ → Refusal Fault → Type 0
+RefusesHead value text = IsRefused (IsFault value text) (HasNoHead (chars text))
+
+-- with no requirement without a name
+abbrev pub RefusesUnnamed : List ℕ → Refusal Fault → Type 0
+RefusesUnnamed text = IsRefused (IsUnnamedFault text) (HasNoUnnamedHead (chars text))

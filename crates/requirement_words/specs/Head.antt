@@ -1,18 +1,20 @@
 -- A requirement up to its marker: a name, extras, and version specifiers, a URL, or neither (PEP
 -- 508, "Grammar"). Each relation goes from what is left of the text before a part to what is left
 -- behind it; texts are lists of characters.
-use Rattle.std.specs.Prelude.{◌≡◌, ◌≢◌, ℕ, Bool, true, false, List, [], ◌∷◌, encode_utf8_all}
+use Rattle.std.specs.Prelude.{◌≡◌, ◌≢◌, ℕ, Bool, true, false, List, [], ◌∷◌, ◌++◌, encode_utf8_all}
+use Rattle.std.specs.Str.{chars}
 use Rattle.pep508_text.specs.Class.{is_comparison}
-use Rattle.pep508_text.specs.Run.{after_space}
+use Rattle.pep508_text.specs.Suffix.{IsSuffix}
+use Rattle.pep508_text.specs.Run.{after_space, run_of}
 use Rattle.pep440_specifier.specs.Specifier.{Specifier}
 use Rattle.requirement_words.specs.Archive.{IsArchive}
 use Rattle.requirement_words.specs.Extras.{IsNameAt, IsExtras}
-use Rattle.requirement_words.specs.Runs.{part_of}
 use Rattle.requirement_words.specs.Specifiers.{IsSpecifiers}
 use Rattle.requirement_words.specs.Url.{url_of, after_url}
-use Rattle.requirement_words.specs.declared.head.Body.{Body}
-use Rattle.requirement_words.specs.declared.head.Body.TheVariants as bodies
-use Rattle.requirement_words.specs.declared.runs.Part.TheVariants.{Name}
+use Rattle.requirement_words.specs.declared.head.Asked as declared
+use Rattle.requirement_words.specs.declared.head.Head as declared_head
+use Rattle.requirement_words.specs.declared.head.Asked.TheVariants as variants
+use Rattle.pep508_text.specs.declared.classes.Class.TheVariants.{NamePart}
 use Rattle.requirement_words.specs.declared.url.UrlPlace.{UrlPlace}
 use Rattle.requirement_words.specs.declared.url.UrlPlace.TheVariants.{BehindName}
 
@@ -22,10 +24,10 @@ pub data Asked : Type 0 where
   specifiers : List Specifier → Asked
   url : List ℕ → Asked
 
-abbrev pub asked_of : Body → Asked
-asked_of bodies.Nothing = nothing
-asked_of (bodies.Specifiers set) = specifiers set
-asked_of (bodies.Url text) = url text.now
+abbrev pub asked_of : declared.Asked → Asked
+asked_of variants.Nothing = nothing
+asked_of (variants.Specifiers set) = specifiers set
+asked_of (variants.Url text) = url text.now
 
 -- the text of a URL, which is not empty
 pub record IsUrl (place : UrlPlace) (input output text : List ℕ) : Type 0 where
@@ -43,27 +45,27 @@ pub data IsBare : List ℕ → Type 0 where
   marked : {output : List ℕ} → IsBare (59 ∷ output)
 
 -- 64 is `@`; 40 and 41 are the parentheses
-pub data IsBody : List ℕ → List ℕ → Asked → Type 0 where
-  left_out : {input : List ℕ} → IsBare input → IsBody input input nothing
+pub data IsAsked : List ℕ → List ℕ → Asked → Type 0 where
+  left_out : {input : List ℕ} → IsBare input → IsAsked input input nothing
   at_url : {input output text : List ℕ} → IsUrl BehindName (after_space input) output text
-      → IsBody (64 ∷ input) output (url text)
+      → IsAsked (64 ∷ input) output (url text)
   bare : {input output : List ℕ} {set : List Specifier} → begins_specifier input ≡ true
-      → IsSpecifiers 59 input output set → IsBody input output (specifiers set)
+      → IsSpecifiers 59 input output set → IsAsked input output (specifiers set)
   enclosed : {input output : List ℕ} {set : List Specifier}
       → IsSpecifiers 41 (after_space input) (41 ∷ output) set
-      → IsBody (40 ∷ input) output (specifiers set)
+      → IsAsked (40 ∷ input) output (specifiers set)
 
 -- the name at the front of a text, behind white space, as it is written
 abbrev pub written_name : List ℕ → List ℕ
-written_name input = encode_utf8_all (part_of Name (after_space input))
+written_name input = encode_utf8_all (run_of NamePart (after_space input))
 
--- a body is read behind the name and the extras of a text; where nothing is asked, the name as it
--- is written is none of an archive
+-- this is asked behind the name and the extras of a text; where nothing is, the name as it is
+-- written is none of an archive
 pub record IsAskedIn (text behind output : List ℕ) (asked : Asked) : Type 0 where
-  pub body : IsBody behind output asked
+  pub asks : IsAsked behind output asked
   pub no_archive : asked ≡ nothing → ¬ IsArchive (written_name text)
 
--- a name, extras and a body, with any white space before each
+-- a name, extras and what is asked, with any white space before each
 pub record IsHead (input output : List ℕ) (name : List ℕ) (extras : List (List ℕ)) (asked : Asked)
     : Type 0 where
   pub after_name : List ℕ
@@ -71,3 +73,32 @@ pub record IsHead (input output : List ℕ) (name : List ℕ) (extras : List (Li
   pub named : IsNameAt (after_space input) after_name name
   pub extras_are : IsExtras (after_space after_name) after_extras extras
   pub asks : IsAskedIn input (after_space after_extras) output asked
+
+-- what stands there is nothing that a requirement may ask
+abbrev pub HasNoAsked : List ℕ → Type 0
+HasNoAsked input = (output : List ℕ) (asked : Asked) → ¬ IsAsked input output asked
+
+abbrev pub HasNoAskedIn : List ℕ → List ℕ → Type 0
+HasNoAskedIn text behind = (output : List ℕ) (asked : Asked) → ¬ IsAskedIn text behind output asked
+
+-- no requirement begins there
+abbrev pub HasNoHead : List ℕ → Type 0
+HasNoHead input = (output name : List ℕ) (extras : List (List ℕ)) (asked : Asked)
+    → ¬ IsHead input output name extras asked
+
+-- a URL that is asked stands in the text, as bytes, right before what is left
+abbrev pub IsPlaced : List ℕ → Asked → List ℕ → Type 0
+IsPlaced text asked rest = (piece : List ℕ) → asked ≡ url piece → IsSuffix text (piece ++ rest)
+
+-- the text begins with the requirement, and `rest` follows it
+abbrev pub IsHeadOf : List ℕ → declared_head.Head → List ℕ → Type 0
+IsHeadOf text head rest =
+    IsHead (chars text) (chars rest) head.name head.extras.items (asked_of head.asked)
+
+-- a text has one reading as a requirement: its name, its extras, what is asked, and where its
+-- marker begins
+abbrev pub HeadIsUnique : Type 0
+HeadIsUnique = (text rest left name other : List ℕ) (extras others : List (List ℕ))
+    (asked wanted : Asked)
+    → IsHead text rest name extras asked → IsHead text left other others wanted
+    → (rest ≡ left) × (name ≡ other) × (extras ≡ others) × (asked ≡ wanted)

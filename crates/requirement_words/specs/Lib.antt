@@ -4,9 +4,8 @@ pub mod Fault
 pub mod Head
 pub mod Message
 pub mod Nameless
-pub mod Part
-pub mod Runs
 pub mod Specifiers
 pub mod Tail
+pub mod Text
 pub mod Unnamed
 pub mod Url

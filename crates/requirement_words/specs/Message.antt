@@ -1,7 +1,6 @@
 -- What is said of the faults of requirements. Messages and pieces are lists of bytes.
-use Rattle.std.specs.Prelude.{ℕ, ◌==◌, Bool, true, false, List, ◌++◌, Option, Some, length, codes, if◌then◌else◌}
+use Rattle.std.specs.Prelude.{ℕ, Bool, true, false, List, ◌++◌, Option, Some, codes}
 use Rattle.pep440_specifier.specs.Fault.{error_text}
-use Rattle.requirement_words.specs.declared.fault.Fault.{Fault}
 use Rattle.requirement_words.specs.declared.fault.FaultKind.{FaultKind}
 use Rattle.requirement_words.specs.declared.fault.FaultKind.TheVariants.{Blank, NoName, NameEnd, NoBody, LeadingComma, NoSeparator, NoExtra, InvalidExtra, ExtraEnd, UnclosedBracket, UnclosedParenthesis, Specifier, NoUrl, AmbiguousEnd, Trailing, PathWithoutName, UrlWithoutName, ArchiveWithoutName}
 
@@ -16,8 +15,8 @@ end_text part piece =
     part ++ (codes " name must end with an alphanumeric character, not '" ++ (piece ++ codes "'"))
 
 -- a requirement has to have a name
-abbrev pub unnamed_text : List ℕ → List ℕ
-unnamed_text example =
+abbrev pub missing_name_text : List ℕ → List ℕ
+missing_name_text example =
     codes "URL requirement must be preceded by a package name. Add the name of the package before the URL (e.g., `package_name @ "
     ++ (example ++ codes "`).")
 
@@ -38,9 +37,9 @@ message_of (Specifier error) piece = error_text error.fault error.place
 message_of NoUrl piece = Some (codes "Expected URL")
 message_of AmbiguousEnd piece = Some (codes "Missing space before '" ++ (piece ++ codes "', the end of the URL is ambiguous"))
 message_of Trailing piece = Some (expected_text (codes "end of input or `;`") piece)
-message_of PathWithoutName piece = Some (unnamed_text (codes "/path/to/file"))
-message_of UrlWithoutName piece = Some (unnamed_text (codes "https://..."))
-message_of ArchiveWithoutName piece = Some (unnamed_text (codes "https://..."))
+message_of PathWithoutName piece = Some (missing_name_text (codes "/path/to/file"))
+message_of UrlWithoutName piece = Some (missing_name_text (codes "https://..."))
+message_of ArchiveWithoutName piece = Some (missing_name_text (codes "https://..."))
 
 -- the fault is that a path, a URL or an archive stands without a name
 abbrev pub is_unsupported : FaultKind → Bool
@@ -48,7 +47,3 @@ is_unsupported PathWithoutName = true
 is_unsupported UrlWithoutName = true
 is_unsupported ArchiveWithoutName = true
 is_unsupported kind = false
-
--- the length of a fault's span: that of its piece, or 1 at the end of the text
-abbrev pub span_len : Fault → ℕ
-span_len fault = if fault.left == 0 then 1 else length fault.piece.now

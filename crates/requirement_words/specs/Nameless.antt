@@ -22,7 +22,7 @@ pub data IsPathOrUrl (text : List ℕ) : Type 0 where
   archived : IsArchive text → IsPathOrUrl text
 
 -- a run that is a path, a URL or an archive with its variables expanded and without its extras
-pub record IsNameless (value : List ℕ → List ℕ) (run : List ℕ) : Type 0 where
+pub record NamesNoPackage (value : List ℕ → List ℕ) (run : List ℕ) : Type 0 where
   pub expanded : List ℕ
   pub rest : List ℕ
   pub expands : Expands value run expanded

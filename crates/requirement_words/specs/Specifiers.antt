@@ -5,16 +5,16 @@ use Rattle.std.specs.List.Sorted.{IsPermutation, IsSortedBy, IsStableBy}
 use Rattle.pep440_specifier.specs.Grammar.{IsSpecifierText}
 use Rattle.pep440_specifier.specs.Set.{is_lower}
 use Rattle.pep440_specifier.specs.Specifier.{Specifier}
-use Rattle.requirement_words.specs.Runs.{part_of, after_part}
-use Rattle.requirement_words.specs.declared.runs.Part.TheVariants as parts
+use Rattle.pep508_text.specs.Run.{run_of, after_run}
+use Rattle.pep508_text.specs.declared.classes.Class.TheVariants as classes
 
 -- the bytes of the piece at the front: up to a comma or the character that ends the specifiers
 abbrev pub piece_of : ℕ → List ℕ → List ℕ
-piece_of end input = encode_utf8_all (part_of (parts.Specifier end) input)
+piece_of end input = encode_utf8_all (run_of (classes.SpecifierPart end) input)
 
 -- what follows it
 abbrev pub after_piece : ℕ → List ℕ → List ℕ
-after_piece end input = after_part (parts.Specifier end) input
+after_piece end input = after_run (classes.SpecifierPart end) input
 
 abbrev pub begins_comma : List ℕ → Bool
 begins_comma [] = false
@@ -40,3 +40,14 @@ pub record IsSpecifiers (end : ℕ) (input output : List ℕ) (set : List Specif
   pub list : List Specifier
   pub pieces : Pieces end input output list
   pub is_set : IsSetOf list set
+
+-- no specifiers stand there
+abbrev pub HasNoSpecifiers : ℕ → List ℕ → Type 0
+HasNoSpecifiers end input =
+    (output : List ℕ) (set : List Specifier) → ¬ IsSpecifiers end input output set
+
+-- a text has one reading as specifiers up to a character: the set, and where they end
+abbrev pub SpecifiersAreUnique : Type 0
+SpecifiersAreUnique = (end : ℕ) (text rest left : List ℕ) (set other : List Specifier)
+    → IsSpecifiers end text rest set → IsSpecifiers end text left other
+    → (rest ≡ left) × (set ≡ other)

@@ -1,34 +1,42 @@
 //! The extras of a requirement.
 
-ghost use Rattle.std.specs.Prelude.{◌≡◌, ◌≢◌, ◌++◌, ◌∷◌, [], true, false, IfOk, IfErr, List, ℕ, encode_utf8, encode_utf8_all};
+ghost use Rattle.std.specs.Prelude.{◌≡◌, ◌≢◌, ◌++◌, ◌∷◌, [], true, false, IfOk, IfErr, List, ℕ, encode_utf8};
 ghost use Rattle.std.specs.Char.{is_ascii_alphanumeric};
 ghost use Rattle.std.specs.Str.{chars};
 ghost use Rattle.pep508_names.specs.Name.{IsName};
-ghost use Rattle.pep508_text.specs.Run.{after_space};
+ghost use Rattle.pep508_text.specs.Run.{Run, after_space};
 ghost use Rattle.pep508_text.specs.Suffix.{IsSuffix};
-ghost use Rattle.requirement_words.specs.Extras.{IsExtras};
-ghost use Rattle.requirement_words.specs.Part.{IsPartFault, IsRefused, IsRunOf, IsBehindName, may_follow_extra};
-ghost use Rattle.requirement_words.specs.Runs.{after_part, part_of};
-ghost use Rattle.requirement_words.specs.declared.runs.Part.TheVariants.{Name};
+ghost use Rattle.pep508_text.specs.declared.classes.Class.TheVariants.{NamePart};
+ghost use Rattle.requirement_words.specs.Extras.{IsExtras, IsNameAt};
+ghost use Rattle.requirement_words.specs.Fault.{begins_name, FindsInExtras, IsFaultBy, Listed, may_follow_extra, RefusesExtras};
 
 use crate::fault::{Fault, FaultKind};
-use crate::runs::{Part, split_part};
 use pep508_names::ExtraName;
-use pep508_text::{first, skip_space, strip};
+use pep508_text::{Class, Place, first, skip_space, split_run, strip};
 use refusal::Refusal;
 use std::alloc::Global;
 
-// What is wrong where the name of an extra is expected, and this character stands in front.
-fn no_extra<'a>(found: char, text: &'a str, after: &str, is_first: bool) -> Fault<'a>
-    requires first { text.now ≡ encode_utf8 found ++ after.now }
-    requires suffix { IsSuffix text.now after.now }
-    requires no_name { is_ascii_alphanumeric found ≡ false }
-    ensures { IsPartFault text.now result }
+// Whether the character is a comma that no name stands before.
+fn is_leading_comma(found: char, names: &[ExtraName]) -> bool
+    ensures yes { result ≡ true → (found ≡ 44) × (names.now ≡ []) }
+    ensures no { names.now ≡ [] → found ≡ 44 → result ≡ true }
 {
-    if is_first && found == ',' {
-        return Fault::before(FaultKind::LeadingComma, text, after);
+    found == ',' && names.is_empty()
+}
+
+// What is wrong where a name may stand behind these, and this character does.
+fn extra_fault<'a>(found: char, here: &'a str, after: &str, names: &[ExtraName]) -> Fault<'a>
+    requires first { here.now ≡ encode_utf8 found ++ after.now }
+    requires suffix { IsSuffix here.now after.now }
+    requires no_letter { is_ascii_alphanumeric found ≡ false }
+    requires no_bracket { names.now ≡ [] → found ≢ 93 }
+    ensures { (inside : List ℕ) → Listed inside names.now (chars here.now)
+        → IsFaultBy (FindsInExtras (91 ∷ inside)) here.now result }
+{
+    if is_leading_comma(found, names) {
+        return FaultKind::LeadingComma.at(Place::before(here, after));
     }
-    Fault::before(FaultKind::NoExtra, text, after)
+    FaultKind::NoExtra.at(Place::before(here, after))
 }
 
 fn may_follow_extra(c: char) -> bool
@@ -37,49 +45,58 @@ fn may_follow_extra(c: char) -> bool
     c == ',' || c == ']' || c.is_whitespace()
 }
 
-// What is wrong with a run that begins as a name and is none; `text` is the run and the rest.
-fn no_extra_end<'a>(text: &'a str, run: &'a str, rest: &'a str) -> Fault<'a>
-    requires run { IsRunOf text.now run.now rest.now }
-    requires begins { (c : ℕ) × (cs : List ℕ) × (chars text.now ≡ c ∷ cs)
-        × (is_ascii_alphanumeric c ≡ true) }
+// What is wrong with a run at the front of `here` that begins as a name and is none.
+fn extra_end_fault<'a>(here: &'a str, run: &'a str, rest: &'a str) -> Fault<'a>
+    requires joined { here.now ≡ run.now ++ rest.now }
+    requires run { Run NamePart (chars here.now) (chars run.now) (chars rest.now) }
+    requires suffix { IsSuffix here.now rest.now }
+    requires begins { begins_name (chars here.now) ≡ true }
     requires no_name { ¬ IsName run.now }
-    ensures { IsPartFault text.now result }
+    ensures { (inside : List ℕ) (names : List (List ℕ)) → Listed inside names (chars here.now)
+        → IsFaultBy (FindsInExtras (91 ∷ inside)) here.now result }
 {
     if let Some((next, behind)) = first(rest) {
         if !may_follow_extra(next) {
-            return Fault::before(FaultKind::InvalidExtra, rest, behind);
+            return FaultKind::InvalidExtra.at(Place::before(rest, behind));
         }
     }
-    Fault::at_last(FaultKind::ExtraEnd, run, rest)
+    FaultKind::ExtraEnd.at(Place::at_last(run, rest))
 }
 
 // What is wrong where neither a comma nor the bracket follows a name. `behind` is what follows the
 // name without white space in front, and this character stands in front of it.
-fn no_separator<'a>(found: char, rest: &'a str, behind: &'a str, after: &str) -> Fault<'a>
-    requires behind { IsBehindName rest.now behind.now }
+fn separator_fault<'a>(found: char, rest: &'a str, behind: &'a str, after: &str) -> Fault<'a>
+    requires skipped { chars behind.now ≡ after_space (chars rest.now) }
+    requires behind { IsSuffix rest.now behind.now }
     requires first { behind.now ≡ encode_utf8 found ++ after.now }
     requires characters { chars behind.now ≡ found ∷ chars after.now }
     requires suffix { IsSuffix behind.now after.now }
     requires comma { found ≢ 44 }
     requires bracket { found ≢ 93 }
-    ensures { IsPartFault behind.now result }
+    ensures { (inside here n : List ℕ) (names : List (List ℕ)) → Listed inside names here
+        → IsNameAt here (chars rest.now) n
+        → IsFaultBy (FindsInExtras (91 ∷ inside)) behind.now result }
 {
     if behind.len() == rest.len() {
-        Fault::before(FaultKind::InvalidExtra, behind, after)
+        FaultKind::InvalidExtra.at(Place::before(behind, after))
     } else {
-        Fault::before(FaultKind::NoSeparator, behind, after)
+        FaultKind::NoSeparator.at(Place::before(behind, after))
     }
 }
 
 /// The extras at the front of a text, and what follows them. There are none, and all of the text
 /// follows, where no bracket stands in front.
+///
+/// # Errors
+///
+/// A fault where a bracket stands in front and no extras do: the kind of it that is true of the
+/// text, at its place.
 pub fn read_extras<'a>(
     alloc: Global,
     text: &'a str,
 ) -> Result<(Vec<ExtraName>, &'a str), Refusal<Fault<'a>>>
     ensures found { IfOk result (λ x. IsExtras (chars text.now) (chars x.1.now) x.0.items) }
-    ensures refused { IfErr result (IsRefused (IsPartFault text.now)
-        ((output : List ℕ) (names : List (List ℕ)) → ¬ IsExtras (chars text.now) output names)) }
+    ensures refused { IfErr result (RefusesExtras text.now) }
     ensures suffix { IfOk result (λ x. IsSuffix text.now x.1.now) }
 {
     let mut names = Vec::new(alloc);
@@ -91,19 +108,19 @@ pub fn read_extras<'a>(
     }
     let mut left = inside;
     loop {
-        let place = skip_space(left);
-        let Some((found, after)) = first(place) else {
-            return Err(Refusal::Fault(Fault::before(FaultKind::UnclosedBracket, text, inside)));
+        let here = skip_space(left);
+        let Some((found, after)) = first(here) else {
+            let opening = Place::before(text, inside);
+            return Err(Refusal::Fault(FaultKind::UnclosedBracket.at(opening)));
         };
         if !found.is_ascii_alphanumeric() {
-            let is_first = names.as_slice().is_empty();
-            return Err(Refusal::Fault(no_extra(found, place, after, is_first)));
+            return Err(Refusal::Fault(extra_fault(found, here, after, names.as_slice())));
         }
-        let (run, rest) = split_part(place, Part::Name);
+        let (run, rest) = split_run(here, Class::NamePart);
         let name = match ExtraName::parse(alloc, run) {
             Ok(name) => name,
             Err(Refusal::Fault(_)) => {
-                return Err(Refusal::Fault(no_extra_end(place, run, rest)));
+                return Err(Refusal::Fault(extra_end_fault(here, run, rest)));
             }
             Err(_) => return Err(Refusal::OutOfMemory),
         };
@@ -114,9 +131,10 @@ pub fn read_extras<'a>(
         }
         let Some(next) = strip(behind, ',') else {
             let Some((found, after)) = first(behind) else {
-                return Err(Refusal::Fault(Fault::before(FaultKind::UnclosedBracket, text, inside)));
+                let opening = Place::before(text, inside);
+                return Err(Refusal::Fault(FaultKind::UnclosedBracket.at(opening)));
             };
-            return Err(Refusal::Fault(no_separator(found, rest, behind, after)));
+            return Err(Refusal::Fault(separator_fault(found, rest, behind, after)));
         };
         left = next;
     }

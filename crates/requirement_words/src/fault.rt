@@ -1,10 +1,10 @@
 //! What is wrong with a requirement, and where.
 
-ghost use Rattle.std.specs.Prelude.{◌≡◌, ◌++◌, ◌∷◌, ◌-◌, ◌<◌, ℕ, List, [], drop, length};
-ghost use Rattle.pep508_text.specs.Suffix.{IsPiece, IsSpan, IsSuffix, StandsAt};
-ghost use Rattle.requirement_words.specs.Message.{is_unsupported, message_of, span_len};
+ghost use Rattle.std.specs.Prelude.{◌≡◌};
+ghost use Rattle.requirement_words.specs.Message.{is_unsupported, message_of};
 
 use pep440_specifier::VersionSpecifierError;
+use pep508_text::Place;
 use std::fmt;
 use std::fmt::Display;
 
@@ -49,110 +49,41 @@ pub enum FaultKind {
     ArchiveWithoutName,
 }
 
-/// What is wrong with a requirement, and where. It prints as its message.
-#[derive(Debug, Drop, PartialEq, Eq)]
-pub struct Fault<'a> {
-    /// What is wrong there.
-    pub kind: FaultKind,
-    /// What stands at the place.
-    pub piece: &'a str,
-    /// The bytes from the place to the end of the text.
-    pub left: usize,
-}
-
-impl<'a> Fault<'a> {
-    // A fault where the text ends.
-    pub(crate) fn at_end(kind: FaultKind) -> Fault<'a>
-        ensures kind { result.kind ≡ kind }
-        ensures piece { result.piece.now ≡ [] }
-        ensures left { result.left ≡ 0 }
+impl FaultKind {
+    // This fault, at a place of the text.
+    pub(crate) fn at(self, place: Place<'_>) -> Fault<'_>
+        ensures kind { result.kind ≡ self }
+        ensures place { result.place ≡ place.entry }
     {
-        Fault {
-            kind,
-            piece: "",
-            left: 0,
-        }
+        Fault { kind: self, place }
     }
 
-    // A fault at the front of a text that is left, where its piece stands before `rest`.
-    pub(crate) fn before(kind: FaultKind, text: &'a str, rest: &str) -> Fault<'a>
-        requires { IsSuffix text.now rest.now }
-        ensures kind { result.kind ≡ kind }
-        ensures piece { text.now ≡ result.piece.now ++ rest.now }
-        ensures left { result.left ≡ length text.now }
-    {
-        Fault {
-            kind,
-            piece: text.split_at(text.len() - rest.len()).0,
-            left: text.len(),
-        }
-    }
-
-    // A fault at the front of a text that is left, with the run that stands there.
-    pub(crate) fn at_run(kind: FaultKind, run: &'a str, text: &str) -> Fault<'a>
-        ensures kind { result.kind ≡ kind }
-        ensures piece { result.piece.now ≡ run.now }
-        ensures left { result.left ≡ length text.now }
-    {
-        Fault {
-            kind,
-            piece: run,
-            left: text.len(),
-        }
-    }
-
-    // A fault at the last character of a run, which is of ASCII and stands before `rest`.
-    pub(crate) fn at_last(kind: FaultKind, run: &'a str, rest: &str) -> Fault<'a>
-        requires { (front : List ℕ) × (c : ℕ) × (run.now ≡ front ++ c ∷ []) × (c < 128) }
-        ensures kind { result.kind ≡ kind }
-        ensures piece { result.piece.now ≡ drop (length run.now - 1) run.now }
-        ensures left { result.left ≡ length (result.piece.now ++ rest.now) }
-    {
-        let piece = run.split_at(run.len() - 1).1;
-        Fault {
-            kind,
-            piece,
-            left: piece.len() + rest.len(),
-        }
-    }
-
-    /// Where the fault begins, in bytes from the start of the text that it is in.
-    pub fn start(&self, text: &str) -> usize
-        ensures value { result ≡ length text.now - self.now.left }
-
-        // The piece stands there, and the fault has a span of the text.
-        ensures place { IsPiece text.now self.now.piece.now self.now.left
-            → StandsAt text.now self.now.piece.now result }
-        ensures span { IsPiece text.now self.now.piece.now self.now.left
-            → IsSpan text.now result (span_len self.now) }
-    {
-        text.len().saturating_sub(self.left)
-    }
-
-    /// How many bytes the fault spans, or 1 at the end of the text.
-    pub fn len(&self) -> usize
-        ensures { result ≡ span_len self.now }
-    {
-        if self.left == 0 { 1 } else { self.piece.len() }
-    }
-
-    /// Whether the text is a path, a URL or an archive that stands without a name, which a
-    /// requirement has to have.
+    /// Whether the fault is a path, a URL or an archive without a name, which a requirement has to
+    /// have.
     pub fn is_unsupported(&self) -> bool
-        ensures { result ≡ is_unsupported self.now.kind }
+        ensures { result ≡ is_unsupported self.now }
     {
         matches!(
-            self.kind,
+            self,
             FaultKind::PathWithoutName | FaultKind::UrlWithoutName | FaultKind::ArchiveWithoutName
         )
     }
 }
 
+/// What is wrong with a requirement, and where. It prints as its message.
+#[derive(Debug, Drop, PartialEq, Eq)]
+pub struct Fault<'a> {
+    /// What is wrong there.
+    pub kind: FaultKind,
+    /// Where the text is wrong.
+    pub place: Place<'a>,
+}
+
 impl Display for Fault<'_> {
-    ghost output = { λ fault. message_of fault.kind fault.piece.now };
+    ghost output = { λ fault. message_of fault.kind fault.place.piece.now };
 
     fn fmt<W: fmt::Write>(&self, f: &mut fmt::Formatter<W>) -> fmt::Result {
-        let piece = self.piece;
+        let piece = self.place.piece;
         match &self.kind {
             FaultKind::Blank => f.write_str("Empty field is not allowed for PEP508"),
             FaultKind::NoName => write!(

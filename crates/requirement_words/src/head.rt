@@ -6,29 +6,26 @@ ghost use Rattle.std.specs.Str.{chars};
 ghost use Rattle.pep508_text.specs.Run.{after_space};
 ghost use Rattle.pep508_text.specs.Suffix.{IsSuffix};
 ghost use Rattle.pep508_urls.specs.Variables.{value_of};
-ghost use Rattle.requirement_words.specs.Fault.{IsBehindExtras, IsFault, may_follow_name};
 ghost use Rattle.pep440_specifier.specs.Specifier.{Specifier as One};
-ghost use Rattle.requirement_words.specs.Archive.{IsArchive};
 ghost use Rattle.requirement_words.specs.Extras.{IsNameAt};
-ghost use Rattle.requirement_words.specs.Head.{Asked, asked_of, IsAskedIn, IsBare, IsBody, IsHead, nothing, specifiers, url, written_name};
-ghost use Rattle.requirement_words.specs.Part.{IsPartFault, IsRefused};
+ghost use Rattle.requirement_words.specs.Fault.{IsBehindExtras, IsFault, IsRefused, may_follow_name, RefusesAsked, RefusesAskedIn, RefusesHead, RefusesName};
+ghost use Rattle.requirement_words.specs.Head.{asked_of, IsAsked, IsAskedIn, IsBare, IsHeadOf, IsPlaced, nothing, specifiers};
 
 use crate::extras::read_extras;
 use crate::fault::{Fault, FaultKind};
 use crate::nameless::{is_archive, is_nameless};
-use crate::runs::{Part, split_part};
 use crate::specifiers::read_specifiers;
 use crate::url::{UrlPlace, split_url};
 use pep440_specifier::VersionSpecifiers;
 use pep508_errors::Surroundings;
 use pep508_names::{ExtraName, PackageName};
-use pep508_text::{Class, first, skip_space, split_run, strip};
+use pep508_text::{Class, Place, first, skip_space, split_run, strip};
 use refusal::Refusal;
 use std::alloc::Global;
 
-/// What a requirement asks of the versions.
+/// What a requirement asks.
 #[derive(Debug, Drop)]
-pub enum Body<'a> {
+pub enum Asked<'a> {
     /// Nothing: any version will do.
     Nothing,
     /// Specifiers that all have to hold.
@@ -45,24 +42,24 @@ pub struct Head<'a> {
     pub name: PackageName,
     /// The extras in brackets behind the name, in the order of the text.
     pub extras: Vec<ExtraName>,
-    /// What is asked of the versions.
-    pub body: Body<'a>,
+    /// What is asked.
+    pub asked: Asked<'a>,
 }
 
 // A text of white space alone.
-fn blank(text: &str) -> Fault<'_>
+fn blank_fault(text: &str) -> Fault<'_>
     requires { after_space (chars text.now) ≡ [] }
     ensures { (value : List ℕ → List ℕ) → IsFault value text.now result }
 {
     match first(text) {
-        Some((_, after)) => Fault::before(FaultKind::Blank, text, after),
-        None => Fault::at_end(FaultKind::Blank),
+        Some((_, after)) => FaultKind::Blank.at(Place::before(text, after)),
+        None => FaultKind::Blank.at(Place::at_end()),
     }
 }
 
-// What is wrong where this character stands in place of a name; `start` is the text without white
-// space in front.
-fn no_name<'a>(
+// Why a text is refused where this character stands in place of a name; `start` is the text without
+// white space in front.
+fn name_refusal<'a>(
     alloc: Global,
     text: &'a str,
     start: &'a str,
@@ -83,13 +80,14 @@ fn no_name<'a>(
         return Refusal::OutOfMemory;
     };
     if nameless {
-        return Refusal::Fault(Fault::at_run(FaultKind::PathWithoutName, run, start));
+        return Refusal::Fault(FaultKind::PathWithoutName.at(Place::at_run(run, start)));
     }
-    Refusal::Fault(Fault::before(FaultKind::NoName, start, after))
+    Refusal::Fault(FaultKind::NoName.at(Place::before(start, after)))
 }
 
-// What is wrong where this character stands behind the name and the extras, in front of `behind`.
-fn no_body<'a>(
+// Why a text is refused where this character stands behind the name and the extras, in front of
+// `behind`.
+fn asked_refusal<'a>(
     alloc: Global,
     text: &'a str,
     behind: &'a str,
@@ -111,9 +109,9 @@ fn no_body<'a>(
         return Refusal::OutOfMemory;
     };
     if nameless {
-        return Refusal::Fault(Fault::at_run(FaultKind::UrlWithoutName, run, start));
+        return Refusal::Fault(FaultKind::UrlWithoutName.at(Place::at_run(run, start)));
     }
-    Refusal::Fault(Fault::before(FaultKind::NoBody, behind, after))
+    Refusal::Fault(FaultKind::NoBody.at(Place::before(behind, after)))
 }
 
 fn may_follow_name(c: char) -> bool
@@ -123,57 +121,47 @@ fn may_follow_name(c: char) -> bool
 }
 
 // The URL behind an `@`, with any white space before it.
-fn read_url<'a>(text: &'a str, behind: &'a str) -> Result<(Body<'a>, &'a str), Refusal<Fault<'a>>>
+fn read_url<'a>(text: &'a str, behind: &'a str) -> Result<(Asked<'a>, &'a str), Refusal<Fault<'a>>>
     requires at { chars text.now ≡ 64 ∷ chars behind.now }
     requires suffix { IsSuffix text.now behind.now }
-    ensures found { IfOk result (λ x. IsBody (chars text.now) (chars x.1.now) (asked_of x.0)) }
-    ensures refused { IfErr result (IsRefused (IsPartFault text.now)
-        ((output : List ℕ) (asked : Asked) → ¬ IsBody (chars text.now) output asked)) }
+    ensures found { IfOk result (λ x. IsAsked (chars text.now) (chars x.1.now) (asked_of x.0)) }
+    ensures refused { IfErr result (RefusesAsked text.now) }
     ensures suffix { IfOk result (λ x. IsSuffix text.now x.1.now) }
     ensures some { IfOk result (λ x. asked_of x.0 ≢ nothing) }
-    ensures placed { IfOk result (λ x. (piece : List ℕ) → asked_of x.0 ≡ url piece
-        → IsSuffix text.now (piece ++ x.1.now)) }
+    ensures placed { IfOk result (λ x. IsPlaced text.now (asked_of x.0) x.1.now) }
 {
     let place = skip_space(behind);
     let (url, rest) = split_url(place, UrlPlace::BehindName);
     match first(url) {
-        Some(_) => Ok((Body::Url(url), rest)),
-        None => Err(Refusal::Fault(Fault::before(FaultKind::NoUrl, place, place))),
+        Some(_) => Ok((Asked::Url(url), rest)),
+        None => Err(Refusal::Fault(FaultKind::NoUrl.at(Place::before(place, place)))),
     }
 }
 
 // The specifiers between parentheses, with any white space before them. Where the text ends within
-// the last of them, it is the parenthesis that is told.
+// the last of them, the fault is the parenthesis.
 fn read_enclosed<'a>(
     alloc: Global,
     text: &'a str,
     behind: &'a str,
-) -> Result<(Body<'a>, &'a str), Refusal<Fault<'a>>>
+) -> Result<(Asked<'a>, &'a str), Refusal<Fault<'a>>>
     requires at { chars text.now ≡ 40 ∷ chars behind.now }
     requires bytes { text.now ≡ encode_utf8 40 ++ behind.now }
     requires suffix { IsSuffix text.now behind.now }
-    ensures found { IfOk result (λ x. IsBody (chars text.now) (chars x.1.now) (asked_of x.0)) }
-    ensures refused { IfErr result (IsRefused (IsPartFault text.now)
-        ((output : List ℕ) (asked : Asked) → ¬ IsBody (chars text.now) output asked)) }
+    ensures found { IfOk result (λ x. IsAsked (chars text.now) (chars x.1.now) (asked_of x.0)) }
+    ensures refused { IfErr result (RefusesAsked text.now) }
     ensures suffix { IfOk result (λ x. IsSuffix text.now x.1.now) }
     ensures specifiers { IfOk result (λ x. (set : List One) × (asked_of x.0 ≡ specifiers set)) }
 {
+    let opening = Place::before(text, behind);
     match read_specifiers(alloc, skip_space(behind), ')') {
         Ok((set, rest)) => match strip(rest, ')') {
-            Some(rest) => Ok((Body::Specifiers(set), rest)),
-            None => Err(Refusal::Fault(Fault::before(
-                FaultKind::UnclosedParenthesis,
-                text,
-                behind,
-            ))),
+            Some(rest) => Ok((Asked::Specifiers(set), rest)),
+            None => Err(Refusal::Fault(FaultKind::UnclosedParenthesis.at(opening))),
         },
         Err(Refusal::Fault(fault)) => {
-            if fault.left == fault.piece.len() {
-                return Err(Refusal::Fault(Fault::before(
-                    FaultKind::UnclosedParenthesis,
-                    text,
-                    behind,
-                )));
+            if fault.place.left == fault.place.piece.len() {
+                return Err(Refusal::Fault(FaultKind::UnclosedParenthesis.at(opening)));
             }
             Err(Refusal::Fault(fault))
         }
@@ -182,16 +170,17 @@ fn read_enclosed<'a>(
 }
 
 // What is asked, and what follows it, where this is not nothing.
-fn read_body<'a>(alloc: Global, text: &'a str) -> Result<(Body<'a>, &'a str), Refusal<Fault<'a>>>
+fn read_something<'a>(
+    alloc: Global,
+    text: &'a str,
+) -> Result<(Asked<'a>, &'a str), Refusal<Fault<'a>>>
     requires { (c : ℕ) × (cs : List ℕ) × (chars text.now ≡ c ∷ cs) × (may_follow_name c ≡ true)
         × (c ≢ 59) }
-    ensures found { IfOk result (λ x. IsBody (chars text.now) (chars x.1.now) (asked_of x.0)) }
+    ensures found { IfOk result (λ x. IsAsked (chars text.now) (chars x.1.now) (asked_of x.0)) }
     ensures some { IfOk result (λ x. asked_of x.0 ≢ nothing) }
-    ensures refused { IfErr result (IsRefused (IsPartFault text.now)
-        ((output : List ℕ) (asked : Asked) → ¬ IsBody (chars text.now) output asked)) }
+    ensures refused { IfErr result (RefusesAsked text.now) }
     ensures suffix { IfOk result (λ x. IsSuffix text.now x.1.now) }
-    ensures placed { IfOk result (λ x. (piece : List ℕ) → asked_of x.0 ≡ url piece
-        → IsSuffix text.now (piece ++ x.1.now)) }
+    ensures placed { IfOk result (λ x. IsPlaced text.now (asked_of x.0) x.1.now) }
 {
     if let Some(behind) = strip(text, '@') {
         return read_url(text, behind);
@@ -200,7 +189,7 @@ fn read_body<'a>(alloc: Global, text: &'a str) -> Result<(Body<'a>, &'a str), Re
         return read_enclosed(alloc, text, behind);
     }
     match read_specifiers(alloc, text, ';') {
-        Ok((set, rest)) => Ok((Body::Specifiers(set), rest)),
+        Ok((set, rest)) => Ok((Asked::Specifiers(set), rest)),
         Err(refusal) => Err(refusal),
     }
 }
@@ -209,26 +198,23 @@ fn read_body<'a>(alloc: Global, text: &'a str) -> Result<(Body<'a>, &'a str), Re
 fn read_nothing<'a>(
     text: &'a str,
     behind: &'a str,
-) -> Result<(Body<'a>, &'a str), Refusal<Fault<'a>>>
+) -> Result<(Asked<'a>, &'a str), Refusal<Fault<'a>>>
     requires behind { IsBehindExtras text.now (chars behind.now) }
     requires inside { IsSuffix text.now behind.now }
     requires bare { IsBare (chars behind.now) }
     ensures found { IfOk result (λ x.
         IsAskedIn (chars text.now) (chars behind.now) (chars x.1.now) (asked_of x.0)) }
     ensures refused { IfErr result (λ refusal. (value : List ℕ → List ℕ)
-        → IsRefused (IsFault value text.now) ((output : List ℕ) (asked : Asked)
-        → ¬ IsAskedIn (chars text.now) (chars behind.now) output asked) refusal) }
+        → RefusesAskedIn value text.now behind.now refusal) }
     ensures suffix { IfOk result (λ x. IsSuffix text.now x.1.now) }
-    ensures placed { IfOk result (λ x. (piece : List ℕ) → asked_of x.0 ≡ url piece
-        → IsSuffix text.now (piece ++ x.1.now)) }
+    ensures placed { IfOk result (λ x. IsPlaced text.now (asked_of x.0) x.1.now) }
 {
     let start = skip_space(text);
-    let (run, _) = split_part(start, Part::Name);
+    let (run, _) = split_run(start, Class::NamePart);
     if is_archive(run) {
-        let fault = Fault::at_run(FaultKind::ArchiveWithoutName, run, start);
-        return Err(Refusal::Fault(fault));
+        return Err(Refusal::Fault(FaultKind::ArchiveWithoutName.at(Place::at_run(run, start))));
     }
-    Ok((Body::Nothing, behind))
+    Ok((Asked::Nothing, behind))
 }
 
 // What is asked behind the name and the extras, and what follows it.
@@ -237,17 +223,15 @@ fn read_asked<'a>(
     text: &'a str,
     behind: &'a str,
     surroundings: &Surroundings<'_>,
-) -> Result<(Body<'a>, &'a str), Refusal<Fault<'a>>>
+) -> Result<(Asked<'a>, &'a str), Refusal<Fault<'a>>>
     requires behind { IsBehindExtras text.now (chars behind.now) }
     requires inside { IsSuffix text.now behind.now }
     ensures found { IfOk result (λ x.
         IsAskedIn (chars text.now) (chars behind.now) (chars x.1.now) (asked_of x.0)) }
-    ensures refused { IfErr result (IsRefused (IsFault (value_of surroundings.now) text.now)
-        ((output : List ℕ) (asked : Asked)
-        → ¬ IsAskedIn (chars text.now) (chars behind.now) output asked)) }
+    ensures refused { IfErr result
+        (RefusesAskedIn (value_of surroundings.now) text.now behind.now) }
     ensures suffix { IfOk result (λ x. IsSuffix text.now x.1.now) }
-    ensures placed { IfOk result (λ x. (piece : List ℕ) → asked_of x.0 ≡ url piece
-        → IsSuffix text.now (piece ++ x.1.now)) }
+    ensures placed { IfOk result (λ x. IsPlaced text.now (asked_of x.0) x.1.now) }
 {
     let Some((found, after)) = first(behind) else {
         return read_nothing(text, behind);
@@ -256,9 +240,9 @@ fn read_asked<'a>(
         return read_nothing(text, behind);
     }
     if !may_follow_name(found) {
-        return Err(no_body(alloc, text, behind, found, after, surroundings));
+        return Err(asked_refusal(alloc, text, behind, found, after, surroundings));
     }
-    match read_body(alloc, behind) {
+    match read_something(alloc, behind) {
         Ok(read) => Ok(read),
         Err(refusal) => Err(refusal),
     }
@@ -272,44 +256,41 @@ fn read_name<'a>(
 ) -> Result<(PackageName, &'a str), Refusal<Fault<'a>>>
     ensures found { IfOk result (λ x.
         IsNameAt (after_space (chars text.now)) (chars x.1.now) x.0) }
-    ensures refused { IfErr result (IsRefused (IsFault (value_of surroundings.now) text.now)
-        ((output n : List ℕ) → ¬ IsNameAt (after_space (chars text.now)) output n)) }
+    ensures refused { IfErr result (RefusesName (value_of surroundings.now) text.now) }
     ensures suffix { IfOk result (λ x. IsSuffix text.now x.1.now) }
 {
     let start = skip_space(text);
     let Some((found, after)) = first(start) else {
-        return Err(Refusal::Fault(blank(text)));
+        return Err(Refusal::Fault(blank_fault(text)));
     };
     if !found.is_ascii_alphanumeric() {
-        return Err(no_name(alloc, text, start, found, after, surroundings));
+        return Err(name_refusal(alloc, text, start, found, after, surroundings));
     }
-    let (run, rest) = split_part(start, Part::Name);
+    let (run, rest) = split_run(start, Class::NamePart);
     match PackageName::parse(alloc, run) {
         Ok(name) => Ok((name, rest)),
-        Err(Refusal::Fault(_)) => {
-            Err(Refusal::Fault(Fault::at_last(FaultKind::NameEnd, run, rest)))
-        }
+        Err(Refusal::Fault(_)) => Err(Refusal::Fault(FaultKind::NameEnd.at(Place::at_last(
+            run, rest,
+        )))),
         Err(_) => Err(Refusal::OutOfMemory),
     }
 }
 
 /// A requirement up to its marker, and what follows it. The surroundings say what variables stand
-/// for: a path or URL that stands in place of a name is told as such.
+/// for: a path or URL in place of a name is refused as such.
+///
+/// # Errors
+///
+/// A fault where no requirement begins: the kind of it that is true of the text, at its place.
 pub fn read_head<'a>(
     alloc: Global,
     text: &'a str,
     surroundings: &Surroundings<'_>,
 ) -> Result<(Head<'a>, &'a str), Refusal<Fault<'a>>>
-    ensures found { IfOk result (λ x. IsHead (chars text.now) (chars x.1.now) x.0.name
-        x.0.extras.items (asked_of x.0.body)) }
-    ensures refused { IfErr result (IsRefused (IsFault (value_of surroundings.now) text.now)
-        ((output name : List ℕ) (extras : List (List ℕ)) (asked : Asked)
-        → ¬ IsHead (chars text.now) output name extras asked)) }
+    ensures found { IfOk result (λ x. IsHeadOf text.now x.0 x.1.now) }
+    ensures refused { IfErr result (RefusesHead (value_of surroundings.now) text.now) }
     ensures suffix { IfOk result (λ x. IsSuffix text.now x.1.now) }
-
-    // A URL stands right before what follows it.
-    ensures placed { IfOk result (λ x. (piece : List ℕ) → asked_of x.0.body ≡ url piece
-        → IsSuffix text.now (piece ++ x.1.now)) }
+    ensures placed { IfOk result (λ x. IsPlaced text.now (asked_of x.0.asked) x.1.now) }
 {
     let (name, after_name) = match read_name(alloc, text, surroundings) {
         Ok(read) => read,
@@ -320,7 +301,14 @@ pub fn read_head<'a>(
         Err(refusal) => return Err(refusal),
     };
     match read_asked(alloc, text, skip_space(after_extras), surroundings) {
-        Ok((body, rest)) => Ok((Head { name, extras, body }, rest)),
+        Ok((asked, rest)) => Ok((
+            Head {
+                name,
+                extras,
+                asked,
+            },
+            rest,
+        )),
         Err(refusal) => Err(refusal),
     }
 }

@@ -1,46 +1,47 @@
 //! Laws of the words of requirements. Each is a function that does nothing, whose contract is the
 //! law.
 
-ghost use Rattle.std.specs.Prelude.{◌≡◌, List, Option, ℕ};
-ghost use Rattle.pep440_specifier.specs.Specifier.{Specifier};
-ghost use Rattle.requirement_words.specs.Extras.{IsExtras};
-ghost use Rattle.requirement_words.specs.Head.{Asked, IsHead};
-ghost use Rattle.requirement_words.specs.Specifiers.{IsSpecifiers};
-ghost use Rattle.requirement_words.specs.Tail.{IsTail};
-ghost use Rattle.requirement_words.specs.Unnamed.{IsUnnamedHead};
+ghost use Rattle.requirement_words.specs.Extras.{ExtrasAreUnique};
+ghost use Rattle.requirement_words.specs.Head.{HeadIsUnique};
+ghost use Rattle.requirement_words.specs.Specifiers.{SpecifiersAreUnique};
+ghost use Rattle.requirement_words.specs.Tail.{TailIsUnique};
+ghost use Rattle.requirement_words.specs.Text.{HeadTextIsAscii, HeadTextReadsBack};
+ghost use Rattle.requirement_words.specs.Unnamed.{UnnamedHeadIsUnique};
 
 /// A text has one reading as extras: their names, and where they end.
 pub fn extras_are_unique()
-    ensures { (text rest left : List ℕ) (names others : List (List ℕ))
-        → IsExtras text rest names → IsExtras text left others → (rest ≡ left) × (names ≡ others) }
+    ensures { ExtrasAreUnique }
 {}
 
 /// It has one as specifiers up to a character: the set that they are, and where they end.
 pub fn specifiers_are_unique()
-    ensures { (end : ℕ) (text rest left : List ℕ) (set other : List Specifier)
-        → IsSpecifiers end text rest set → IsSpecifiers end text left other
-        → (rest ≡ left) × (set ≡ other) }
+    ensures { SpecifiersAreUnique }
 {}
 
 /// It has one as a requirement up to its marker: the name, the extras, what is asked, and where the
 /// marker begins.
 pub fn head_is_unique()
-    ensures { (text rest left name other : List ℕ) (extras others : List (List ℕ))
-        (asked wanted : Asked)
-        → IsHead text rest name extras asked → IsHead text left other others wanted
-        → (rest ≡ left) × (name ≡ other) × (extras ≡ others) × (asked ≡ wanted) }
+    ensures { HeadIsUnique }
 {}
 
 /// It has one as a requirement without a name up to its marker: the URL as it is written, the URL
 /// without its extras, those, and where the marker begins.
 pub fn unnamed_head_is_unique()
-    ensures { (text rest left given written url other : List ℕ) (extras others : List (List ℕ))
-        → IsUnnamedHead text rest given url extras → IsUnnamedHead text left written other others
-        → (rest ≡ left) × (given ≡ written) × (url ≡ other) × (extras ≡ others) }
+    ensures { UnnamedHeadIsUnique }
 {}
 
 /// What follows either has one marker, or none.
 pub fn tail_is_unique()
-    ensures { (rest : List ℕ) (marker other : Option (List ℕ))
-        → IsTail rest marker → IsTail rest other → marker ≡ other }
+    ensures { TailIsUnique }
+{}
+
+/// The text of a requirement up to its marker is read back as its name, its extras and its
+/// specifiers, whatever marker follows it.
+pub fn head_text_reads_back()
+    ensures { HeadTextReadsBack }
+{}
+
+/// That text is ASCII, so its bytes are its characters.
+pub fn head_text_is_ascii()
+    ensures { HeadTextIsAscii }
 {}

@@ -3,7 +3,7 @@
 ghost use Rattle.std.specs.Prelude.{◌≡◌, ◌↔◌, codes, IfNone, IfOk, IfSome, IsTrue, List, ℕ};
 ghost use Rattle.pep508_urls.specs.Variables.{value_of};
 ghost use Rattle.requirement_words.specs.Archive.{HasExtension, IsArchive, is_archive_extension, is_compressed_extension};
-ghost use Rattle.requirement_words.specs.Nameless.{IsNameless, IsPathOrUrl, WithoutExtras};
+ghost use Rattle.requirement_words.specs.Nameless.{NamesNoPackage, IsPathOrUrl, WithoutExtras};
 
 use pep508_errors::Surroundings;
 use pep508_urls::{expand_env_vars, split_extras, split_scheme};
@@ -105,8 +105,10 @@ pub fn is_nameless(
     run: &str,
     surroundings: &Surroundings<'_>,
 ) -> Result<bool, AllocError>
-    ensures yes { IfOk result (λ is. IsTrue is → IsNameless (value_of surroundings.now) run.now) }
-    ensures no { IfOk result (λ is. IsNameless (value_of surroundings.now) run.now → IsTrue is) }
+    ensures yes { IfOk result (λ is.
+        IsTrue is → NamesNoPackage (value_of surroundings.now) run.now) }
+    ensures no { IfOk result (λ is.
+        NamesNoPackage (value_of surroundings.now) run.now → IsTrue is) }
 {
     let expanded = expand_env_vars(alloc, run, surroundings)?;
     Ok(is_path_or_url(without_extras(expanded.as_str())))

@@ -1,22 +1,24 @@
 //! The version specifiers of a requirement.
 
-ghost use Rattle.std.specs.Prelude.{◌≢◌, IfOk, IfErr, List, ℕ};
+ghost use Rattle.std.specs.Prelude.{◌≢◌, IfOk, IfErr};
 ghost use Rattle.std.specs.Str.{chars};
 ghost use Rattle.pep508_text.specs.Suffix.{IsSuffix};
-ghost use Rattle.pep440_specifier.specs.Specifier.{Specifier as One};
-ghost use Rattle.requirement_words.specs.Part.{IsOpen, IsPieceFault, IsRefused};
+ghost use Rattle.requirement_words.specs.Fault.{RefusesSpecifiers};
 ghost use Rattle.requirement_words.specs.Specifiers.{IsSpecifiers};
 
 use crate::fault::{Fault, FaultKind};
-use crate::runs::{Part, split_part};
 use pep440_specifier::{VersionSpecifier, VersionSpecifiers};
-use pep508_text::strip;
+use pep508_text::{Class, Place, split_run, strip};
 use refusal::Refusal;
 use std::alloc::Global;
 
 /// The specifiers at the front of a text, with a comma between each two, and what follows them.
-/// They go up to the character that ends them, which is no comma, or to the end of the text. A
-/// piece that is no specifier is refused, an empty one too.
+/// They go up to the character that ends them, which is no comma, or to the end of the text.
+///
+/// # Errors
+///
+/// A fault at the first piece that is no specifier, where the empty one is none, with what is wrong
+/// with it.
 pub fn read_specifiers<'a>(
     alloc: Global,
     text: &'a str,
@@ -24,20 +26,18 @@ pub fn read_specifiers<'a>(
 ) -> Result<(VersionSpecifiers, &'a str), Refusal<Fault<'a>>>
     requires { end ≢ 44 }
     ensures found { IfOk result (λ x. IsSpecifiers end (chars text.now) (chars x.1.now) x.0) }
-    ensures not_ended { IfOk result (λ x. IsOpen end (chars text.now) (chars x.1.now)) }
-    ensures refused { IfErr result (IsRefused (IsPieceFault end text.now)
-        ((output : List ℕ) (set : List One) → ¬ IsSpecifiers end (chars text.now) output set)) }
+    ensures refused { IfErr result (RefusesSpecifiers end text.now) }
     ensures suffix { IfOk result (λ x. IsSuffix text.now x.1.now) }
 {
     let mut specifiers = Vec::new(alloc);
     let mut left = text;
     loop {
-        let (piece, rest) = split_part(left, Part::Specifier(end));
+        let (piece, rest) = split_run(left, Class::SpecifierPart(end));
         let specifier = match VersionSpecifier::parse(alloc, piece) {
             Ok(specifier) => specifier,
             Err(Refusal::Fault(error)) => {
                 let kind = FaultKind::Specifier(error);
-                return Err(Refusal::Fault(Fault::at_run(kind, piece, left)));
+                return Err(Refusal::Fault(kind.at(Place::at_run(piece, left))));
             }
             Err(_) => return Err(Refusal::OutOfMemory),
         };

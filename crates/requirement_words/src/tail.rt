@@ -1,23 +1,28 @@
 //! The end of a requirement.
 
-ghost use Rattle.std.specs.Prelude.{◌++◌, IfErr, IfOk, IfSome, List, ℕ, Option, OnErr};
+ghost use Rattle.std.specs.Prelude.{IfErr, IfOk, IfSome, OnErr};
 ghost use Rattle.std.specs.Option.{option_map};
 ghost use Rattle.std.specs.Str.{chars};
 ghost use Rattle.pep508_text.specs.Suffix.{IsSuffix};
-ghost use Rattle.requirement_words.specs.Part.{IsPartFault};
-ghost use Rattle.requirement_words.specs.Tail.{IsTail};
+ghost use Rattle.requirement_words.specs.Fault.{IsTailFault};
+ghost use Rattle.requirement_words.specs.Tail.{HasNoTail, IsTail};
 
 use crate::fault::{Fault, FaultKind};
-use pep508_text::{first, skip_space};
+use pep508_text::{Place, first, skip_space};
 
 /// The text of the marker at the end of a requirement, behind `;`, or `None` where nothing but
 /// white space is left. `url` is the URL that stands in front of it as it is written, or empty
-/// where none does: one that ends with `;` or `#` has no marker behind it.
+/// where none does.
+///
+/// # Errors
+///
+/// A fault where anything else is left: at the last character of a URL that ends with `;` or `#`,
+/// and else at the first that is no white space.
 pub fn read_tail<'a>(url: &'a str, rest: &'a str) -> Result<Option<&'a str>, Fault<'a>>
     ensures found { IfOk result (λ marker.
         IsTail (chars rest.now) (option_map (λ text. chars text.now) marker)) }
-    ensures refused { OnErr result ((marker : Option (List ℕ)) → ¬ IsTail (chars rest.now) marker) }
-    ensures fault { IfErr result (IsPartFault (url.now ++ rest.now)) }
+    ensures refused { OnErr result (HasNoTail (chars rest.now)) }
+    ensures fault { IfErr result (IsTailFault url.now rest.now) }
     ensures suffix { IfOk result (λ marker. IfSome marker (λ text. IsSuffix rest.now text.now)) }
 {
     let end = skip_space(rest);
@@ -28,10 +33,10 @@ pub fn read_tail<'a>(url: &'a str, rest: &'a str) -> Result<Option<&'a str>, Fau
         return Ok(Some(after));
     }
     if url.ends_with(';') {
-        return Err(Fault::at_last(FaultKind::AmbiguousEnd, url, rest));
+        return Err(FaultKind::AmbiguousEnd.at(Place::at_last(url, rest)));
     }
     if url.ends_with('#') {
-        return Err(Fault::at_last(FaultKind::AmbiguousEnd, url, rest));
+        return Err(FaultKind::AmbiguousEnd.at(Place::at_last(url, rest)));
     }
-    Err(Fault::before(FaultKind::Trailing, end, after))
+    Err(FaultKind::Trailing.at(Place::before(end, after)))
 }

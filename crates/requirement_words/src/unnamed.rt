@@ -1,16 +1,15 @@
 //! A requirement without a name, up to its marker.
 
-ghost use Rattle.std.specs.Prelude.{◌++◌, IfErr, IfOk, List, ℕ};
-ghost use Rattle.std.specs.Str.{chars};
+ghost use Rattle.std.specs.Prelude.{◌++◌, IfErr, IfOk};
 ghost use Rattle.pep508_text.specs.Suffix.{IsSuffix};
-ghost use Rattle.requirement_words.specs.Part.{IsPartFault, IsRefused};
-ghost use Rattle.requirement_words.specs.Unnamed.{IsUnnamedHead};
+ghost use Rattle.requirement_words.specs.Fault.{RefusesUnnamed};
+ghost use Rattle.requirement_words.specs.Unnamed.{IsUnnamedHeadOf};
 
 use crate::extras::read_extras;
 use crate::fault::{Fault, FaultKind};
 use crate::url::{UrlPlace, split_url};
 use pep508_names::ExtraName;
-use pep508_text::{first, skip_space};
+use pep508_text::{Place, first, skip_space};
 use pep508_urls::split_extras;
 use refusal::Refusal;
 use std::alloc::Global;
@@ -28,15 +27,16 @@ pub struct UnnamedHead<'a> {
 
 /// A requirement without a name up to its marker, and what follows it: a URL, with any white space
 /// before it and extras in brackets at its end.
+///
+/// # Errors
+///
+/// A fault where no URL stands there, or at what is wrong with the extras at its end.
 pub fn read_unnamed_head<'a>(
     alloc: Global,
     text: &'a str,
 ) -> Result<(UnnamedHead<'a>, &'a str), Refusal<Fault<'a>>>
-    ensures found { IfOk result (λ x. IsUnnamedHead (chars text.now) (chars x.1.now)
-        x.0.given.now x.0.url.now x.0.extras.items) }
-    ensures refused { IfErr result (IsRefused (IsPartFault text.now)
-        ((output given url : List ℕ) (names : List (List ℕ))
-        → ¬ IsUnnamedHead (chars text.now) output given url names)) }
+    ensures found { IfOk result (λ x. IsUnnamedHeadOf text.now x.0 x.1.now) }
+    ensures refused { IfErr result (RefusesUnnamed text.now) }
     ensures suffix { IfOk result (λ x. IsSuffix text.now x.1.now) }
 
     // The URL as it is written stands right before what follows it.
@@ -45,7 +45,7 @@ pub fn read_unnamed_head<'a>(
     let place = skip_space(text);
     let (given, rest) = split_url(place, UrlPlace::Alone);
     let Some(_) = first(given) else {
-        return Err(Refusal::Fault(Fault::before(FaultKind::NoUrl, place, place)));
+        return Err(Refusal::Fault(FaultKind::NoUrl.at(Place::before(place, place))));
     };
     let Some((url, _)) = split_extras(given) else {
         let extras = Vec::new(alloc);

@@ -6,8 +6,7 @@ ghost use Rattle.pep508_text.specs.Run.{after_space};
 ghost use Rattle.pep508_text.specs.Suffix.{IsSuffix};
 ghost use Rattle.requirement_words.specs.Url.{after_url, closes, is_url_stop, may_end_before, open_behind, url_of};
 
-use crate::runs::{Part, is_line_break, split_part};
-use pep508_text::{first, skip_space};
+use pep508_text::{Class, first, is_line_break, skip_space, split_run};
 
 /// Where a URL stands in a requirement.
 #[derive(Clone, Copy, Debug, PartialEq, Eq)]
@@ -85,7 +84,7 @@ pub fn split_url(text: &str, place: UrlPlace) -> (&str, &str)
             if is_url_stop(skip_space(after)) {
                 break;
             }
-            rest = split_part(after, Part::Blank).1;
+            rest = split_run(after, Class::LineSpace).1;
             continue;
         }
         let ends = closes(brackets, c, after);

@@ -16,14 +16,14 @@ pub returns-in_default-clause-none : goal.returns-in_default-clause-none
 returns-in_default-clause-none c output s = behind_at_end c.in_default.ensures.characters s
 
 pub returns-in_default-clause-fault : goal.returns-in_default-clause-fault
-returns-in_default-clause-fault c = fault_at_end _ _ NotAtEnd _ _ c.at_end.ensures.kind c.at_end.ensures.piece c.at_end.ensures.left refl
+returns-in_default-clause-fault c = fault_at_end NotAtEnd c.at.ensures.kind c.at.ensures.place c.at_end.ensures.piece c.at_end.ensures.left refl
 
 pub returns-then-not-holds-clause-none : goal.returns-then-not-holds-clause-none
 returns-then-not-holds-clause-none c output s = not_behind c.in-Some.c c.in-Some.ensures.characters (λ white r e. true_false (sym white ∙ sym c.if-not-holds.ensures)) s
 
 pub returns-then-not-holds-clause-fault : goal.returns-then-not-holds-clause-fault
 returns-then-not-holds-clause-fault c =
-    fault_at_first c.in-Some.c NoSpaceAfterNot c.utf8.text c.in-Some.ensures.suffix c.in-Some.ensures.bytes c.before-then-not-holds.ensures.kind c.before-then-not-holds.ensures.piece c.before-then-not-holds.ensures.left (λ e. (c.in-Some.c, e, sym c.if-not-holds.ensures))
+    fault_at_first c.in-Some.c NoSpaceAfterNot c.utf8.text c.in-Some.ensures.suffix c.in-Some.ensures.bytes c.at-then-not-holds.ensures.kind c.at-then-not-holds.ensures.place c.before-then-not-holds.ensures.piece c.before-then-not-holds.ensures.left (λ e. (c.in-Some.c, e, sym c.if-not-holds.ensures))
 
 pub returns-in_err-rest-clause-none : goal.returns-in_err-rest-clause-none
 returns-in_err-rest-clause-none c =

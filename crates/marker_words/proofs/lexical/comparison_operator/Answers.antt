@@ -33,7 +33,7 @@ returns-in_default-clause-none c output operator s =
 pub returns-in_default-clause-fault : goal.returns-in_default-clause-fault
 returns-in_default-clause-fault c =
     let class_is = word_class (chars c.args.text.now) (sym c.begins_word.ensures ∙ c.if-begins_word.true) in
-    fault_at_run NoOperator c.utf8.text c.split_run.ensures.suffix c.split_run.ensures.joined c.at_run.ensures.kind c.at_run.ensures.piece c.at_run.ensures.left (longest_operator _ _ _ WordPart class_is c.split_run.ensures.joined c.split_run.ensures.bytes, subst HasNoOperator c.split_run.ensures.joined (returns-in_default-clause-none c))
+    fault_at_run NoOperator c.utf8.text c.split_run.ensures.suffix c.split_run.ensures.joined c.at.ensures.kind c.at.ensures.place c.at_run.ensures.piece c.at_run.ensures.left (longest_operator _ _ _ WordPart class_is c.split_run.ensures.joined c.split_run.ensures.bytes, subst HasNoOperator c.split_run.ensures.joined (returns-in_default-clause-none c))
 
 pub returns-in-Some-clause-found : goal.returns-in-Some-clause-found
 returns-in-Some-clause-found c = symbol_found c.in-Some.operator c.in-Some.ensures.found c.split_run-else-begins_word.ensures.bytes c.split_run-else-begins_word.ensures.rest
@@ -45,4 +45,4 @@ returns-in-None-clause-none c output operator s =
 pub returns-in-None-clause-fault : goal.returns-in-None-clause-fault
 returns-in-None-clause-fault c =
     let class_is = symbol_class (chars c.args.text.now) (sym c.begins_word.ensures ∙ c.if-begins_word.false) in
-    fault_at_run NoOperator c.utf8.text c.split_run-else-begins_word.ensures.suffix c.split_run-else-begins_word.ensures.joined c.at_run-in-None.ensures.kind c.at_run-in-None.ensures.piece c.at_run-in-None.ensures.left (longest_operator _ _ _ Comparison class_is c.split_run-else-begins_word.ensures.joined c.split_run-else-begins_word.ensures.bytes, subst HasNoOperator c.split_run-else-begins_word.ensures.joined (returns-in-None-clause-none c))
+    fault_at_run NoOperator c.utf8.text c.split_run-else-begins_word.ensures.suffix c.split_run-else-begins_word.ensures.joined c.at-in-None.ensures.kind c.at-in-None.ensures.place c.at_run-in-None.ensures.piece c.at_run-in-None.ensures.left (longest_operator _ _ _ Comparison class_is c.split_run-else-begins_word.ensures.joined c.split_run-else-begins_word.ensures.bytes, subst HasNoOperator c.split_run-else-begins_word.ensures.joined (returns-in-None-clause-none c))

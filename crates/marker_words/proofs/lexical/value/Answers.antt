@@ -12,7 +12,7 @@ pub returns-in_default-clause-none : goal.returns-in_default-clause-none
 returns-in_default-clause-none c output value v = no_value_at_end c.in_default.ensures.characters v
 
 pub returns-in_default-clause-fault : goal.returns-in_default-clause-fault
-returns-in_default-clause-fault c = fault_at_end _ _ ValueAtEnd _ _ c.at_end.ensures.kind c.at_end.ensures.piece c.at_end.ensures.left refl
+returns-in_default-clause-fault c = fault_at_end ValueAtEnd c.at.ensures.kind c.at.ensures.place c.at_end.ensures.piece c.at_end.ensures.left refl
 
 pub returns-in-Some-first-clause-found : goal.returns-in-Some-first-clause-found
 returns-in-Some-first-clause-found c =
@@ -30,7 +30,7 @@ returns-in-None-clause-none c output value v =
 pub returns-in-None-clause-fault : goal.returns-in-None-clause-fault
 returns-in-None-clause-fault c =
     let is_quote : IsQuote c.in-Some.c = search rules in
-    fault_at_first c.in-Some.c (Unclosed c.in-Some.c) c.utf8.text c.in-Some.ensures.suffix c.in-Some.ensures.bytes c.before-in-None.ensures.kind c.before-in-None.ensures.piece c.before-in-None.ensures.left (λ e. (c.in-Some.c, quotes is_quote (sym c.split_run.ensures.rest ∙ c.in-None.ensures.characters), e))
+    fault_at_first c.in-Some.c (Unclosed c.in-Some.c) c.utf8.text c.in-Some.ensures.suffix c.in-Some.ensures.bytes c.at-in-None.ensures.kind c.at-in-None.ensures.place c.before-in-None.ensures.piece c.before-in-None.ensures.left (λ e. (c.in-Some.c, quotes is_quote (sym c.split_run.ensures.rest ∙ c.in-None.ensures.characters), e))
 
 pub returns-in-Some-value_of_name-clause-found : goal.returns-in-Some-value_of_name-clause-found
 returns-in-Some-value_of_name-clause-found c = named_found _ _ _ _ c.split_run-else-is_quote.ensures.bytes c.split_run-else-is_quote.ensures.rest c.in-Some-value_of_name.ensures.found
@@ -45,4 +45,4 @@ returns-in-None-value_of_name-clause-none c output value v =
 
 pub returns-in-None-value_of_name-clause-fault : goal.returns-in-None-value_of_name-clause-fault
 returns-in-None-value_of_name-clause-fault c =
-    fault_at_run NoValue c.utf8.text c.split_run-else-is_quote.ensures.suffix c.split_run-else-is_quote.ensures.joined c.at_run.ensures.kind c.at_run.ensures.piece c.at_run.ensures.left (run_longest _ _ _ KeyPart c.split_run-else-is_quote.ensures.joined c.split_run-else-is_quote.ensures.bytes, subst HasNoValue c.split_run-else-is_quote.ensures.joined (returns-in-None-value_of_name-clause-none c))
+    fault_at_run NoValue c.utf8.text c.split_run-else-is_quote.ensures.suffix c.split_run-else-is_quote.ensures.joined c.at-in-None-value_of_name.ensures.kind c.at-in-None-value_of_name.ensures.place c.at_run.ensures.piece c.at_run.ensures.left (run_longest _ _ _ KeyPart c.split_run-else-is_quote.ensures.joined c.split_run-else-is_quote.ensures.bytes, subst HasNoValue c.split_run-else-is_quote.ensures.joined (returns-in-None-value_of_name-clause-none c))

@@ -1,7 +1,6 @@
 use Rattle.std.proofs.Common.{List, sym, subst}
 use Rattle.std.specs.Str.{chars}
-use Rattle.pep508_text.proofs.SuffixLaws.{suffix_then}
-use Rattle.requirement_words.proofs.FaultLaws.{part_of_suffix}
+use Rattle.pep508_text.proofs.SuffixLaws.{piece_of_suffix, suffix_then}
 use Rattle.pep508_errors.specs.declared.warning.MarkerWarningKind.{MarkerWarningKind}
 use Rattle.marker_graph.specs.declared.tree.TheConstants.MarkerTree.{TRUE}
 use Rattle.pep508_requirements.specs.Requirement.{IsTreeOfEnd}
@@ -15,7 +14,7 @@ pub read_marker-requires-clause-tail : goal.read_marker-requires-clause-tail
 read_marker-requires-clause-tail g c = rw c.in-Ok-Some.field-0-is at c.in-Ok-Some.ensures.found
 
 pub refusal_of_fault-requires : goal.refusal_of_fault-requires
-refusal_of_fault-requires g c = (part_of_suffix c.requires.placed c.in-Err.ensures.fault).place
+refusal_of_fault-requires g c = piece_of_suffix c.requires.placed c.in-Err.ensures.fault.place
 
 pub returns-in-Ok-None-clause-means : goal.returns-in-Ok-None-clause-means
 returns-in-Ok-None-clause-means g c =

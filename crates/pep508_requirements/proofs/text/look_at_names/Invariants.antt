@@ -1,6 +1,6 @@
 use Rattle.std.proofs.Common.{length}
 use Rattle.std.specs.List.{AllByRecursion}
-use Rattle.requirement_text.specs.Text.{IsNormal}
+use Rattle.requirement_words.specs.Text.{IsNormal}
 use Rattle.pep508_requirements.proofs.text.look_at_names.Given as goal
 
 abbrev pub invariant-loop-names : goal.invariant-loop-names

@@ -1,10 +1,11 @@
 use Rattle.std.specs.Str.{chars}
 use Rattle.pep508_text.proofs.SuffixLaws.{suffix_self, suffix_then}
+use Rattle.requirement_words.specs.Fault.{FindsInAsked}
 use Rattle.requirement_words.specs.declared.fault.FaultKind.TheVariants.{NoUrl}
 use Rattle.requirement_words.specs.declared.url.UrlPlace.TheVariants.{BehindName}
-use Rattle.requirement_words.proofs.FaultLaws.{part_in_front, part_of_suffix}
-use Rattle.requirement_words.proofs.HeadLaws.{url_body, no_url, url_placed, url_is_something}
-use Rattle.requirement_words.proofs.UnnamedLaws.{nothing_before, empty_url}
+use Rattle.requirement_words.proofs.FaultLaws.{fault_before}
+use Rattle.requirement_words.proofs.HeadLaws.{url_body, no_url, no_url_there, url_placed, url_is_something}
+use Rattle.requirement_words.proofs.UnnamedLaws.{empty_url}
 use Rattle.requirement_words.proofs.head.read_url.Goals as goal
 
 pub returns-in-Some-clause-found : goal.returns-in-Some-clause-found
@@ -26,8 +27,8 @@ before-requires c = suffix_self _ c.skip_space-place.utf8
 
 pub returns-in-None-clause-refused : goal.returns-in-None-clause-refused
 returns-in-None-clause-refused c = (
-  part_of_suffix (suffix_then c.requires.suffix c.skip_space-place.ensures.suffix)
-      (part_in_front _ _ _ NoUrl _ _ c.skip_space-place.utf8 c.skip_space-place.utf8 c.before-in-None.ensures.kind c.before-in-None.ensures.piece c.before-in-None.ensures.left
-      (nothing_before _ _ c.before-in-None.ensures.piece, (BehindName, empty_url BehindName (chars c.skip_space-place.result.now) _ c.split_url.ensures.bytes c.in-None.ensures.bytes))),
+  fault_before (FindsInAsked (chars c.args.text.now)) NoUrl (suffix_then c.requires.suffix c.skip_space-place.ensures.suffix) c.skip_space-place.utf8
+      c.at.ensures.kind c.at.ensures.place c.before-in-None.ensures.piece c.before-in-None.ensures.left
+      (no_url_there _ _ c.requires.at c.skip_space-place.ensures.rest c.before-in-None.ensures.piece (empty_url BehindName (chars c.skip_space-place.result.now) _ c.split_url.ensures.bytes c.in-None.ensures.bytes)),
   no_url _ _ _ _ c.requires.at c.skip_space-place.ensures.rest c.split_url.ensures.bytes c.in-None.ensures.bytes,
 )

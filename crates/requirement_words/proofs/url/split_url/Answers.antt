@@ -12,11 +12,11 @@ loop-c-init c = going_start _ _ c.utf8.text
 
 pub loop-c-preserved-then-may_end_before : goal.loop-c-preserved-then-may_end_before
 loop-c-preserved-then-may_end_before c =
-    going_white _ _ _ _ c.split_part.result.0.now _ _ c.in-Some.c c.utf8.text c.loop-c.invariant
+    going_white _ _ _ _ c.split_run.result.0.now _ _ c.in-Some.c c.utf8.text c.loop-c.invariant
     (sym c.is_line_break.ensures ∙ c.if-is_line_break.false) (sym c.may_end_before.ensures ∙ c.if-may_end_before.true)
     (ap is_url_stop (sym c.skip_space.ensures.rest) ∙ sym c.is_url_stop.ensures ∙ c.if-is_url_stop.false)
     c.in-Some.ensures.bytes c.in-Some.ensures.characters c.in-Some.ensures.shorter
-    c.split_part.ensures.joined c.split_part.ensures.suffix.utf8 c.split_part.ensures.run c.split_part.ensures.rest c.split_part.ensures.no_longer
+    c.split_run.ensures.joined c.split_run.ensures.suffix.utf8 c.split_run.ensures.run c.split_run.ensures.rest c.split_run.ensures.no_longer
 
 pub loop-c-preserved : goal.loop-c-preserved
 loop-c-preserved c =

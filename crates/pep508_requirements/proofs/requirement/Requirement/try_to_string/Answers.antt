@@ -2,7 +2,7 @@ use Rattle.std.proofs.Common.{◌≡◌, List, ℕ, subst}
 use Rattle.std.specs.Prelude.{IfOk, IfSome, string_bytes, option_map}
 use Rattle.std.specs.List.{AllByRecursion}
 use Rattle.marker_graph.specs.Contents.{truth}
-use Rattle.requirement_text.specs.Text.{IsNormal}
+use Rattle.requirement_words.specs.Text.{IsNormal}
 use Rattle.pep508_requirements.specs.Text.{requirement_text}
 use Rattle.pep508_requirements.proofs.TextLaws.{text_told, text_back, utf8_text}
 use Rattle.pep508_requirements.proofs.requirement.Requirement.try_to_string.Goals as goal

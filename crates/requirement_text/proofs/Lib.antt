@@ -1,3 +1,0 @@
-pub mod HeadText
-pub mod NameText
-pub mod PlainText
