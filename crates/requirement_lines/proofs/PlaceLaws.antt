@@ -97,11 +97,13 @@ end_parts {whole} {rest} shown utf8 e parts =
     ∙ ap (λ (p : Place). characters_at whole.place (chars shown) ++ characters_at p (chars rest.text.now)) place_is
 
 -- what is left of a whole text has the places of a text by itself
-pub end_characters : {whole rest : Piece} → whole.place ≡ start_of whole.text.now → IsEnd whole rest → characters_of rest ≡ characters rest.text.now
-end_characters {whole} {rest} place e =
+pub end_start : {whole rest : Piece} → whole.place ≡ start_of whole.text.now → IsEnd whole rest → rest.place ≡ start_of rest.text.now
+end_start {whole} {rest} place e =
     let size : length whole.text.now - length e.front ≡ length rest.text.now = omega (arith, ap length e.parts, length-append e.front rest.text.now) in
-    let here : rest.place ≡ start_of rest.text.now = e.place ∙ ap (λ (p : Place). after p (length e.front)) place ∙ ap (λ (n : ℕ). record { to_end = n; source = File }) size in
-    ap (λ (p : Place). characters_at p (chars rest.text.now)) here
+    e.place ∙ ap (λ (p : Place). after p (length e.front)) place ∙ ap (λ (n : ℕ). record { to_end = n; source = File }) size
+
+pub end_characters : {whole rest : Piece} → whole.place ≡ start_of whole.text.now → IsEnd whole rest → characters_of rest ≡ characters rest.text.now
+end_characters {whole} {rest} place e = ap (λ (p : Place). characters_at p (chars rest.text.now)) (end_start place e)
 
 -- ---- a text that is cut before a mark
 

@@ -5,3 +5,6 @@ pub mod Marks
 pub mod Logical
 pub mod Pieces
 pub mod Reports
+pub mod Variables
+pub mod Rest
+pub mod Position

@@ -11,11 +11,15 @@
 mod logical;
 mod pieces;
 mod places;
+mod positions;
 mod reports;
 mod sets;
+mod variables;
 
 pub use crate::logical::{cut_line, next_line, without_mark};
 pub use crate::pieces::{Piece, split_line};
 pub use crate::places::{Place, Source};
+pub use crate::positions::{Position, Positions};
 pub use crate::reports::{Judge, LineReport, check_line, check_text, place_at, text_of};
-pub use crate::sets::{CharacterSet, Mark};
+pub use crate::sets::{CharacterSet, Mark, is_break};
+pub use crate::variables::replace_variables;

@@ -3,7 +3,7 @@
 ghost use Rattle.std.specs.Prelude.{◌≡◌, ◌≢◌, ◌↔◌, IsTrue, encode_utf8_all, map, ◌∷◌, ◌++◌, [], ◌<◌, ◌≤◌, length, reverse, true, IfSome, MatchOption};
 ghost use Rattle.std.specs.Str.{chars};
 ghost use Rattle.pep508_text.specs.Suffix.{IsSuffix};
-ghost use Rattle.requirement_lines.specs.Character.{Character, characters};
+ghost use Rattle.requirement_lines.specs.Character.{Character, characters, start_of};
 ghost use Rattle.requirement_lines.specs.Pieces.{IsEnd, characters_of};
 ghost use Rattle.requirement_lines.specs.Ends as ends;
 ghost use Rattle.requirement_lines.specs.Marks as marks;
@@ -45,6 +45,7 @@ impl<'a> Piece<'a> {
     pub fn whole(text: &'a str) -> Piece<'a>
         ensures characters { characters_of result ≡ characters text.now }
         ensures text { result.text.now ≡ text.now }
+        ensures place { result.place ≡ start_of text.now }
     {
         Piece {
             text,
@@ -113,9 +114,11 @@ impl<'a> Piece<'a> {
     }
 
     // What stands before this end of the piece.
-    fn front(self, rest: Piece<'a>) -> Piece<'a>
+    pub(crate) fn front(self, rest: Piece<'a>) -> Piece<'a>
         requires { IsEnd self rest }
-        ensures { characters_of self.entry ≡ characters_of result ++ characters_of rest.entry }
+        ensures parts { characters_of self.entry
+            ≡ characters_of result ++ characters_of rest.entry }
+        ensures place { result.place ≡ self.entry.place }
     {
         Piece {
             text: before_end(self.text, rest.text),
@@ -170,7 +173,7 @@ impl<'a> Piece<'a> {
     }
 
     // Whether the first character is this one.
-    fn begins_with(self, c: char) -> bool
+    pub(crate) fn begins_with(self, c: char) -> bool
         ensures { result ≡ ends.begins_with c (characters_of self.entry) }
     {
         match self.first() {

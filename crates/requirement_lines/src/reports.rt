@@ -3,7 +3,7 @@
 ghost use Rattle.std.specs.Prelude.{◌≡◌, ◌≢◌, [], ◌∷◌, ◌++◌, ℕ, List, IfOk, IfNone, map, string_bytes};
 ghost use Rattle.std.specs.Option.{option_map};
 ghost use Rattle.requirement_lines.specs.Pieces.{line_of};
-ghost use Rattle.requirement_lines.specs.Logical.{lines_of_file};
+ghost use Rattle.requirement_lines.specs.Variables.{value_of, replaced_lines};
 ghost use Rattle.requirement_lines.specs.Reports as spec;
 ghost use Rattle.requirement_lines.specs.declared.places.Source.TheVariants.{File};
 
@@ -11,7 +11,9 @@ use crate::logical::{cut_line, next_line, without_mark};
 use crate::pieces::Piece;
 use crate::places::{Place, Source};
 use crate::sets::Mark;
+use crate::variables::replace_variables;
 use std::alloc::{AllocError, Global};
+use std::collections::BTreeMap;
 
 /// Says what is found in the text of a requirement.
 pub trait Judge {
@@ -71,8 +73,8 @@ pub fn text_of(alloc: Global, pieces: &[Piece<'_>]) -> Result<String, AllocError
     Ok(text)
 }
 
-/// What is found in the requirement of the line: what stands before its options. `None` if the
-/// line has options alone.
+/// What is found in the requirement of a line whose variables are replaced: what stands before its
+/// options. `None` if the line has options alone.
 pub fn check_line<'a, J: Judge>(
     alloc: Global,
     line: &[Piece<'a>],
@@ -95,20 +97,24 @@ pub fn check_line<'a, J: Judge>(
     }))
 }
 
-/// What is found in each requirement of the file's text, in their order.
+/// What is found in each requirement of a file, in their order, with the values of a table in
+/// place of variables ([`replace_variables`]).
 pub fn check_text<'a, J: Judge>(
     alloc: Global,
     text: &'a str,
+    variables: &'a BTreeMap<String, String>,
     judge: &mut J,
 ) -> Result<Vec<LineReport<'a, J::Finding>>, AllocError>
-    ensures { IfOk result (λ reports. spec.Reports J.finds judge.old (lines_of_file text.now)
+    ensures { IfOk result (λ reports. spec.Reports J.finds judge.old
+        (replaced_lines (value_of variables.now) text.now)
         (map spec.report_of reports.items) judge.new) }
 {
     let mut reports = Vec::new(alloc);
     let mut rest = without_mark(text);
     while let Some((line, after)) = next_line(alloc, rest)? {
         rest = after;
-        if let Some(report) = check_line(alloc, line.as_slice(), judge)? {
+        let replaced = replace_variables(alloc, line.as_slice(), variables)?;
+        if let Some(report) = check_line(alloc, replaced.as_slice(), judge)? {
             reports.push(report)?;
         }
     }

@@ -21,7 +21,7 @@ returns-then-is_break-clause-lines c = λ some.
     let i = c.loop-c.invariant in
     let end = end_then (end_then i.end c.in-Some.ensures.end) c.after_break-behind.ensures.end in
     let breaks = c.after_break-behind.ensures.lines _ refl (sym c.is_break.ensures ∙ c.if-is_break.true) in
-    in_line_ended (characters_of c.front-line.result) _ i.line c.front-line.ensures (ap physical_lines c.in-Some.ensures.characters ∙ breaks)
+    in_line_ended (characters_of c.front-line.result) _ i.line c.front-line.ensures.parts (ap physical_lines c.in-Some.ensures.characters ∙ breaks)
     ∙ ap (λ x. characters_of c.front-line.result ∷ physical_lines x) (end_characters refl end)
 
 pub returns-clause-lines : goal.returns-clause-lines

@@ -13,9 +13,9 @@ loop-c-preserved c =
 pub returns-then-counts-clause-front : goal.returns-then-counts-clause-front
 returns-then-counts-clause-front c =
     let i = c.loop-c.invariant in
-    (cuts_found _ _ i.cuts c.in-Some.ensures.characters (sym c.counts.ensures ∙ c.if-counts.true) c.front.ensures).0
+    (cuts_found _ _ i.cuts c.in-Some.ensures.characters (sym c.counts.ensures ∙ c.if-counts.true) c.front.ensures.parts).0
 
 pub returns-then-counts-clause-follow : goal.returns-then-counts-clause-follow
 returns-then-counts-clause-follow c =
     let i = c.loop-c.invariant in
-    (cuts_found _ _ i.cuts c.in-Some.ensures.characters (sym c.counts.ensures ∙ c.if-counts.true) c.front.ensures).1
+    (cuts_found _ _ i.cuts c.in-Some.ensures.characters (sym c.counts.ensures ∙ c.if-counts.true) c.front.ensures.parts).1
