@@ -1,9 +1,8 @@
 -- Physical lines, one after another.
-use Rattle.std.proofs.Common.{◌≡◌, ◌≢◌, ℕ, ◌+◌, ◌-◌, ◌<◌, ◌≤◌, arith, Bool, true, false, cond, List, [], ◌∷◌, ◌++◌, refl, sym, ap, ◌∙◌, subst, append_assoc}
-use Rattle.std.specs.Prelude.{◌==◌, ◌&&◌, not, nat_lt}
-use Rattle.std.specs.Char.{len_utf8}
+use Rattle.std.proofs.Common.{◌≡◌, ◌≢◌, ℕ, Bool, true, false, cond, List, [], ◌∷◌, ◌++◌, refl, sym, ap, ◌∙◌, subst, append_assoc}
+use Rattle.std.specs.Prelude.{◌==◌, ◌&&◌}
 use Rattle.std.proofs.lemmas.List.{append-nil, append_cancel_right}
-use Rattle.std.proofs.lemmas.Bool.{eqb-true, lt-ltb, le-ltb}
+use Rattle.std.proofs.lemmas.Bool.{eqb-true}
 use Rattle.requirement_lines.specs.Character.{Character}
 use Rattle.requirement_lines.specs.Ends.{begins_with}
 use Rattle.requirement_lines.specs.Physical.{is_break, single_breaks, with_first, broken_lines, physical_lines}

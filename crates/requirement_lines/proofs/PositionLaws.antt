@@ -1,13 +1,12 @@
 -- Positions, character by character.
-use Rattle.std.proofs.Common.{◌≡◌, ℕ, ◌+◌, ◌-◌, ◌<◌, ◌≤◌, Bool, true, false, cond, List, [], ◌∷◌, ◌++◌, length, refl, sym, ap, ◌∙◌, subst, arith, IsUtf8}
+use Rattle.std.proofs.Common.{◌≡◌, ℕ, ◌+◌, ◌<◌, ◌≤◌, Bool, true, false, cond, List, [], ◌∷◌, length, sym, ap, ◌∙◌, subst, arith, IsUtf8}
 use Rattle.std.specs.Str.{chars}
 use Rattle.std.proofs.lemmas.Bool.{lt-ltb, le-ltb}
 use Rattle.pep508_text.specs.Suffix.{IsSuffix}
 use Rattle.pep508_text.proofs.SuffixLaws.{suffix_self, suffix_then, suffix_length}
-use Rattle.requirement_lines.specs.Character.{Character, after, characters_at, start_of, characters}
+use Rattle.requirement_lines.specs.Character.{Character, characters_at, start_of, characters}
 use Rattle.requirement_lines.specs.Pieces.{IsEnd, characters_of}
-use Rattle.requirement_lines.specs.Logical.{without_mark}
-use Rattle.requirement_lines.specs.Position.{ends_line, first_position, next_position, position_from, position_in, StandsAt}
+use Rattle.requirement_lines.specs.Position.{ends_line, next_position, position_from, StandsAt}
 use Rattle.requirement_lines.specs.declared.pieces.Piece.{Piece}
 use Rattle.requirement_lines.specs.declared.positions.Position.{Position}
 use Rattle.requirement_lines.proofs.PlaceLaws.{end_start, end_suffix}
@@ -60,7 +59,7 @@ pub advancing_more : {here now next : Position} {whole : List ℕ} {to_end : ℕ
 advancing_more {here} {now} {next} {whole} {to_end} {left} {rest} c a begins end shorter before next_is =
     let p : Character = record { char = c; place = left.place } in
     let step : (n : ℕ) → n < left.place.to_end → position_from now n (characters_of left) ≡ position_from next n (characters_of rest) =
-        λ n lt. ap (position_from now n) begins ∙ position-step now n p (characters_of rest) lt ∙ ap (λ (x : Position). position_from x n (characters_of rest)) (sym next_is) in
+    λ n lt. ap (position_from now n) begins ∙ position-step now n p (characters_of rest) lt ∙ ap (λ (x : Position). position_from x n (characters_of rest)) (sym next_is) in
     let size : left.place.to_end ≡ length left.text.now = ap (λ x. x.to_end) a.place in
     let line : next.line ≤ now.line + 1 = subst (λ (x : Position). x.line ≤ now.line + 1) (sym next_is) (next_line now c (characters_of rest)) in
     let column : next.column ≤ now.column + 1 = subst (λ (x : Position). x.column ≤ now.column + 1) (sym next_is) (next_column now c (characters_of rest)) in

@@ -7,7 +7,7 @@ use Rattle.std.specs.Str.{chars}
 use Rattle.std.proofs.lemmas.List.{append-nil, map-append, take_more}
 use Rattle.std.proofs.lemmas.Bool.{ltb-true, ltb-false}
 use Rattle.std.proofs.lemmas.Str.{encodes-append, length-encode, len_utf8_bounds}
-use Rattle.requirement_lines.specs.Character.{Character, left_after, after, characters_at, start_of, characters}
+use Rattle.requirement_lines.specs.Character.{Character, after, characters_at, start_of, characters}
 use Rattle.requirement_lines.specs.Logical.{without_mark}
 use Rattle.requirement_lines.specs.Pieces.{characters_of, line_of}
 use Rattle.requirement_lines.specs.Reports.{text_of, place_at, Report, report_of, ReportsLine, Reports, none, options, requirement}

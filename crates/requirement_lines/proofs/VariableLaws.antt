@@ -1,5 +1,5 @@
 -- A line whose variables are replaced, character by character.
-use Rattle.std.proofs.Common.{◌≡◌, ℕ, ◌<◌, Bool, true, false, cond, List, [], ◌∷◌, ◌++◌, length, refl, sym, ap, ◌∙◌, subst, append_assoc, arith, length-append}
+use Rattle.std.proofs.Common.{◌≡◌, ℕ, ◌<◌, Bool, true, false, cond, List, [], ◌∷◌, ◌++◌, length, refl, sym, ap, ◌∙◌, append_assoc, arith, length-append}
 use Rattle.std.specs.Prelude.{Option, None, Some, is_some, option_map, option_and_then, not, ◌==◌, encode_utf8, encode_utf8_all}
 use Rattle.std.proofs.lemmas.List.{append-nil, append_cancel_right}
 use Rattle.std.proofs.lemmas.Str.{encodes-append, length-encode, len_utf8_bounds}
@@ -26,10 +26,10 @@ module _ (value_of : List ℕ → Option (List ℕ)) (others : List Character) w
       → Replacing all kept ps ps still
   replacing_inside {all} {kept} {start} {rest} {ps} {within} {still} p r in_variable begins still_is =
       replacing_none all kept ps still (
-        r.goes_on ∙ ap (λ (x : List Character). kept ++ (x ++ replaced value_of within (rest ++ others))) (r.none in_variable)
-        ∙ ap (λ (b : Bool). kept ++ replaced value_of b (rest ++ others)) in_variable
-        ∙ ap (λ (x : List Character). kept ++ replaced value_of true (x ++ others)) begins
-        ∙ ap (λ (b : Bool). kept ++ replaced value_of b (ps ++ others)) (sym still_is))
+      r.goes_on ∙ ap (λ (x : List Character). kept ++ (x ++ replaced value_of within (rest ++ others))) (r.none in_variable)
+      ∙ ap (λ (b : Bool). kept ++ replaced value_of b (rest ++ others)) in_variable
+      ∙ ap (λ (x : List Character). kept ++ replaced value_of true (x ++ others)) begins
+      ∙ ap (λ (b : Bool). kept ++ replaced value_of b (ps ++ others)) (sym still_is))
 
   -- one more character, in place of which `put` stands
   one_more : (p : Character) (ps : List Character) (value : Option (List ℕ)) → value ≡ value_at value_of ((p ∷ ps) ++ others)
@@ -44,21 +44,21 @@ module _ (value_of : List ℕ → Option (List ℕ)) (others : List Character) w
       let pending_is : r.pending ≡ front = append_cancel_right r.pending front rest (sym r.parts ∙ front_is) in
       let put = value_characters p.place value in
       let here : replaced value_of false (rest ++ others) ≡ put ++ replaced value_of true (ps ++ others) =
-          ap (λ (x : List Character). replaced value_of false (x ++ others)) begins ∙ one_more p ps (Some value) has in
+      ap (λ (x : List Character). replaced value_of false (x ++ others)) begins ∙ one_more p ps (Some value) has in
       replacing_none all new ps true (
-        r.goes_on ∙ ap (λ (x : List Character). kept ++ (x ++ replaced value_of within (rest ++ others))) pending_is
-        ∙ ap (λ (b : Bool). kept ++ (front ++ replaced value_of b (rest ++ others))) outside
-        ∙ ap (λ (x : List Character). kept ++ (front ++ x)) here
-        ∙ sym (append_assoc kept front (put ++ replaced value_of true (ps ++ others)))
-        ∙ sym (append_assoc (kept ++ front) put (replaced value_of true (ps ++ others)))
-        ∙ ap (λ (x : List Character). x ++ replaced value_of true (ps ++ others)) (sym new_is))
+      r.goes_on ∙ ap (λ (x : List Character). kept ++ (x ++ replaced value_of within (rest ++ others))) pending_is
+      ∙ ap (λ (b : Bool). kept ++ (front ++ replaced value_of b (rest ++ others))) outside
+      ∙ ap (λ (x : List Character). kept ++ (front ++ x)) here
+      ∙ sym (append_assoc kept front (put ++ replaced value_of true (ps ++ others)))
+      ∙ sym (append_assoc (kept ++ front) put (replaced value_of true (ps ++ others)))
+      ∙ ap (λ (x : List Character). x ++ replaced value_of true (ps ++ others)) (sym new_is))
 
   -- a character that stays
   pub replacing_kept : {all kept start rest ps : List Character} {within : Bool} (p : Character) → Replacing all kept start rest within → within ≡ false → rest ≡ p ∷ ps
       → None ≡ value_at value_of ((p ∷ ps) ++ others) → Replacing all kept start ps within
   replacing_kept {all} {kept} {start} {rest} {ps} {within} p r outside begins has =
       let here : replaced value_of false (rest ++ others) ≡ (p ∷ []) ++ replaced value_of false (ps ++ others) =
-          ap (λ (x : List Character). replaced value_of false (x ++ others)) begins ∙ one_more p ps None has in
+      ap (λ (x : List Character). replaced value_of false (x ++ others)) begins ∙ one_more p ps None has in
       record {
         pending = r.pending ++ (p ∷ []);
         parts = r.parts ∙ ap (λ (x : List Character). r.pending ++ x) begins ∙ sym (append_assoc r.pending (p ∷ []) ps);

@@ -1,6 +1,6 @@
 -- Variables of a line, as `${NAME}`, and the line with values in their place. A variable is
 -- replaced wherever it stands, and what was put in is not looked at again.
-use Rattle.std.specs.Prelude.{ℕ, Bool, true, false, not, ◌||◌, ◌&&◌, ◌==◌, List, [], ◌∷◌, ◌++◌, Option, None, Some, is_some, map, option_map, option_and_then, encode_utf8_all, String, string_bytes, if◌then◌else◌}
+use Rattle.std.specs.Prelude.{ℕ, Bool, true, false, not, ◌||◌, ◌==◌, List, [], ◌∷◌, ◌++◌, Option, None, Some, is_some, map, option_map, option_and_then, encode_utf8_all, String, string_bytes, if◌then◌else◌}
 use Rattle.std.specs.Char.{is_ascii_digit, is_ascii_uppercase}
 use Rattle.std.specs.Str.{chars}
 use Rattle.std.specs.BTreeMap.{BTreeMap, get_by_text}

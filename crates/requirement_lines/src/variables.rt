@@ -182,7 +182,14 @@ pub fn replace_variables<'a>(
     let mut inside = false;
     for index in 0..line.len() {
         let piece = line[index];
-        inside = replace_piece(alloc, &mut kept, piece, &line[index + 1..], inside, variables)?;
+        inside = replace_piece(
+            alloc,
+            &mut kept,
+            piece,
+            &line[index + 1..],
+            inside,
+            variables,
+        )?;
     }
     Ok(kept)
 }

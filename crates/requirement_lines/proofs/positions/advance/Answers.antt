@@ -1,7 +1,5 @@
-use Rattle.std.proofs.Common.{◌≡◌, sym, ap, ◌∙◌, arith}
-use Rattle.pep508_text.proofs.SuffixLaws.{suffix_self}
-use Rattle.requirement_lines.specs.Position.{position_from}
-use Rattle.requirement_lines.proofs.PositionLaws.{advancing_none, advancing_more, advancing_found, advancing_ended, advancing_rest}
+use Rattle.std.proofs.Common.{arith}
+use Rattle.requirement_lines.proofs.PositionLaws.{advancing_none, advancing_more}
 use Rattle.requirement_lines.proofs.positions.advance.Goals as goal
 
 pub loop-c-init : goal.loop-c-init

@@ -16,7 +16,7 @@ loop-reports-preserved g c =
     let end = rw c.in-Some.is at c.in_ok-line.ensures.suffix in
     let report = c.in_ok-report.field-0 in
     let line : line_of c.as_slice-in-Some.result.now ≡ replaced value false (line_of c.in-Some.line.items) =
-        ap line_of c.as_slice-in-Some.ensures.value ∙ c.in_ok-replaced.ensures ∙ ap (λ x. replaced value false (line_of x)) c.as_slice.ensures.value in
+    ap line_of c.as_slice-in-Some.ensures.value ∙ c.in_ok-replaced.ensures ∙ ap (λ x. replaced value false (line_of x)) c.as_slice.ensures.value in
     let finds = subst (λ x. ReportsLine g.J.Judge.finds c.loop-reports.judge x (option_map report_of report) c.check_line.new.judge) line c.in_ok-report.ensures.reported in
     let pushed : c.match-branch-5.reports.items ≡ c.loop-reports.reports.items ++ option_to_list report = elim c.match-branch-5.branch [
       | in-Some-2+in_ok-push w ↦ ap (λ x. x.items) w.reports-is ∙ w.in_ok-push.ensures.items ∙ ap (λ x. c.loop-reports.reports.items ++ option_to_list x) (sym w.in-Some-2.is)

@@ -1,5 +1,5 @@
 use Rattle.std.proofs.Common.{◌≡◌, ◌<◌, length, sym, ap, ◌∙◌, rules, arith}
-use Rattle.std.specs.Prelude.{List, ℕ, Option, Some, option_map, encode_utf8_all, string_bytes}
+use Rattle.std.specs.Prelude.{Some, option_map, encode_utf8_all, string_bytes}
 use Rattle.std.proofs.lemmas.Bool.{eq-eqb, ne_eqb}
 use Rattle.requirement_lines.specs.Rest.{rest_of}
 use Rattle.requirement_lines.specs.Variables.{braced_name, not_empty}

@@ -1,5 +1,5 @@
-use Rattle.std.proofs.Common.{◌+◌, drop, ap, ◌∙◌, sym, arith, get_or}
-use Rattle.requirement_lines.specs.Pieces.{characters_of, line_of}
+use Rattle.std.proofs.Common.{◌+◌, drop, ◌∙◌, arith, get_or}
+use Rattle.requirement_lines.specs.Pieces.{line_of}
 use Rattle.requirement_lines.proofs.LogicalLaws.{no_piece, line_of-drop}
 use Rattle.requirement_lines.proofs.VariableLaws.{one_character}
 use Rattle.requirement_lines.proofs.variables.next_character.Goals as goal
