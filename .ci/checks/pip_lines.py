@@ -11,6 +11,7 @@ from __future__ import annotations
 import os
 import random
 import re
+import shlex
 import subprocess
 from collections.abc import Iterator
 from dataclasses import dataclass
@@ -64,8 +65,16 @@ def cases(count: int) -> Iterator[Case]:
         yield Case(mark + "".join(parts), [chosen.choice(VALUES) for _ in NAMES])
 
 
-def wanted(case: Case) -> list[tuple[str, str]]:
-    """The logical lines as pip has them, each with its requirement."""
+def words_of(options: str) -> list[str] | None:
+    """The words of the options of a line, or None where quotes do not end."""
+    try:
+        return shlex.split(options)
+    except ValueError:
+        return None
+
+
+def wanted(case: Case) -> list[tuple[str, str, list[str] | None]]:
+    """The logical lines as pip has them, each with its requirement and the words of its options."""
     from pip._internal.req import req_file
 
     before = dict(os.environ)
@@ -76,7 +85,8 @@ def wanted(case: Case) -> list[tuple[str, str]]:
     finally:
         os.environ.clear()
         os.environ.update(before)
-    return [(line, req_file.break_args_options(line)[0]) for line in lines]
+    parts = [req_file.break_args_options(line) for line in lines]
+    return [(line, front, words_of(options)) for line, (front, options) in zip(lines, parts)]
 
 
 def position(file: str, byte: int) -> tuple[int, int]:
@@ -94,15 +104,23 @@ def unlike(case: Case, output: str) -> str | None:
     """How the program's line differs from what pip reads, or from the places of the file."""
     shown = [word.split(":") for word in output.split()]
     found = [(bytes.fromhex(word[0]).decode(), int(word[1])) for word in shown]
+    split = [
+        None
+        if word[6] == "!"
+        else [bytes.fromhex(text[1:]).decode() for text in word[6].split(",") if text]
+        for word in shown
+    ]
     lines = wanted(case)
-    if [line for line, _ in found] != [line for line, _ in lines]:
+    if [line for line, _ in found] != [line for line, _, _ in lines]:
         return f"{case} has the lines {found}, and in pip {lines}"
-    for (line, size), (_, requirement) in zip(found, lines):
+    for (line, size), (_, requirement, words), shown_words in zip(found, lines, split):
         # pip leaves the space before an option out.
         front = line.encode()[:size].decode()
         if requirement not in (front, front.removesuffix(" ")):
             return f"{case}: the requirement of {line!r} is {front!r}, and in pip {requirement!r}"
-    for (line, _), (_, _, *place, byte, source) in zip(found, shown):
+        if words != shown_words:
+            return f"{case}: the words of {line!r} are {shown_words}, and in pip {words}"
+    for (line, _), (_, _, *place, byte, source, _) in zip(found, shown):
         stands = case.file.encode()[int(byte) :].decode()
         if not stands.startswith("$" if source == "value" else line[:1]):
             return f"{case}: {line!r} does not begin at the byte {byte}"

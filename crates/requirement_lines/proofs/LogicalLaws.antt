@@ -8,7 +8,7 @@ use Rattle.requirement_lines.specs.Pieces.{characters_of, line_of}
 use Rattle.requirement_lines.specs.declared.pieces.Piece.{Piece}
 use Rattle.requirement_lines.specs.declared.places.Source.TheVariants.{File}
 use Rattle.requirement_lines.specs.Physical.{physical_lines}
-use Rattle.requirement_lines.specs.Marks.{is_mark, opens, before, may_follow}
+use Rattle.requirement_lines.specs.Marks.{is_mark, opens, before, may_follow, from_mark}
 use Rattle.requirement_lines.specs.Logical.{is_continued, part_of, with_front, joined, trimmed, with_text, trimmed_lines, logical_lines}
 use Rattle.requirement_lines.specs.declared.sets.CharacterSet.{CharacterSet}
 use Rattle.requirement_lines.specs.declared.sets.CharacterSet.TheVariants.{Space}
@@ -76,6 +76,27 @@ before-append mark may (p ∷ ps) ys = go (may && is_mark mark p.char) (before-a
         → cond b [] (p ∷ before mark (opens mark p.char) (ps ++ ys)) ≡ cond b [] (p ∷ before mark (opens mark p.char) ps) ++ behind mark (cond b None (may_follow mark (opens mark p.char) ps)) ys
     go true e = refl
     go false e = ap (λ (x : List Character). p ∷ x) e
+
+-- ---- cut from a mark on
+
+-- what stands from the mark on, of a front and what follows it
+pub from_mark-none : (mark : Mark) (may next : Bool) (xs ys : List Character) → Some next ≡ may_follow mark may xs → from_mark mark may (xs ++ ys) ≡ from_mark mark next ys
+from_mark-none mark may next [] ys e = ap (λ b. from_mark mark b ys) (cc)
+from_mark-none mark may next (p ∷ ps) ys e = go (may && is_mark mark p.char) (from_mark-none mark (opens mark p.char) next ps ys) e
+  where
+    go : (b : Bool) → (Some next ≡ may_follow mark (opens mark p.char) ps → from_mark mark (opens mark p.char) (ps ++ ys) ≡ from_mark mark next ys) → Some next ≡ cond b None (may_follow mark (opens mark p.char) ps)
+        → cond b (p ∷ (ps ++ ys)) (from_mark mark (opens mark p.char) (ps ++ ys)) ≡ from_mark mark next ys
+    go true shorter e = absurd cc
+    go false shorter e = shorter e
+
+pub from_mark-found : (mark : Mark) (may : Bool) (xs ys : List Character) → None ≡ may_follow mark may xs → from_mark mark may (xs ++ ys) ≡ from_mark mark may xs ++ ys
+from_mark-found mark may [] ys e = absurd cc
+from_mark-found mark may (p ∷ ps) ys e = go (may && is_mark mark p.char) (from_mark-found mark (opens mark p.char) ps ys) e
+  where
+    go : (b : Bool) → (None ≡ may_follow mark (opens mark p.char) ps → from_mark mark (opens mark p.char) (ps ++ ys) ≡ from_mark mark (opens mark p.char) ps ++ ys) → None ≡ cond b None (may_follow mark (opens mark p.char) ps)
+        → cond b (p ∷ (ps ++ ys)) (from_mark mark (opens mark p.char) (ps ++ ys)) ≡ cond b (p ∷ ps) (from_mark mark (opens mark p.char) ps) ++ ys
+    go true shorter e = refl
+    go false shorter e = shorter e
 
 -- ---- skipped in parts
 

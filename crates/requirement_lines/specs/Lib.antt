@@ -8,3 +8,5 @@ pub mod Reports
 pub mod Variables
 pub mod Rest
 pub mod Position
+pub mod Words
+pub mod Reading

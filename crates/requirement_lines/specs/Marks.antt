@@ -26,3 +26,9 @@ abbrev pub may_follow : Mark → Bool → List Character → Option Bool
 may_follow mark may [] = Some may
 may_follow mark may (p ∷ ps) =
     if may && is_mark mark p.char then None else may_follow mark (opens mark p.char) ps
+
+-- What stands from the first mark that counts on.
+abbrev pub from_mark : Mark → Bool → List Character → List Character
+from_mark mark may [] = []
+from_mark mark may (p ∷ ps) =
+    if may && is_mark mark p.char then p ∷ ps else from_mark mark (opens mark p.char) ps

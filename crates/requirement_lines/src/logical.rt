@@ -5,9 +5,10 @@ ghost use Rattle.pep508_text.specs.Suffix.{IsSuffix};
 ghost use Rattle.requirement_lines.specs.Character.{characters};
 ghost use Rattle.requirement_lines.specs.Pieces.{line_of};
 ghost use Rattle.requirement_lines.specs.Ends.{skip, skip_back};
-ghost use Rattle.requirement_lines.specs.Marks.{before};
+ghost use Rattle.requirement_lines.specs.Marks.{before, from_mark};
 ghost use Rattle.requirement_lines.specs.Logical as spec;
 ghost use Rattle.requirement_lines.specs.declared.sets.CharacterSet.TheVariants.{Space};
+ghost use Rattle.requirement_lines.specs.declared.sets.Mark.TheVariants.{Options};
 
 use crate::pieces::{Piece, split_line};
 use crate::sets::{CharacterSet, Mark};
@@ -54,6 +55,27 @@ pub fn cut_line<'a>(
         match follow {
             None => return Ok(kept),
             Some(next) => may = next,
+        }
+    }
+    Ok(kept)
+}
+
+/// The options of the line: what stands from the first `-` on that is at the front or after a space
+/// (U+0020). Nothing if there is none.
+pub fn options_of<'a>(alloc: Global, line: &[Piece<'a>]) -> Result<Vec<Piece<'a>>, AllocError>
+    ensures { IfOk result (λ v. line_of v.items ≡ from_mark Options true (line_of line.now)) }
+{
+    let mut kept = Vec::new(alloc);
+    let mut may = true;
+    for index in 0..line.len() {
+        let piece = line[index];
+        match piece.cut(Mark::Options, may).1 {
+            Some(next) => may = next,
+            None => {
+                kept.push(piece.from_mark(Mark::Options, may))?;
+                kept.extend_from_slice(&line[index + 1..])?;
+                return Ok(kept);
+            }
         }
     }
     Ok(kept)

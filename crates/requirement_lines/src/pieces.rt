@@ -56,30 +56,30 @@ impl<'a> Piece<'a> {
         }
     }
 
-    /// The bytes of the piece.
-    pub fn bytes(self) -> &'a str
+    // The bytes of the piece.
+    pub(crate) fn bytes(self) -> &'a str
         ensures { result.now
             ≡ encode_utf8_all (map (λ (p : Character). p.char) (characters_of self.entry)) }
     {
         text_itself(self.text)
     }
 
-    /// How many bytes the piece has.
-    pub fn size(self) -> usize
+    // How many bytes the piece has.
+    pub(crate) fn size(self) -> usize
         ensures { result ≡ length (encode_utf8_all (chars self.entry.text.now)) }
     {
         text_itself(self.text).len()
     }
 
-    /// Whether the piece has no character.
-    pub fn is_empty(self) -> bool
+    // Whether the piece has no character.
+    pub(crate) fn is_empty(self) -> bool
         ensures { IsTrue result ↔ (characters_of self.entry ≡ []) }
     {
         self.first().is_none()
     }
 
-    /// The first character, and what follows it.
-    pub fn first(self) -> Option<(char, Piece<'a>)>
+    // The first character, and what follows it.
+    pub(crate) fn first(self) -> Option<(char, Piece<'a>)>
         ensures characters { MatchOption result (characters_of self.entry ≡ [])
             (λ x. characters_of self.entry
             ≡ record { char = x.0; place = self.entry.place } ∷ characters_of x.1) }
@@ -126,8 +126,8 @@ impl<'a> Piece<'a> {
         }
     }
 
-    /// What follows the characters of the set at the front.
-    pub fn skip(self, set: CharacterSet) -> Piece<'a>
+    // What follows the characters of the set at the front.
+    pub(crate) fn skip(self, set: CharacterSet) -> Piece<'a>
         ensures { characters_of result ≡ ends.skip set (characters_of self.entry) }
     {
         let mut rest = self;
@@ -140,8 +140,8 @@ impl<'a> Piece<'a> {
         rest
     }
 
-    /// What stands before the characters of the set at the back.
-    pub fn skip_back(self, set: CharacterSet) -> Piece<'a>
+    // What stands before the characters of the set at the back.
+    pub(crate) fn skip_back(self, set: CharacterSet) -> Piece<'a>
         ensures { characters_of result ≡ ends.skip_back set (characters_of self.entry) }
     {
         let mut front = self;
@@ -154,9 +154,9 @@ impl<'a> Piece<'a> {
         front
     }
 
-    /// What stands before the first mark that counts, and whether one counts after that: `None`
-    /// where one was found.
-    pub fn cut(self, mark: Mark, may: bool) -> (Piece<'a>, Option<bool>)
+    // What stands before the first mark that counts, and whether one counts after that: `None`
+    // where one was found.
+    pub(crate) fn cut(self, mark: Mark, may: bool) -> (Piece<'a>, Option<bool>)
         ensures front { characters_of result.0 ≡ marks.before mark may (characters_of self.entry) }
         ensures follow { result.1 ≡ marks.may_follow mark may (characters_of self.entry) }
     {
@@ -170,6 +170,22 @@ impl<'a> Piece<'a> {
             rest = after;
         }
         (self, Some(now))
+    }
+
+    // What stands from the first mark that counts on.
+    pub(crate) fn from_mark(self, mark: Mark, may: bool) -> Piece<'a>
+        ensures { characters_of result ≡ marks.from_mark mark may (characters_of self.entry) }
+    {
+        let mut rest = self;
+        let mut now = may;
+        while let Some((c, after)) = rest.first() {
+            if mark.counts(now, c) {
+                break;
+            }
+            now = mark.opens(c);
+            rest = after;
+        }
+        rest
     }
 
     // Whether the first character is this one.
@@ -199,8 +215,8 @@ impl<'a> Piece<'a> {
         self.skip(CharacterSet::Space).begins_with('#')
     }
 
-    /// Whether the line is continued in the next one.
-    pub fn is_continued(self) -> bool
+    // Whether the line is continued in the next one.
+    pub(crate) fn is_continued(self) -> bool
         ensures { result ≡ logical.is_continued (characters_of self.entry) }
     {
         self.ends_with('\\') && !self.is_comment()
@@ -216,8 +232,8 @@ impl<'a> Piece<'a> {
         }
     }
 
-    /// What the line adds to a logical line.
-    pub fn part(self) -> Piece<'a>
+    // What the line adds to a logical line.
+    pub(crate) fn part(self) -> Piece<'a>
         ensures { characters_of result ≡ logical.part_of (characters_of self.entry) }
     {
         if self.is_continued() {

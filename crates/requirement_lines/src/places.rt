@@ -24,8 +24,8 @@ pub struct Place {
 impl Place {
     ghost use Rattle.requirement_lines.specs.Character.{after};
 
-    /// The place so many bytes further on: the same one within the value of a variable.
-    pub fn after(self, size: usize) -> Place
+    // The place so many bytes further on: the same one within the value of a variable.
+    pub(crate) fn after(self, size: usize) -> Place
         ensures { result ≡ after self size }
     {
         let to_end = match self.source {

@@ -3,20 +3,20 @@
 ghost use Rattle.std.specs.Prelude.{◌≡◌, ◌&&◌};
 ghost use Rattle.requirement_lines.specs.Physical.{is_break};
 
-/// Characters that are cut off at the ends of a line.
+// Characters that are cut off at the ends of a line.
 #[derive(Clone, Copy, Debug, PartialEq, Eq)]
-pub enum CharacterSet {
-    /// White space: Unicode's White_Space.
+pub(crate) enum CharacterSet {
+    // White space: Unicode's White_Space.
     Space,
-    /// The backslash.
+    // The backslash.
     Backslash,
 }
 
 impl CharacterSet {
     ghost use Rattle.requirement_lines.specs.Ends.{holds};
 
-    /// Whether the set has the character.
-    pub fn holds(self, c: char) -> bool
+    // Whether the set has the character.
+    pub(crate) fn holds(self, c: char) -> bool
         ensures { result ≡ holds self c }
     {
         match self {
@@ -38,8 +38,8 @@ pub enum Mark {
 impl Mark {
     ghost use Rattle.requirement_lines.specs.Marks.{is_mark, opens};
 
-    /// Whether the character is this mark.
-    pub fn is_mark(self, c: char) -> bool
+    // Whether the character is this mark.
+    pub(crate) fn is_mark(self, c: char) -> bool
         ensures { result ≡ is_mark self c }
     {
         match self {
@@ -48,15 +48,15 @@ impl Mark {
         }
     }
 
-    /// Whether the character is this mark, where one may stand.
-    pub fn counts(self, may: bool, c: char) -> bool
+    // Whether the character is this mark, where one may stand.
+    pub(crate) fn counts(self, may: bool, c: char) -> bool
         ensures { result ≡ (may && is_mark self c) }
     {
         may && self.is_mark(c)
     }
 
-    /// Whether the mark counts after the character.
-    pub fn opens(self, c: char) -> bool
+    // Whether the mark counts after the character.
+    pub(crate) fn opens(self, c: char) -> bool
         ensures { result ≡ opens self c }
     {
         match self {
