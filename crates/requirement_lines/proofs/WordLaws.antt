@@ -3,7 +3,7 @@ use Rattle.std.proofs.Common.{◌≡◌, Bool, true, false, cond, List, [], ◌�
 use Rattle.std.specs.Prelude.{◌==◌, ◌&&◌}
 use Rattle.std.proofs.lemmas.List.{append-nil}
 use Rattle.requirement_lines.specs.Character.{Character}
-use Rattle.requirement_lines.specs.Words.{parts_words, next_quoting, step_at, Spelled, Parted, unclosed, parts, keep, put, split, ended, opened_at, is_kept, can_be_taken}
+use Rattle.requirement_lines.specs.Words.{parts_words, next_quoting, step_at, Spelled, Parted, unclosed, parts, keep, put, split, opened_at, is_kept, can_be_taken}
 use Rattle.requirement_lines.specs.Reading.{goes_on, inside_before, inside_after, resume}
 use Rattle.requirement_lines.specs.declared.places.Place.{Place}
 use Rattle.requirement_lines.specs.declared.quoting.Quoting.{Quoting}

@@ -1,10 +1,9 @@
 -- The words of a text, as Python's `shlex` has them: white space parts words, what stands in quotes
 -- may hold any, and a backslash takes the next character as it is, in double quotes only a double
 -- quote or a backslash.
-use Rattle.std.specs.Prelude.{ℕ, Bool, true, false, not, ◌||◌, ◌&&◌, ◌==◌, List, [], ◌∷◌, ◌++◌, map, if◌then◌else◌}
+use Rattle.std.specs.Prelude.{ℕ, Bool, true, false, not, ◌||◌, ◌&&◌, ◌==◌, List, [], ◌∷◌, if◌then◌else◌}
 use Rattle.requirement_lines.specs.Character.{Character}
 use Rattle.requirement_lines.specs.Ends.{begins_with}
-use Rattle.requirement_lines.specs.Pieces.{line_of}
 use Rattle.requirement_lines.specs.declared.places.Place.{Place}
 use Rattle.requirement_lines.specs.declared.quoting.Quoting.{Quoting}
 use Rattle.requirement_lines.specs.declared.quoting.Quoting.TheVariants.{Between, Bare, Escaped, Single, Double, DoubleEscaped}
