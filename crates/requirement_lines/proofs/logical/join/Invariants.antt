@@ -1,0 +1,16 @@
+use Rattle.std.proofs.Common.{◌≤◌, length}
+use Rattle.pep508_text.specs.Suffix.{IsSuffix}
+use Rattle.requirement_lines.specs.Character.{characters}
+use Rattle.requirement_lines.specs.Pieces.{line_of}
+use Rattle.requirement_lines.proofs.LogicalLaws.{Joins}
+use Rattle.requirement_lines.proofs.logical.join.Given as goal
+
+abbrev pub invariant-loop-rest : goal.invariant-loop-rest
+invariant-loop-rest l = record {
+  joins : Joins (characters l.fn.text) (line_of l.parts.items) (characters l.rest);
+  within : length l.rest ≤ length l.fn.text;
+  suffix : IsSuffix l.fn.text l.rest;
+}
+
+abbrev pub decreases-loop-rest : goal.decreases-loop-rest
+decreases-loop-rest l = length l.rest

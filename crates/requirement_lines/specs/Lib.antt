@@ -1,0 +1,12 @@
+pub mod Character
+pub mod Ends
+pub mod Physical
+pub mod Marks
+pub mod Logical
+pub mod Pieces
+pub mod Reports
+pub mod Variables
+pub mod Rest
+pub mod Position
+pub mod Words
+pub mod Reading

@@ -1,0 +1,55 @@
+-- What was read of a text that is split into words.
+use Rattle.std.specs.Prelude.{Bool, true, false, List, [], ◌∷◌, ◌++◌, map}
+use Rattle.requirement_lines.specs.Character.{Character}
+use Rattle.requirement_lines.specs.Pieces.{line_of}
+use Rattle.requirement_lines.specs.Words.{Spelled, Parted, unclosed, parts}
+use Rattle.requirement_lines.specs.declared.places.Place.{Place}
+use Rattle.requirement_lines.specs.declared.quoting.Quoting.{Quoting}
+use Rattle.requirement_lines.specs.declared.quoting.Quoting.TheVariants.{Between, Bare, Escaped, Single, Double, DoubleEscaped}
+use Rattle.requirement_lines.specs.declared.quoting.Step.{Step}
+use Rattle.requirement_lines.specs.declared.quoting.Step.TheVariants.{Pass, Begin, GoOn, End}
+use Rattle.requirement_lines.specs.declared.splitting.Word.{Word}
+use Rattle.requirement_lines.specs.declared.splitting.Words.{Words}
+use Rattle.requirement_lines.specs.declared.splitting.Words.TheVariants.{All, Unclosed}
+use Rattle.requirement_lines.specs.declared.splitting.Reading.{Reading}
+
+abbrev pub spelled_of : Word → Spelled
+spelled_of word = record { place = word.place; characters = line_of word.pieces.items }
+
+abbrev pub split_of : Words → Parted
+split_of (All found) = parts [] (map spelled_of found.items)
+split_of (Unclosed place) = unclosed place
+
+-- a word goes on
+abbrev pub goes_on : Quoting → Bool
+goes_on Between = false
+goes_on Bare = true
+goes_on Escaped = true
+goes_on Single = true
+goes_on Double = true
+goes_on DoubleEscaped = true
+
+-- whether a word goes on before a step, and after it
+abbrev pub inside_before : Step → Bool
+inside_before Pass = false
+inside_before Begin = false
+inside_before GoOn = true
+inside_before End = true
+
+abbrev pub inside_after : Step → Bool
+inside_after Pass = false
+inside_after Begin = true
+inside_after GoOn = true
+inside_after End = false
+
+-- what a text is split into of which these words were read, and the front of one that goes on
+abbrev pub resume : Bool → List Spelled → Place → List Character → Parted → Parted
+resume inside done place front (unclosed opened) = unclosed opened
+resume true done place front (parts rest others) =
+    parts [] (done ++ (record { place = place; characters = front ++ rest } ∷ others))
+resume false done place front (parts rest others) = parts [] (done ++ others)
+
+abbrev pub resumed : Reading → Parted → Parted
+resumed reading split =
+    resume reading.inside (map spelled_of reading.words.items) reading.place
+    (line_of reading.pieces.items) split

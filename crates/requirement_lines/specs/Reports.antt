@@ -1,0 +1,60 @@
+-- What is reported of the requirements of a file: of each line in turn, by a judge who says which
+-- findings a text has.
+use Rattle.std.specs.Prelude.{◌≡◌, ◌≢◌, ℕ, ◌-◌, nat_lt, true, List, [], ◌∷◌, map, Option, None, Some, encode_utf8_all, if◌then◌else◌}
+use Rattle.std.specs.Char.{len_utf8}
+use Rattle.requirement_lines.specs.Character.{Character, after}
+use Rattle.requirement_lines.specs.Marks.{before}
+use Rattle.requirement_lines.specs.Pieces.{line_of}
+use Rattle.requirement_lines.specs.declared.places.Place.{Place}
+use Rattle.requirement_lines.specs.declared.sets.Mark.TheVariants.{Options}
+use Rattle.requirement_lines.specs.declared.reports.LineReport.{LineReport}
+
+-- the text of a line
+abbrev pub text_of : List Character → List ℕ
+text_of line = encode_utf8_all (map (λ (p : Character). p.char) line)
+
+-- the requirement of a line: what stands before its options; none, if it has options alone
+abbrev pub requirement_of : List Character → List Character
+requirement_of line = before Options true line
+
+-- The place of the byte of the line's text, which may be the end of the text. `end` is where a
+-- line with no character ends.
+abbrev pub place_at : Place → List Character → ℕ → Place
+place_at end [] at = end
+place_at end (p ∷ ps) at =
+    if nat_lt at (len_utf8 p.char) then after p.place at
+    else place_at (after p.place (len_utf8 p.char)) ps (at - len_utf8 p.char)
+
+-- a requirement, and what was found in it
+pub record Report (Finding : Type 0) : Type 0 where
+  pub requirement : List Character
+  pub findings : List Finding
+
+abbrev pub report_of : {Finding : Type 0} → LineReport Finding → Report Finding
+report_of report =
+    record { requirement = line_of report.requirement.items; findings = report.findings.items }
+
+module _ {State Finding : Type 0} (Finds : State → List ℕ → List Finding → State → Type 0) where
+  -- From the state `old` this is reported of a line: nothing, if it has options alone, and else
+  -- what its requirement has; the state is `new` then.
+  abbrev pub ReportsLine : State → List Character → Option (Report Finding) → State → Type 0
+  ReportsLine old line None new = (requirement_of line ≡ []) × (new ≡ old)
+  ReportsLine old line (Some report) new = (report.requirement ≡ requirement_of line)
+      × (requirement_of line ≢ [])
+      × Finds old (text_of (requirement_of line)) report.findings new
+
+  -- from the state `old` this is reported of the lines, one by one and in their order, and the
+  -- state is `new` then
+  pub data Reports : State → List (List Character) → List (Report Finding) → State → Type 0 where
+    none : {state : State} → Reports state [] [] state
+    options : {old new : State} {line : List Character} {lines : List (List Character)}
+        {reports : List (Report Finding)}
+        → requirement_of line ≡ [] → Reports old lines reports new
+        → Reports old (line ∷ lines) reports new
+    requirement : {old middle new : State} {line : List Character}
+        {lines : List (List Character)} {first : Report Finding}
+        {reports : List (Report Finding)}
+        → first.requirement ≡ requirement_of line → requirement_of line ≢ []
+        → Finds old (text_of (requirement_of line)) first.findings middle
+        → Reports middle lines reports new
+        → Reports old (line ∷ lines) (first ∷ reports) new

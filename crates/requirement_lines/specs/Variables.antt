@@ -1,0 +1,68 @@
+-- Variables of a line, as `${NAME}`, and the line with values in their place. A variable is
+-- replaced wherever it stands, and what was put in is not looked at again.
+use Rattle.std.specs.Prelude.{ℕ, Bool, true, false, not, ◌||◌, ◌==◌, List, [], ◌∷◌, ◌++◌, Option, None, Some, is_some, map, option_map, option_and_then, encode_utf8_all, String, string_bytes, if◌then◌else◌}
+use Rattle.std.specs.Char.{is_ascii_digit, is_ascii_uppercase}
+use Rattle.std.specs.Str.{chars}
+use Rattle.std.specs.BTreeMap.{BTreeMap, get_by_text}
+use Rattle.requirement_lines.specs.Character.{Character, characters_at}
+use Rattle.requirement_lines.specs.Logical.{lines_of_file}
+use Rattle.requirement_lines.specs.declared.places.Place.{Place}
+use Rattle.requirement_lines.specs.declared.places.Source.TheVariants.{Variable}
+
+-- one of A to Z, 0 to 9 and `_`
+abbrev pub is_name_character : ℕ → Bool
+is_name_character c = is_ascii_uppercase c || is_ascii_digit c || c == 95
+
+-- the characters of a name up to its `}`
+abbrev pub name_before_brace : List Character → Option (List ℕ)
+name_before_brace [] = None
+name_before_brace (p ∷ ps) =
+    if p.char == 125 then Some []
+    else (if is_name_character p.char
+    then option_map (λ name. p.char ∷ name) (name_before_brace ps) else None)
+
+-- a name has at least one character
+abbrev pub not_empty : List ℕ → Option (List ℕ)
+not_empty [] = None
+not_empty (c ∷ cs) = Some (c ∷ cs)
+
+-- the name of a variable after its `$`: in `{NAME}`
+abbrev pub braced_name : List Character → Option (List ℕ)
+braced_name [] = None
+braced_name (p ∷ ps) =
+    if p.char == 123 then option_and_then not_empty (name_before_brace ps) else None
+
+-- What the variable at the front stands for. `value_of` gives what the name of a variable that
+-- has a value stands for.
+abbrev pub value_at : (List ℕ → Option (List ℕ)) → List Character → Option (List ℕ)
+value_at value_of [] = None
+value_at value_of (p ∷ ps) =
+    if p.char == 36
+    then option_and_then (λ name. value_of (encode_utf8_all name)) (braced_name ps) else None
+
+-- the characters of a value, all at the place of the variable
+abbrev pub value_characters : Place → List ℕ → List Character
+value_characters place value =
+    characters_at (record { to_end = place.to_end; source = Variable }) (chars value)
+
+-- what stands in the line in place of a character, or of the variable that begins with it
+abbrev pub in_place_of : Character → Option (List ℕ) → List Character
+in_place_of p None = p ∷ []
+in_place_of p (Some value) = value_characters p.place value
+
+-- The line with values in place of its variables. `inside` says that the line begins within a
+-- variable whose value was put in its place: nothing is kept up to its `}`.
+abbrev pub replaced : (List ℕ → Option (List ℕ)) → Bool → List Character → List Character
+replaced value_of inside [] = []
+replaced value_of true (p ∷ ps) = replaced value_of (not (p.char == 125)) ps
+replaced value_of false (p ∷ ps) = in_place_of p (value_at value_of (p ∷ ps))
+    ++ replaced value_of (is_some (value_at value_of (p ∷ ps))) ps
+
+-- what the name of a variable stands for: its value in the table, unless that is empty
+abbrev pub value_of : {A : Type 0} → BTreeMap (String A) (String A) → List ℕ → Option (List ℕ)
+value_of variables name =
+    option_and_then (λ value. not_empty (string_bytes value)) (get_by_text variables name)
+
+-- the logical lines of a file, with values in place of variables
+abbrev pub replaced_lines : (List ℕ → Option (List ℕ)) → List ℕ → List (List Character)
+replaced_lines value_of text = map (replaced value_of false) (lines_of_file text)

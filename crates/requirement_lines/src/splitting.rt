@@ -1,0 +1,196 @@
+//! The words of the options of a line.
+
+ghost use Rattle.std.specs.Prelude.{◌≡◌, ◌∷◌, [], IfOk};
+ghost use Rattle.requirement_lines.specs.Pieces.{line_of};
+ghost use Rattle.requirement_lines.specs.Rest.{rest_of};
+ghost use Rattle.requirement_lines.specs.Words as spec;
+ghost use Rattle.requirement_lines.specs.Reading as state;
+ghost use Rattle.requirement_lines.specs.declared.places.Source.TheVariants.{File};
+
+use crate::pieces::Piece;
+use crate::places::{Place, Source};
+use crate::quoting::{Quoting, Step, is_kept, next_quoting, opened_at, step_at};
+use crate::variables::{Rest, next_character};
+use std::alloc::{AllocError, Global};
+use std::mem;
+
+/// A word of a line.
+#[derive(Debug, Drop)]
+pub struct Word<'a> {
+    /// Where the word begins, with its quotes.
+    pub place: Place,
+    /// What it spells, without them.
+    pub pieces: Vec<Piece<'a>>,
+}
+
+/// The words of a line.
+#[derive(Debug, Drop)]
+pub enum Words<'a> {
+    /// All of them.
+    All(Vec<Word<'a>>),
+    /// There are none, since quotes that begin at this place do not end, or a backslash there has
+    /// nothing after it.
+    Unclosed(Place),
+}
+
+// What was read of a line that is split into words: whole words, and the front of one that goes on.
+#[derive(Debug, Drop)]
+pub(crate) struct Reading<'a> {
+    pub(crate) words: Vec<Word<'a>>,
+    pub(crate) inside: bool,
+    pub(crate) place: Place,
+    pub(crate) pieces: Vec<Piece<'a>>,
+}
+
+impl<'a> Reading<'a> {
+    ghost use Rattle.std.specs.Prelude.{◌≡◌, ◌++◌, ◌∷◌, [], true, false, OnOk, map};
+    ghost use Rattle.requirement_lines.specs.Character.{Character};
+    ghost use Rattle.requirement_lines.specs.Pieces.{characters_of, line_of};
+    ghost use Rattle.requirement_lines.specs.Words as spec;
+    ghost use Rattle.requirement_lines.specs.Reading as state;
+
+    // Nothing was read.
+    fn new(alloc: Global, place: Place) -> Reading<'a>
+        ensures words { result.words.items ≡ [] }
+        ensures inside { result.inside ≡ false }
+    {
+        Reading {
+            words: Vec::new(alloc),
+            inside: false,
+            place,
+            pieces: Vec::new(alloc),
+        }
+    }
+
+    // Ends the word that goes on.
+    fn end_word(&mut self, alloc: Global) -> Result<(), AllocError>
+        ensures words { OnOk result (map state.spelled_of self.new.words.items
+            ≡ map state.spelled_of self.old.words.items
+            ++ (record { place = self.old.place; characters = line_of self.old.pieces.items }
+            ∷ [])) }
+        ensures inside { OnOk result (self.new.inside ≡ false) }
+    {
+        let pieces = mem::replace(&mut self.pieces, Vec::new(alloc));
+        self.inside = false;
+        self.words.push(Word {
+            place: self.place,
+            pieces,
+        })?;
+        Ok(())
+    }
+
+    // Appends the character to the word that goes on, if it is kept.
+    fn keep(&mut self, kept: bool, c: char, character: Piece<'a>) -> Result<(), AllocError>
+        requires { characters_of character ≡ record { char = c; place = character.place } ∷ [] }
+        ensures pieces { OnOk result (line_of self.new.pieces.items
+            ≡ line_of self.old.pieces.items
+            ++ spec.keep kept (record { char = c; place = character.entry.place }) []) }
+        ensures words { self.new.words ≡ self.old.words }
+        ensures inside { self.new.inside ≡ self.old.inside }
+        ensures place { self.new.place ≡ self.old.place }
+    {
+        if kept {
+            self.pieces.push(character)?;
+        }
+        Ok(())
+    }
+
+    // Begins a word.
+    fn begin(&mut self, place: Place)
+        ensures pieces { line_of self.new.pieces.items ≡ [] }
+        ensures words { self.new.words ≡ self.old.words }
+        ensures inside { self.new.inside ≡ true }
+        ensures place { self.new.place ≡ place }
+    {
+        self.pieces.clear();
+        self.inside = true;
+        self.place = place;
+    }
+
+    // Goes on with a character, which is a piece by itself.
+    fn take(
+        &mut self,
+        alloc: Global,
+        now: Step,
+        kept: bool,
+        c: char,
+        character: Piece<'a>,
+    ) -> Result<(), AllocError>
+        requires one { characters_of character
+            ≡ record { char = c; place = character.place } ∷ [] }
+        requires before { self.old.inside ≡ state.inside_before now }
+        ensures after { OnOk result (self.new.inside ≡ state.inside_after now) }
+        ensures resumed { OnOk result ((s : spec.Parted) → state.resumed self.old
+            (spec.put now kept (record { char = c; place = character.entry.place }) s)
+            ≡ state.resumed self.new s) }
+    {
+        match now {
+            Step::Pass => Ok(()),
+            Step::Begin => {
+                self.begin(character.place);
+                self.keep(kept, c, character)
+            }
+            Step::GoOn => self.keep(kept, c, character),
+            Step::End => self.end_word(alloc),
+        }
+    }
+
+    // The words of a line that ends here.
+    fn finish(
+        mut self,
+        alloc: Global,
+        quoting: Quoting,
+        opened: Place,
+    ) -> Result<Words<'a>, AllocError>
+        requires { self.inside ≡ state.goes_on quoting }
+        ensures { IfOk result (λ words. state.split_of words
+            ≡ state.resumed self.entry (spec.ended quoting opened)) }
+    {
+        match quoting {
+            Quoting::Between => Ok(Words::All(self.words)),
+            Quoting::Bare => {
+                self.end_word(alloc)?;
+                Ok(Words::All(self.words))
+            }
+            _ => Ok(Words::Unclosed(opened)),
+        }
+    }
+}
+
+// Whether a backslash in double quotes takes the first character of what is left of the line.
+fn can_be_taken<'a>(line: &[Piece<'a>], rest: Rest<'a>) -> bool
+    ensures { result ≡ spec.can_be_taken (rest_of line.now rest.entry) }
+{
+    match next_character(line, rest) {
+        Some((c, _, _)) => c == '"' || c == '\\',
+        None => false,
+    }
+}
+
+/// The words of a line, by the rules of a POSIX shell as Python's `shlex` has them: white space
+/// parts words, what stands in quotes may hold any, and a backslash takes the next character as it
+/// is, in double quotes only a double quote or a backslash.
+pub fn split_words<'a>(alloc: Global, line: &[Piece<'a>]) -> Result<Words<'a>, AllocError>
+    ensures { IfOk result (λ words. state.split_of words
+        ≡ spec.words_of (record { to_end = 0; source = File }) (line_of line.now)) }
+{
+    let mut opened = Place {
+        to_end: 0,
+        source: Source::File,
+    };
+    let mut rest = Rest {
+        piece: Piece::whole(""),
+        next: 0,
+    };
+    let mut quoting = Quoting::Between;
+    let mut reading = Reading::new(alloc, opened);
+    while let Some((c, character, after)) = next_character(line, rest) {
+        let taken = can_be_taken(line, after);
+        let kept = is_kept(quoting, c, taken);
+        reading.take(alloc, step_at(quoting, c), kept, c, character)?;
+        opened = opened_at(quoting, character.place, opened);
+        quoting = next_quoting(quoting, c, taken);
+        rest = after;
+    }
+    reading.finish(alloc, quoting, opened)
+}

@@ -1,0 +1,195 @@
+//! Variables of a line.
+
+ghost use Rattle.std.specs.Prelude.{◌≡◌, ◌++◌, ◌∷◌, [], length, false, map, option_map, option_and_then, IfOk, IfSome, MatchOption, encode_utf8_all, string_bytes};
+ghost use Rattle.requirement_lines.specs.Pieces.{characters_of, line_of};
+ghost use Rattle.requirement_lines.specs.Variables as spec;
+ghost use Rattle.requirement_lines.specs.Rest.{rest_of};
+ghost use Rattle.requirement_lines.specs.declared.places.Place.{Place};
+
+use crate::pieces::Piece;
+use crate::places::{Place, Source};
+use std::alloc::{AllocError, Global};
+use std::collections::BTreeMap;
+
+// What is left of a line: a piece, and the pieces of the line from an index on.
+#[derive(Clone, Copy, Debug)]
+pub(crate) struct Rest<'a> {
+    pub(crate) piece: Piece<'a>,
+    pub(crate) next: usize,
+}
+
+// The first character of what is left of the line, also as a piece by itself, and what follows it.
+pub(crate) fn next_character<'a>(
+    line: &[Piece<'a>],
+    rest: Rest<'a>,
+) -> Option<(char, Piece<'a>, Rest<'a>)>
+    ensures { MatchOption result (rest_of line.now rest.entry ≡ [])
+        (λ x. (rest_of line.now rest.entry
+        ≡ record { char = x.0; place = x.1.place } ∷ rest_of line.now x.2)
+        × (characters_of x.1 ≡ record { char = x.0; place = x.1.place } ∷ [])) }
+{
+    if let Some((c, piece)) = rest.piece.first() {
+        let after = Rest {
+            piece,
+            next: rest.next,
+        };
+        return Some((c, rest.piece.front(piece), after));
+    }
+    for index in rest.next..line.len() {
+        let whole = line[index];
+        if let Some((c, piece)) = whole.first() {
+            let after = Rest {
+                piece,
+                next: index + 1,
+            };
+            return Some((c, whole.front(piece), after));
+        }
+    }
+    None
+}
+
+fn is_name_character(c: char) -> bool
+    ensures { result ≡ spec.is_name_character c }
+{
+    c.is_ascii_uppercase() || c.is_ascii_digit() || c == '_'
+}
+
+// The name in the `{NAME}` that the rest of the line begins with.
+fn braced_name<'a>(
+    alloc: Global,
+    line: &[Piece<'a>],
+    rest: Rest<'a>,
+) -> Result<Option<String>, AllocError>
+    ensures { IfOk result (λ name. option_map string_bytes name
+        ≡ option_map encode_utf8_all (spec.braced_name (rest_of line.now rest.entry))) }
+{
+    let Some(('{', _, mut inside)) = next_character(line, rest) else {
+        return Ok(None);
+    };
+    let mut name = String::new(alloc);
+    while let Some((c, _, after)) = next_character(line, inside) {
+        if c == '}' {
+            return Ok(if name.is_empty() { None } else { Some(name) });
+        }
+        if !is_name_character(c) {
+            return Ok(None);
+        }
+        name.push(c)?;
+        inside = after;
+    }
+    Ok(None)
+}
+
+// The value of the variable of this name, unless it is unset or empty.
+fn value_of<'a>(variables: &'a BTreeMap<String, String>, name: &str) -> Option<&'a str>
+    ensures { option_map (λ value. value.now) result ≡ spec.value_of variables.now name.now }
+{
+    let value = variables.get(name)?.as_str();
+    if value.is_empty() {
+        return None;
+    }
+    Some(value)
+}
+
+// The value of the variable that begins with this character of a line, which the rest follows.
+fn value_after<'a>(
+    alloc: Global,
+    c: char,
+    after: Piece<'a>,
+    others: &[Piece<'a>],
+    variables: &'a BTreeMap<String, String>,
+) -> Result<Option<&'a str>, AllocError>
+    ensures { IfOk result (λ value. (place : Place) → option_map (λ v. v.now) value
+        ≡ spec.value_at (spec.value_of variables.now) (record { char = c; place = place }
+        ∷ (characters_of after.entry ++ line_of others.now))) }
+{
+    if c != '$' {
+        return Ok(None);
+    }
+    let rest = Rest {
+        piece: after,
+        next: 0,
+    };
+    match braced_name(alloc, others, rest)? {
+        Some(name) => Ok(value_of(variables, name.as_str())),
+        None => Ok(None),
+    }
+}
+
+// The value of a variable that stands at a place.
+fn value_piece(text: &str, place: Place) -> Piece<'_>
+    ensures { characters_of result ≡ spec.value_characters place text.now }
+{
+    Piece {
+        text,
+        place: Place {
+            to_end: place.to_end,
+            source: Source::Variable,
+        },
+    }
+}
+
+// Appends the piece with values in place of its variables. The piece begins within a variable that
+// was replaced already where `inside` says so; the result says whether what follows it does.
+fn replace_piece<'a>(
+    alloc: Global,
+    kept: &mut Vec<Piece<'a>>,
+    piece: Piece<'a>,
+    others: &[Piece<'a>],
+    inside: bool,
+    variables: &'a BTreeMap<String, String>,
+) -> Result<bool, AllocError>
+    ensures { IfOk result (λ still. line_of kept.old.items
+        ++ spec.replaced (spec.value_of variables.now) inside
+        (characters_of piece.entry ++ line_of others.now)
+        ≡ line_of kept.new.items
+        ++ spec.replaced (spec.value_of variables.now) still (line_of others.now)) }
+{
+    let mut start = piece;
+    let mut rest = piece;
+    let mut within = inside;
+    while let Some((c, after)) = rest.first() {
+        if within {
+            within = c != '}';
+            start = after;
+        } else if let Some(value) = value_after(alloc, c, after, others, variables)? {
+            kept.push(start.front(rest))?;
+            kept.push(value_piece(value, rest.place))?;
+            within = true;
+            start = after;
+        }
+        rest = after;
+    }
+    kept.push(start.front(rest))?;
+    Ok(within)
+}
+
+/// The line with values in place of its variables, as pip replaces them. A variable is `${NAME}`,
+/// where the name is one or more of `A` to `Z`, `0` to `9` and `_`; one that the table does not
+/// have, or has with the empty text, is left as it is. What was put in is not looked at again, and
+/// has the place of its variable.
+///
+/// Call it before the line's options are cut off: a value may hold options.
+pub fn replace_variables<'a>(
+    alloc: Global,
+    line: &[Piece<'a>],
+    variables: &'a BTreeMap<String, String>,
+) -> Result<Vec<Piece<'a>>, AllocError>
+    ensures { IfOk result (λ replaced. line_of replaced.items
+        ≡ spec.replaced (spec.value_of variables.now) false (line_of line.now)) }
+{
+    let mut kept = Vec::new(alloc);
+    let mut inside = false;
+    for index in 0..line.len() {
+        let piece = line[index];
+        inside = replace_piece(
+            alloc,
+            &mut kept,
+            piece,
+            &line[index + 1..],
+            inside,
+            variables,
+        )?;
+    }
+    Ok(kept)
+}
