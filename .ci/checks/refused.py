@@ -38,7 +38,8 @@ def judge(edit: Edit, said: Said) -> Verdict:
     if len(paths) != 1:
         return Verdict(False, f"{name} names {len(paths)} functions of the crate, and not one")
     function = said.functions[paths[0]]
-    others = [path for path, it in said.functions.items() if path != paths[0] and it.causes()]
+    fails = {path for path, it in said.functions.items() if it.causes() or it.given_up}
+    others = sorted(fails - {paths[0]})
     if function.is_proved:
         if others:
             text = f"{name} is proved, and {others[0]} is refused in its place"
@@ -47,12 +48,14 @@ def judge(edit: Edit, said: Said) -> Verdict:
     causes = function.causes()
     if goal in causes:
         return Verdict(True, f"refused at {goal} of {name}")
-    if causes:
-        found = ", ".join(sorted(causes))
-        return Verdict(False, f"{name} fails elsewhere, at {found}, not at {goal}")
-    if function.misses_names:
+    if function.misses_names and not causes:
         why = "its proof names what the edit took away, which says nothing of the contract"
         return Verdict(False, f"{name} is refused for missing names alone: {why}")
+    if goal in function.given_up:
+        return Verdict(False, f"the search gave up at {goal} of {name}, which may hold")
+    if causes or function.given_up:
+        found = ", ".join(sorted(causes | function.given_up))
+        return Verdict(False, f"{name} fails elsewhere, at {found}, not at {goal}")
     return Verdict(False, f"{name} has no cause of its own: {function.status[:200]}", True)
 
 
@@ -81,8 +84,8 @@ class Trial:
         self.folder = repository.folder(crate)
         self.edits = edits.of_crate(self.folder, edits.TOGETHER)
 
-    def run(self) -> bool:
-        """Tries every edit. Answers whether all were refused."""
+    def run(self) -> list[bool]:
+        """Tries every edit. Answers which were refused."""
         try:
             if not self.repository.build_below(self.crate):
                 raise BadEdit(f"{self.crate}: the libraries below it do not stand")
@@ -90,12 +93,12 @@ class Trial:
             functions = {edit: function_of(edit, calls, self.folder) for edit in self.edits}
         except BadEdit as error:
             self.tell(str(error))
-            return False
+            return [False for _ in self.edits]
         are_apart = lambda one, other: calls.are_apart(functions[one], functions[other])
         with tempfile.TemporaryDirectory(prefix=f"wrong-{self.crate}-") as room:
             prover = Prover(self.repository, self.crate, Path(room), calls.cycles())
             answers = [self.check(prover, group) for group in groups(self.edits, are_apart)]
-        return all(all(answer) for answer in answers)
+        return [is_refused for answer in answers for is_refused in answer]
 
     def check(self, prover: Prover, group: list[Edit]) -> list[bool]:
         """Tries edits in one check, and those of which it does not tell once more alone."""
