@@ -8,15 +8,13 @@ deleted is seen: as a number that falls.
 from __future__ import annotations
 
 import sys
-from importlib.machinery import SourceFileLoader
-from importlib.util import module_from_spec, spec_from_loader
 from pathlib import Path
 
 sys.dont_write_bytecode = True
 sys.path.insert(0, str(Path(__file__).resolve().parent.parent))
 
 from checks import copies, edits
-from checks.kit import Repository
+from checks.kit import Repository, script
 
 ROOT = Path(__file__).resolve().parent.parent.parent
 FILE = Path(".ci") / "counts"
@@ -36,12 +34,9 @@ def of_crate(repository: Repository, crate: str) -> dict[str, int]:
 
 def of_families(root: Path) -> dict[str, dict[str, int]]:
     """How many growths are refused in each family of calls, and how many things that must meet."""
-    loader = SourceFileLoader("refusals", str(root / ".ci" / "refusals"))
-    refusals = module_from_spec(spec_from_loader("refusals", loader))
-    loader.exec_module(refusals)
     return {
         f"{program}, {family.name}": {"growths": family.growths, "met": len(family.all_met())}
-        for program, families in refusals.SWEEPS
+        for program, families in script(root / ".ci" / "refusals").SWEEPS
         for family in families
     }
 
