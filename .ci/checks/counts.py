@@ -54,9 +54,9 @@ def of_repository(repository: Repository) -> str:
 
 def differences(kept: str, found: str) -> list[str]:
     """The lines that one of the two alone has."""
-    kept_lines, found_lines = kept.splitlines(), found.splitlines()
-    gone = [f"in the file alone: {line}" for line in kept_lines if line not in found_lines]
-    return gone + [f"in no line of the file: {line}" for line in found_lines if line not in kept_lines]
+    both = {*kept.splitlines()} & {*found.splitlines()}
+    gone = [f"in the file alone: {it}" for it in kept.splitlines() if it not in both]
+    return gone + [f"not in the file: {it}" for it in found.splitlines() if it not in both]
 
 
 def main() -> int:

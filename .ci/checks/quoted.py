@@ -3,8 +3,9 @@
 Each fenced block of Rust of the README and of `docs/`, and each fenced block of a doc comment, is a
 stretch of lines of a file of `PROGRAMS`, indentation aside. So is the last cell of each row of the
 tables of `COMPARED`, where each piece of code is a line. Each other fenced block of a document, but
-those of `DRAWN`, is a stretch of lines of what one of the programs prints. The lines of the README's
-table, and their answers, are a session of the program `markers`, which `.ci/long_texts` asks.
+those of `DRAWN`, is a stretch of lines of what a program prints, as it is stored. The lines of the
+README's table, and their answers, are a session of the program `markers`, which `.ci/long_texts`
+asks for.
 """
 
 from __future__ import annotations

@@ -14,7 +14,7 @@ from pathlib import Path
 
 from checks.kit import Repository
 
-# A refusal as a value: `Refusal::OutOfMemory`, `ok_or(AllocError)`, `from.no_memory()` and the like.
+# A refusal as a value, as `Refusal::OutOfMemory`, `ok_or(AllocError)` or `from.no_memory()`.
 MADE = re.compile(
     r"\b[A-Z]\w*::(OutOfMemory|Memory)\b|\bno_memory\(|(^|[(|]|=>|return)\s*AllocError\b(?!\s*[>{])"
 )
@@ -50,8 +50,8 @@ HANDED_ON = {
     "crates/requirement_words/src/specifiers.rt": 1,
     "crates/version_ranges/src/gather.rt": 1,
 }
-# How often one is made up: a clone that is not equal to its source, since `Clone` has no law that it
-# is; and a list whose length would not fit into 64 bits, for which there is no memory either.
+# How often one is made up: a clone that is not equal to its source, since `Clone` has no law that
+# it is; and a list whose length would not fit into 64 bits, for which there is no memory either.
 MADE_UP = {
     "crates/version_ranges/src/combine.rt": 1,
     "crates/version_ranges/src/equality.rt": 2,
