@@ -21,7 +21,7 @@ PROGRAMS = ("first_use", "uses")
 COMPARED = "docs/COMING_FROM.md"
 # The picture of the crates.
 DRAWN = ("docs/ARCHITECTURE.md",)
-FENCED = re.compile(r"^```(?P<kind>\w*)\n(?P<block>.*?)^```$", re.MULTILINE | re.DOTALL)
+FENCED = re.compile(r"^```(?P<kind>[^`\n]*)\n(?P<block>.*?)^```$", re.MULTILINE | re.DOTALL)
 COMMENTS = re.compile(r"(?:^[ \t]*//[/!].*\n)+", re.MULTILINE)
 IN_COMMENT = re.compile(r"^```\n(?P<block>.*?)^```$", re.MULTILINE | re.DOTALL)
 TABLE = re.compile(r"^\|.*\n\|[-:| ]+\|\n(?P<rows>(?:\|.*\n?)+)", re.MULTILINE)
