@@ -52,7 +52,8 @@ def judge(edit: Edit, said: Said) -> Verdict:
         why = "its proof names what the edit took away, which says nothing of the contract"
         return Verdict(False, f"{name} is refused for missing names alone: {why}")
     if goal in function.given_up:
-        return Verdict(False, f"the search gave up at {goal} of {name}, which may hold")
+        besides = f"; it fails at {', '.join(sorted(causes))}" if causes else ""
+        return Verdict(False, f"the search gave up at {goal} of {name}, which may hold{besides}")
     if causes or function.given_up:
         found = ", ".join(sorted(causes | function.given_up))
         return Verdict(False, f"{name} fails elsewhere, at {found}, not at {goal}")
