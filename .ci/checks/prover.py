@@ -17,7 +17,7 @@ LEFT = re.compile(r"`search` did not prove (.*?)(?:;|$)")
 # What stands above the line of a function, for each goal that has no answer of its own.
 NOTE = re.compile(r"^note: src/\S+: it is not proved that .*\(`([^`]+)`\)(.*)$")
 # What is said of a goal that may have a proof past a limit.
-GAVE_UP = re.compile(r"gave up|ran out of|stopped at a bound")
+GAVE_UP = "gave up at one of its limits"
 QUOTED = re.compile(r"`([^`]+)`")
 # What an error says where a proof names what the edited text no longer has.
 MISSING = re.compile(
@@ -36,7 +36,7 @@ class Function:
     left: set[str] = field(default_factory=set)
     # The goals whose written answer does not prove them.
     broken: set[str] = field(default_factory=set)
-    # The goals at which a tactic met one of its limits, so that it is not known whether they hold.
+    # Those at which the search met one of its limits, so that it is not known whether they hold.
     given_up: set[str] = field(default_factory=set)
     # Whether a file of its proof names what is not there.
     misses_names: bool = False
@@ -48,7 +48,7 @@ class Function:
     def causes(self) -> set[str]:
         """Its goals that do not hold. Where its proof misses names its goals are others than
         before, so that only a goal that has an answer of its own counts."""
-        return (self.broken if self.misses_names else self.broken | self.left) - self.given_up
+        return self.broken if self.misses_names else self.broken | (self.left - self.given_up)
 
 
 @dataclass
@@ -81,7 +81,7 @@ def read(said: str, crate: str, changed: set[str], cycles: dict[str, set[str]]) 
             goals = {*noted, *(QUOTED.findall(left[1]) if left else ())}
             if is_in_cycle(path, cycles):
                 goals = {goal for goal in goals if goal.startswith(f"{end_of(path)}-")}
-            given_up = {goal for goal in goals if GAVE_UP.search(noted.get(goal, ""))}
+            given_up = {goal for goal in goals if GAVE_UP in noted.get(goal, "")}
             functions[path] = Function(found[2], goals, given_up=given_up)
             noted = {}
     unread = ""
@@ -96,8 +96,6 @@ def read(said: str, crate: str, changed: set[str], cycles: dict[str, set[str]]) 
         for path in proved_in(found[1], goal[1] if goal else "", functions, cycles):
             if goal is None or MISSING.search(found[2]):
                 functions[path].misses_names = True
-            elif GAVE_UP.search(found[2]):
-                functions[path].given_up.add(goal[1])
             else:
                 functions[path].broken.add(goal[1])
     last = said.rstrip().rpartition("\n")[2]
@@ -176,3 +174,22 @@ class Prover:
         )
         shutil.rmtree(copy)
         return read(ran.stdout, self.crate, set(texts), self.cycles)
+
+    def goals(self, functions: list[str]) -> str:
+        """The goals of functions as they stand in the repository, as text."""
+        made = self.room / "goals"
+        named = [word for name in sorted(set(functions)) for word in ("--start", name)]
+        subprocess.run(
+            [*self.words(), *named, "--generated", str(made)],
+            cwd=self.repository.folder(self.crate),
+            stdin=subprocess.DEVNULL,
+            stdout=subprocess.DEVNULL,
+            stderr=subprocess.STDOUT,
+        )
+        paths = {name.replace("::", "/") for name in functions}
+        texts = []
+        for file in made.glob(f"Rattle-{self.crate}-proofs/**/Goals.antt"):
+            folder = file.parent.relative_to(made / f"Rattle-{self.crate}-proofs")
+            if str(folder) in paths or folder.name.startswith("+"):
+                texts.append(file.read_text(encoding="utf-8"))
+        return "\n".join(texts)

@@ -2,6 +2,7 @@
 
 from __future__ import annotations
 
+import re
 import tempfile
 from collections.abc import Callable
 from dataclasses import dataclass
@@ -23,6 +24,8 @@ class Verdict:
     text: str
     # Whether the check did not tell: the edit is then tried alone.
     is_open: bool = False
+    # The function at whose goal the search gave up: then its goals without the edit tell.
+    given_up: str = ""
 
 
 def judge(edit: Edit, said: Said) -> Verdict:
@@ -53,11 +56,24 @@ def judge(edit: Edit, said: Said) -> Verdict:
         return Verdict(False, f"{name} is refused for missing names alone: {why}")
     if goal in function.given_up:
         besides = f"; it fails at {', '.join(sorted(causes))}" if causes else ""
-        return Verdict(False, f"the search gave up at {goal} of {name}, which may hold{besides}")
+        text = f"the search gave up at {goal} of {name}, which may hold{besides}"
+        return Verdict(False, text, given_up=paths[0])
     if causes or function.given_up:
         found = ", ".join(sorted(causes | function.given_up))
         return Verdict(False, f"{name} fails elsewhere, at {found}, not at {goal}")
     return Verdict(False, f"{name} has no cause of its own: {function.status[:200]}", True)
+
+
+def settled(edit: Edit, verdict: Verdict, goals: str) -> Verdict:
+    """A verdict of a goal at which the search gave up. It counts where the function has the goal
+    without the edit too, since the same search proves it there, or where the edit says of itself
+    that the search gives up."""
+    goal = edit.field("fails")
+    if re.search(rf"(?<![\w+-]){re.escape(goal)}(?![\w+-])", goals):
+        return Verdict(True, f"refused at {goal}, which the search proves without the edit")
+    if edit.fields.get("search") == "gives up":
+        return Verdict(True, f"left open at {goal}, at a limit of the search")
+    return Verdict(False, f"{verdict.text}: without the edit there is no such goal")
 
 
 def function_of(edit: Edit, calls: Calls, crate: Path) -> Function:
@@ -98,25 +114,29 @@ class Trial:
         are_apart = lambda one, other: calls.are_apart(functions[one], functions[other])
         with tempfile.TemporaryDirectory(prefix=f"wrong-{self.crate}-") as room:
             prover = Prover(self.repository, self.crate, Path(room), calls.cycles())
-            answers = [self.check(prover, group) for group in groups(self.edits, are_apart)]
-        return [is_refused for answer in answers for is_refused in answer]
+            verdicts: dict[Edit, Verdict] = {}
+            for group in groups(self.edits, are_apart):
+                verdicts |= self.check(prover, group)
+            given_up = [verdict.given_up for verdict in verdicts.values() if verdict.given_up]
+            goals = prover.goals(given_up) if given_up else ""
+        for edit, verdict in verdicts.items():
+            if verdict.given_up:
+                verdicts[edit] = settled(edit, verdict, goals)
+                self.tell(f"{edit.name}: {verdicts[edit].text}")
+        return [verdict.is_refused for verdict in verdicts.values()]
 
-    def check(self, prover: Prover, group: list[Edit]) -> list[bool]:
-        """Tries edits in one check, and those of which it does not tell once more alone."""
+    def check(self, prover: Prover, group: list[Edit]) -> dict[Edit, Verdict]:
+        """Tries edits in one check, and those of which it does not tell once more alone. Tells of
+        all but those at whose goal the search gave up."""
         try:
             texts = edits.texts(group, self.folder)
             said = prover.check(texts, [edit.field("function") for edit in group])
             verdicts = {edit: judge(edit, said) for edit in group}
         except BadEdit as error:
-            if len(group) == 1:
-                self.tell(str(error))
-                return [False]
-            verdicts = {edit: Verdict(False, "", True) for edit in group}
-        answers = []
-        for edit, verdict in verdicts.items():
+            verdicts = {edit: Verdict(False, str(error), True) for edit in group}
+        for edit, verdict in list(verdicts.items()):
             if verdict.is_open and len(group) > 1:
-                answers += self.check(prover, [edit])
-            else:
+                verdicts |= self.check(prover, [edit])
+            elif not verdict.given_up:
                 self.tell(f"{edit.name}: {verdict.text}")
-                answers.append(verdict.is_refused)
-        return answers
+        return verdicts
