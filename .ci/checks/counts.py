@@ -35,7 +35,11 @@ def of_crate(repository: Repository, crate: str) -> dict[str, int]:
 def of_families(root: Path) -> dict[str, dict[str, int]]:
     """How many growths are refused in each family of calls, and how many things that must meet."""
     return {
-        f"{program}, {family.name}": {"growths": family.growths, "met": len(family.all_met())}
+        f"{program}, {family.name}": {
+            "growths": family.growths,
+            "met": len(family.all_met()),
+            "hints": family.hints,
+        }
         for program, families in script(root / ".ci" / "refusals").SWEEPS
         for family in families
     }

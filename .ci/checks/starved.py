@@ -25,11 +25,14 @@ def calls(family: str, indices: Iterable[int]) -> list[str]:
 @dataclass(frozen=True)
 class Family:
     """A family of calls of a program: what a line of the input calls it, in how many runs a growth
-    is refused, and what that must meet beside what comes before the calls."""
+    is refused, and what that must meet beside what comes before the calls; and how many growths are
+    hints, of as much room as a list may come to need: where one is refused the library asks for
+    less, and the call answers as ever."""
 
     name: str
     growths: int
     met: list[str]
+    hints: int = 0
 
     @property
     def case(self) -> str:
@@ -43,7 +46,8 @@ class Family:
 def faults_of(family: Family, growth: int, answers: list[tuple[int, str]]) -> list[str]:
     """What is wrong with the runs of a family: how many growths each had before its own, and what
     the refused growth of the run met. In those with the fewest before its own the refused one comes
-    after them all, and behind them each run must meet something, so none was passed over."""
+    after them all, and behind them each run must meet something, but for the family's hints, so none
+    was passed over."""
     wrong = []
     if len(answers) != family.growths:
         wrong.append(f"{family.name}: {len(answers)} of {family.growths} runs answered")
@@ -53,9 +57,12 @@ def faults_of(family: Family, growth: int, answers: list[tuple[int, str]]) -> li
     after_all = met_nothing.index(False) if False in met_nothing else len(answers)
     if after_all < LEFT:
         wrong.append(f"{family.name} has more than {family.growths - LEFT} growths")
-    for held, met in answers[after_all:]:
-        if met == NOTHING:
-            wrong.append(f"{family.name}: growth {growth - held} was refused and met nothing")
+    passed_over = [growth - held for held, met in answers[after_all:] if met == NOTHING]
+    if len(passed_over) != family.hints:
+        wrong.append(
+            f"{family.name}: {len(passed_over)} growths were refused and met nothing, and not "
+            f"{family.hints}: {passed_over}"
+        )
     found = {met for _, met in answers}
     return wrong + [f"{family.name}: never {met}" for met in family.all_met() if met not in found]
 
