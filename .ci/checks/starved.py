@@ -46,8 +46,7 @@ class Family:
 def faults_of(family: Family, growth: int, answers: list[tuple[int, str]]) -> list[str]:
     """What is wrong with the runs of a family: how many growths each had before its own, and what
     the refused growth of the run met. In those with the fewest before its own the refused one comes
-    after them all, and behind them each run must meet something, but for the family's hints, so none
-    was passed over."""
+    after them all, and behind them each run must meet something, but for the family's hints."""
     wrong = []
     if len(answers) != family.growths:
         wrong.append(f"{family.name}: {len(answers)} of {family.growths} runs answered")
