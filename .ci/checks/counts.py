@@ -26,10 +26,13 @@ KINDS = ("must-fail", edits.TOGETHER, edits.BY_TESTS)
 
 
 def of_crate(repository: Repository, crate: str) -> dict[str, int]:
-    """How many edits of each kind a crate has, and how many tests."""
-    folder = repository.folder(crate)
-    tests = [text.count("#[test]\n") for text in copies.sources(repository, crate).values()]
-    return {kind: len(edits.of_crate(folder, kind)) for kind in KINDS} | {"tests": sum(tests)}
+    """How many edits of each kind a crate has, at how many of whose goals the search gives up, and
+    how many tests."""
+    its = {kind: edits.of_crate(repository.folder(crate), kind) for kind in KINDS}
+    found = {kind: len(edits) for kind, edits in its.items()}
+    found["at a limit"] = sum("search" in edit.fields for edit in its[edits.TOGETHER])
+    texts = copies.sources(repository, crate).values()
+    return found | {"tests": sum(text.count("#[test]\n") for text in texts)}
 
 
 def of_families(root: Path) -> dict[str, dict[str, int]]:
