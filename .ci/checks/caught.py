@@ -40,11 +40,11 @@ class Trial:
         self.rt = quick_kit(room / f"kit-{tester}")
         self.tell = tell
 
-    def run(self) -> bool:
-        """Tries every edit. Answers whether all were caught."""
+    def run(self) -> list[bool]:
+        """Tries every edit. Answers which were caught."""
         together = 1 if self.tester == PROGRAM else TOGETHER
         groups = [self.edits[at : at + together] for at in range(0, len(self.edits), together)]
-        return all([all(self.check(group)) for group in groups])
+        return [is_caught for group in groups for is_caught in self.check(group)]
 
     def check(self, group: list[Edit]) -> list[bool]:
         """Tries edits in one build, and those of which it does not tell once more alone."""

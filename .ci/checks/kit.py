@@ -5,10 +5,14 @@ from __future__ import annotations
 import hashlib
 import os
 import subprocess
+import sys
 from collections.abc import Callable, Iterable
 from concurrent.futures import ThreadPoolExecutor
 from functools import cache
+from importlib.machinery import SourceFileLoader
+from importlib.util import module_from_spec, spec_from_loader
 from pathlib import Path
+from types import ModuleType
 from typing import TypeVar
 
 Item = TypeVar("Item")
@@ -41,6 +45,15 @@ def side_by_side(items: Iterable[Item], task: Callable[[Item], Answer]) -> list[
     """What the task answers for each item, in their order; they begin in their order too."""
     with ThreadPoolExecutor(lanes()) as pool:
         return list(pool.map(task, items))
+
+
+def script(file: Path) -> ModuleType:
+    """A script whose name has no ending, as a module."""
+    loader = SourceFileLoader(file.name, str(file))
+    module = module_from_spec(spec_from_loader(file.name, loader))
+    sys.modules[file.name] = module
+    loader.exec_module(module)
+    return module
 
 
 def listed(file: Path) -> dict[str, list[str]]:

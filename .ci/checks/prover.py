@@ -14,8 +14,10 @@ from checks.kit import PARTS, Repository, kit
 STATUS = re.compile(r"^fn (\S+?): (.*)$")
 ERROR = re.compile(r"^(?:\./)?((?:src|specs|proofs)/\S+?):\d+:\d+: error: (.*)$")
 LEFT = re.compile(r"`search` did not prove (.*?)(?:;|$)")
-# What stands above the line of a function that has answers, for each goal that has none.
-NOTE = re.compile(r"^note: src/\S+: it is not proved that .*\(`([^`]+)`\)")
+# What stands above the line of a function, for each goal that has no answer of its own.
+NOTE = re.compile(r"^note: src/\S+: it is not proved that .*\(`([^`]+)`\)(.*)$")
+# What is said of a goal that may have a proof past a limit.
+GAVE_UP = "gave up at one of its limits"
 QUOTED = re.compile(r"`([^`]+)`")
 # What an error says where a proof names what the edited text no longer has.
 MISSING = re.compile(
@@ -34,6 +36,8 @@ class Function:
     left: set[str] = field(default_factory=set)
     # The goals whose written answer does not prove them.
     broken: set[str] = field(default_factory=set)
+    # Those at which the search met one of its limits, so that it is not known whether they hold.
+    given_up: set[str] = field(default_factory=set)
     # Whether a file of its proof names what is not there.
     misses_names: bool = False
 
@@ -44,7 +48,7 @@ class Function:
     def causes(self) -> set[str]:
         """Its goals that do not hold. Where its proof misses names its goals are others than
         before, so that only a goal that has an answer of its own counts."""
-        return self.broken if self.misses_names else self.broken | self.left
+        return self.broken if self.misses_names else self.broken | (self.left - self.given_up)
 
 
 @dataclass
@@ -67,18 +71,19 @@ def read(said: str, crate: str, changed: set[str], cycles: dict[str, set[str]]) 
     """What the lines of a check say. `changed` are the files that were edited, and `cycles` the
     names of the functions of each cycle of calls, whose proof stands in one folder."""
     functions: dict[str, Function] = {}
-    noted: set[str] = set()
+    noted: dict[str, str] = {}
     for line in said.splitlines():
         if (note := NOTE.match(line)) is not None:
-            noted.add(note[1])
+            noted[note[1]] = note[2]
         elif (found := STATUS.match(line)) is not None:
             path = found[1].removeprefix(f"{crate}::")
             left = LEFT.search(found[2])
-            goals = noted | set(QUOTED.findall(left[1]) if left else ())
+            goals = {*noted, *(QUOTED.findall(left[1]) if left else ())}
             if is_in_cycle(path, cycles):
                 goals = {goal for goal in goals if goal.startswith(f"{end_of(path)}-")}
-            functions[path] = Function(found[2], goals)
-            noted = set()
+            given_up = {goal for goal in goals if GAVE_UP in noted.get(goal, "")}
+            functions[path] = Function(found[2], goals, given_up=given_up)
+            noted = {}
     unread = ""
     for line in said.splitlines():
         if (found := ERROR.match(line)) is None:
@@ -169,3 +174,22 @@ class Prover:
         )
         shutil.rmtree(copy)
         return read(ran.stdout, self.crate, set(texts), self.cycles)
+
+    def goals(self, functions: list[str]) -> str:
+        """The goals of functions as they stand in the repository, as text."""
+        made = self.room / "goals"
+        named = [word for name in sorted(set(functions)) for word in ("--start", name)]
+        subprocess.run(
+            [*self.words(), *named, "--generated", str(made)],
+            cwd=self.repository.folder(self.crate),
+            stdin=subprocess.DEVNULL,
+            stdout=subprocess.DEVNULL,
+            stderr=subprocess.STDOUT,
+        )
+        paths = {name.replace("::", "/") for name in functions}
+        texts = []
+        for file in made.glob(f"Rattle-{self.crate}-proofs/**/Goals.antt"):
+            folder = file.parent.relative_to(made / f"Rattle-{self.crate}-proofs")
+            if str(folder) in paths or folder.name.startswith("+"):
+                texts.append(file.read_text(encoding="utf-8"))
+        return "\n".join(texts)

@@ -2,7 +2,10 @@
 
 Each fenced block of Rust of the README and of `docs/`, and each fenced block of a doc comment, is a
 stretch of lines of a file of `PROGRAMS`, indentation aside. So is the last cell of each row of the
-tables of `COMPARED`, where each piece of code is a line.
+tables of `COMPARED`, where each piece of code is a line. Each other fenced block of a document, but
+those of `DRAWN`, is a stretch of lines of what a program prints, as it is stored. The lines of the
+README's table, and their answers, are a session of the program `markers`, which `.ci/long_texts`
+asks for.
 """
 
 from __future__ import annotations
@@ -16,12 +19,14 @@ from checks.kit import Repository
 # The crates whose programs are quoted.
 PROGRAMS = ("first_use", "uses")
 COMPARED = "docs/COMING_FROM.md"
-FENCED = re.compile(r"^```rust\n(?P<block>.*?)^```$", re.MULTILINE | re.DOTALL)
+# The picture of the crates.
+DRAWN = ("docs/ARCHITECTURE.md",)
+FENCED = re.compile(r"^```(?P<kind>[^`\n]*)\n(?P<block>.*?)^```$", re.MULTILINE | re.DOTALL)
 COMMENTS = re.compile(r"(?:^[ \t]*//[/!].*\n)+", re.MULTILINE)
 IN_COMMENT = re.compile(r"^```\n(?P<block>.*?)^```$", re.MULTILINE | re.DOTALL)
 TABLE = re.compile(r"^\|.*\n\|[-:| ]+\|\n(?P<rows>(?:\|.*\n?)+)", re.MULTILINE)
 CELL = re.compile(r"(?<!\\)\|")
-CODE = re.compile(r"`([^`]+)`")
+CODE = re.compile(r"(?<!`)(`+) ?(.*?) ?\1(?!`)")
 
 
 def lines_of(text: str) -> list[str]:
@@ -35,17 +40,32 @@ def stands_in(block: list[str], program: list[str]) -> bool:
     return any(program[at : at + width] == block for at in range(len(program) - width + 1))
 
 
-def blocks_of_document(text: str) -> Iterator[list[str]]:
+def blocks_of_document(text: str, of_code: bool) -> Iterator[list[str]]:
+    """The fenced blocks of a document, those of code or the others."""
     for found in FENCED.finditer(text):
-        yield lines_of(found["block"])
+        if of_code == (found["kind"] == "rust"):
+            yield lines_of(found["block"]) if of_code else found["block"].splitlines()
+
+
+def rows_of_tables(text: str) -> Iterator[list[list[str]]]:
+    """The code in each cell of each row of the tables, without their headers."""
+    for found in TABLE.finditer(text):
+        for row in found["rows"].splitlines():
+            cells = CELL.split(row.strip().removeprefix("|").removesuffix("|"))
+            yield [[line.replace("\\|", "|") for _, line in CODE.findall(it)] for it in cells]
 
 
 def blocks_of_tables(text: str) -> Iterator[list[str]]:
-    """The code in the last cell of each row of the tables, without their headers."""
-    for found in TABLE.finditer(text):
-        for row in found["rows"].splitlines():
-            cell = CELL.split(row.rstrip().removesuffix("|"))[-1]
-            yield [line.replace("\\|", "|") for line in CODE.findall(cell)]
+    """The code in the last cell of each row of the tables."""
+    for row in rows_of_tables(text):
+        yield row[-1]
+
+
+def session_of(text: str) -> list[tuple[str, str]]:
+    """The lines and the answers of the table whose first column is `Line`."""
+    head = "| Line | Answer |"
+    table = text[text.find(head) :].partition("\n\n")[0] if head in text else ""
+    return [(line, answer) for (line,), (answer,), *_ in rows_of_tables(table)]
 
 
 def blocks_of_code(text: str) -> Iterator[list[str]]:
@@ -65,13 +85,30 @@ def in_repository(repository: Repository) -> list[str]:
         for file in sorted((repository.folder(name) / "src").rglob("*.rt"))
     ]
     quoting: list[tuple[Path, Iterator[list[str]]]] = []
-    for file in [root / "README.md", *sorted((root / "docs").glob("*.md"))]:
-        quoting.append((file, blocks_of_document(file.read_text(encoding="utf-8"))))
+    documents = [root / "README.md", *sorted((root / "docs").glob("*.md"))]
+    for file in documents:
+        quoting.append((file, blocks_of_document(file.read_text(encoding="utf-8"), True)))
     if (compared := root / COMPARED).is_file():
         quoting.append((compared, blocks_of_tables(compared.read_text(encoding="utf-8"))))
     for name in repository.uses:
         for file in sorted((repository.folder(name) / "src").rglob("*.rt")):
             quoting.append((file, blocks_of_code(file.read_text(encoding="utf-8"))))
+    printed = [
+        file.read_text(encoding="utf-8").splitlines()
+        for file in sorted((root / "crates").glob("*/stdout"))
+    ]
+    showing = [
+        (file, blocks_of_document(file.read_text(encoding="utf-8"), False))
+        for file in documents
+        if str(file.relative_to(root)) not in DRAWN
+    ]
+    return missing(root, quoting, programs) + missing(root, showing, printed)
+
+
+def missing(
+    root: Path, quoting: list[tuple[Path, Iterator[list[str]]]], programs: list[list[str]]
+) -> list[str]:
+    """Where a block stands in none of the programs, or has no line."""
     return [
         f"{file.relative_to(root)}: {block[0] if block else 'an empty example'}"
         for file, blocks in quoting

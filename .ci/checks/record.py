@@ -17,7 +17,8 @@ from checks.kit import Repository, version
 
 FILE = Path(".ci") / "record"
 # What does not try edits.
-OTHERS = ["columns", "listed", "quoted", "refusals_by_hand", "self_test", "starved"]
+OTHERS = ["columns", "counts", "house", "listed", "quoted", "refusals_by_hand", "self_test"]
+OTHERS += ["starved"]
 HEAD = """\
 # The crates whose wrong bodies were all refused, each with a sum of what that depends on.
 # Written by `.ci/wrong_bodies --record`, after a pass, and by nothing else.

@@ -2,6 +2,7 @@
 
 from __future__ import annotations
 
+import re
 import tempfile
 from collections.abc import Callable
 from dataclasses import dataclass
@@ -23,6 +24,8 @@ class Verdict:
     text: str
     # Whether the check did not tell: the edit is then tried alone.
     is_open: bool = False
+    # The function at whose goal the search gave up: then its goals without the edit tell.
+    given_up: str = ""
 
 
 def judge(edit: Edit, said: Said) -> Verdict:
@@ -38,7 +41,8 @@ def judge(edit: Edit, said: Said) -> Verdict:
     if len(paths) != 1:
         return Verdict(False, f"{name} names {len(paths)} functions of the crate, and not one")
     function = said.functions[paths[0]]
-    others = [path for path, it in said.functions.items() if path != paths[0] and it.causes()]
+    fails = {path for path, it in said.functions.items() if it.causes() or it.given_up}
+    others = sorted(fails - {paths[0]})
     if function.is_proved:
         if others:
             text = f"{name} is proved, and {others[0]} is refused in its place"
@@ -47,13 +51,29 @@ def judge(edit: Edit, said: Said) -> Verdict:
     causes = function.causes()
     if goal in causes:
         return Verdict(True, f"refused at {goal} of {name}")
-    if causes:
-        found = ", ".join(sorted(causes))
-        return Verdict(False, f"{name} fails elsewhere, at {found}, not at {goal}")
-    if function.misses_names:
+    if function.misses_names and not causes:
         why = "its proof names what the edit took away, which says nothing of the contract"
         return Verdict(False, f"{name} is refused for missing names alone: {why}")
+    if goal in function.given_up:
+        besides = f"; it fails at {', '.join(sorted(causes))}" if causes else ""
+        text = f"the search gave up at {goal} of {name}, which may hold{besides}"
+        return Verdict(False, text, given_up=paths[0])
+    if causes or function.given_up:
+        found = ", ".join(sorted(causes | function.given_up))
+        return Verdict(False, f"{name} fails elsewhere, at {found}, not at {goal}")
     return Verdict(False, f"{name} has no cause of its own: {function.status[:200]}", True)
+
+
+def settled(edit: Edit, verdict: Verdict, goals: str) -> Verdict:
+    """A verdict of a goal at which the search gave up. It counts where the function has the goal
+    without the edit too, since the same search proves it there, or where the edit says of itself
+    that the search gives up."""
+    goal = edit.field("fails")
+    if re.search(rf"(?<![\w+-]){re.escape(goal)}(?![\w+-])", goals):
+        return Verdict(True, f"refused at {goal}, which the search proves without the edit")
+    if edit.fields.get("search") == "gives up":
+        return Verdict(True, f"left open at {goal}, at a limit of the search")
+    return Verdict(False, f"{verdict.text}: without the edit there is no such goal")
 
 
 def function_of(edit: Edit, calls: Calls, crate: Path) -> Function:
@@ -81,8 +101,8 @@ class Trial:
         self.folder = repository.folder(crate)
         self.edits = edits.of_crate(self.folder, edits.TOGETHER)
 
-    def run(self) -> bool:
-        """Tries every edit. Answers whether all were refused."""
+    def run(self) -> list[bool]:
+        """Tries every edit. Answers which were refused."""
         try:
             if not self.repository.build_below(self.crate):
                 raise BadEdit(f"{self.crate}: the libraries below it do not stand")
@@ -90,29 +110,33 @@ class Trial:
             functions = {edit: function_of(edit, calls, self.folder) for edit in self.edits}
         except BadEdit as error:
             self.tell(str(error))
-            return False
+            return [False for _ in self.edits]
         are_apart = lambda one, other: calls.are_apart(functions[one], functions[other])
         with tempfile.TemporaryDirectory(prefix=f"wrong-{self.crate}-") as room:
             prover = Prover(self.repository, self.crate, Path(room), calls.cycles())
-            answers = [self.check(prover, group) for group in groups(self.edits, are_apart)]
-        return all(all(answer) for answer in answers)
+            verdicts: dict[Edit, Verdict] = {}
+            for group in groups(self.edits, are_apart):
+                verdicts |= self.check(prover, group)
+            given_up = [verdict.given_up for verdict in verdicts.values() if verdict.given_up]
+            goals = prover.goals(given_up) if given_up else ""
+        for edit, verdict in verdicts.items():
+            if verdict.given_up:
+                verdicts[edit] = settled(edit, verdict, goals)
+                self.tell(f"{edit.name}: {verdicts[edit].text}")
+        return [verdict.is_refused for verdict in verdicts.values()]
 
-    def check(self, prover: Prover, group: list[Edit]) -> list[bool]:
-        """Tries edits in one check, and those of which it does not tell once more alone."""
+    def check(self, prover: Prover, group: list[Edit]) -> dict[Edit, Verdict]:
+        """Tries edits in one check, and those of which it does not tell once more alone. Tells of
+        all but those at whose goal the search gave up."""
         try:
             texts = edits.texts(group, self.folder)
             said = prover.check(texts, [edit.field("function") for edit in group])
             verdicts = {edit: judge(edit, said) for edit in group}
         except BadEdit as error:
-            if len(group) == 1:
-                self.tell(str(error))
-                return [False]
-            verdicts = {edit: Verdict(False, "", True) for edit in group}
-        answers = []
-        for edit, verdict in verdicts.items():
+            verdicts = {edit: Verdict(False, str(error), True) for edit in group}
+        for edit, verdict in list(verdicts.items()):
             if verdict.is_open and len(group) > 1:
-                answers += self.check(prover, [edit])
-            else:
+                verdicts |= self.check(prover, [edit])
+            elif not verdict.given_up:
                 self.tell(f"{edit.name}: {verdict.text}")
-                answers.append(verdict.is_refused)
-        return answers
+        return verdicts
