@@ -26,5 +26,6 @@ pub same_words : (a b : NodeId) → IsTrue (same_id a b) → fed.u64 (word_of a)
 same_words a b e =
     let parts = and_parts (a.place == b.place) (beq a.complement b.complement) e in
     let places : a.place ≡ b.place = eqb-true a.place b.place parts.0 in
-    let bits : bit_of a.complement ≡ bit_of b.complement = same_bits a.complement b.complement parts.1 in
+    let bits : bit_of a.complement ≡ bit_of b.complement =
+    same_bits a.complement b.complement parts.1 in
     λ i. fed.u64 (2 * places i + bits i)

@@ -241,7 +241,7 @@ module _ (x : TextVariable) (t : List ℕ) (plain : is_plain t ≡ true) where
   text_halves true = (
     of_text text_operators.LessEqual (λ y v. point_lt text_cmp (v.text y) (above t)) (λ v. sym (until (v.text (variable_of (modern_key x))) t)),
     of_text text_operators.GreaterThan (λ y v. not (point_lt text_cmp (v.text y) (above t)))
-    (λ v. sym (ap not (until (v.text (variable_of (modern_key x))) t) ∙ gt_is (point_cmp text_cmp (v.text (variable_of (modern_key x))) (at t)))),
+        (λ v. sym (ap not (until (v.text (variable_of (modern_key x))) t) ∙ gt_is (point_cmp text_cmp (v.text (variable_of (modern_key x))) (at t)))),
   )
   text_halves false = (
     of_text text_operators.LessThan (λ y v. point_lt text_cmp (v.text y) (at t)) (λ v. refl),
@@ -252,7 +252,8 @@ module _ (x : TextVariable) (t : List ℕ) (plain : is_plain t ≡ true) where
 
 answered : (x : TruthVariable) (high low : NodeId) → IsPlainNode (Truth x high low) → Halves (answer x)
 answered (questions.In x t) high low plain = (
-  of_text x (string_bytes t) plain text_operators.In (λ y v. v.inside y (string_bytes t)) (λ v. refl), of_text x (string_bytes t) plain text_operators.NotIn (λ y v. not (v.inside y (string_bytes t))) (λ v. refl),
+  of_text x (string_bytes t) plain text_operators.In (λ y v. v.inside y (string_bytes t)) (λ v. refl),
+  of_text x (string_bytes t) plain text_operators.NotIn (λ y v. not (v.inside y (string_bytes t))) (λ v. refl),
 )
 answered (questions.Contains x t) high low plain = (
   of_text x (string_bytes t) plain text_operators.Contains (λ y v. v.contains y (string_bytes t)) (λ v. refl),
@@ -260,7 +261,8 @@ answered (questions.Contains x t) high low plain = (
 )
 answered (questions.Extra n) high low plain = (of_test (extra extra_operators.Equal (name n)) tt, of_test (extra extra_operators.NotEqual (name n)) tt)
 answered (questions.Arbitrary t) high low plain = (
-  of_test (extra extra_operators.Equal (arbitrary (string_bytes t))) plain, of_test (extra extra_operators.NotEqual (arbitrary (string_bytes t))) plain,
+  of_test (extra extra_operators.Equal (arbitrary (string_bytes t))) plain,
+  of_test (extra extra_operators.NotEqual (arbitrary (string_bytes t))) plain,
 )
 
 -- ---- nodes, from the oldest on

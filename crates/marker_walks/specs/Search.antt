@@ -19,7 +19,8 @@ pub record IsSearch (nodes : List Node) (versions : Option (Bor (List Parts))) :
 module _ (extras : List (List ℕ)) (versions : Option (Bor (List Parts))) (nodes : List Node) where
   -- the answer tells whether a valuation that is looked for satisfies the id
   abbrev pub Answers : NodeId → Bool → Type 0
-  Answers t answer = AnswersPossible extras (listed_versions versions) (truth markers nodes t) answer
+  Answers t answer = AnswersPossible extras (listed_versions versions)
+      (truth markers nodes t) answer
 
   -- no valuation that is looked for satisfies the id
   abbrev pub IsOut : NodeId → Type 0

@@ -17,8 +17,8 @@ use marker_nodes::{NodeId, NodeTable, short_cut};
 // A pair of ids that was found apart: no valuation satisfies both.
 type Pair = (NodeId, NodeId);
 
-// What a walk remembers, and how many looks it may take. A pair has two places, and shares them with
-// others.
+// What a walk remembers, and how many looks it may take. A pair has two places, and shares them
+// with others.
 #[derive(Drop)]
 struct Memory<const N: usize> {
     apart: [Pair; N],
@@ -90,8 +90,8 @@ fn walk<const N: usize>(nodes: &NodeTable, looks: Looks, a: NodeId, b: NodeId) -
     are_apart::<N>(nodes, &mut memory, a, b)
 }
 
-// What is left to look at of a pair, where all other pairs of its children are apart: nothing, where
-// one is true together, or else the last one.
+// What is left to look at of a pair, where all other pairs of its children are apart: nothing,
+// where one is true together, or else the last one.
 #[derive(Drop)]
 pub(crate) enum Rest {
     Shared,

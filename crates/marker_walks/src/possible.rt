@@ -247,7 +247,8 @@ fn possible_at_text(
 ) -> Option<bool>
     requires search { IsSearch nodes.now versions }
     requires id { diagram.IsHeld nodes.now id }
-    requires node { (x : TextVariable) × (diagram.node_of nodes.now id ≡ Some (kinds.Text x edges.now)) }
+    requires node { (x : TextVariable)
+        × (diagram.node_of nodes.now id ≡ Some (kinds.Text x edges.now)) }
     requires places { 2 ≤ length out.old }
     requires out { AreOut extras.now versions nodes.now out.old }
     ensures answer { IfSome result (Answers extras.now versions.entry nodes.now id) }

@@ -19,7 +19,8 @@ SetOf = Operator → List ℕ → Point Parts → Bool
 -- a negated operator takes the points that the operator does not
 abbrev pub NegationIsComplement : SetOf → Type 0
 NegationIsComplement set =
-    (o n : Operator) (r : List ℕ) (p : Point Parts) → negated o ≡ Some n → set n r p ≡ not (set o r p)
+    (o n : Operator) (r : List ℕ) (p : Point Parts) → negated o ≡ Some n
+    → set n r p ≡ not (set o r p)
 
 -- a point lies between two bounds exactly where it is in the set of each specifier of the range
 abbrev pub IsRangeAt : Bound (Bor Parts) → Bound (Bor Parts) → Point Parts → Type 0

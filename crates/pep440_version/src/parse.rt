@@ -14,8 +14,7 @@ use refusal::Refusal;
 use std::alloc::{AllocError, Global};
 
 impl Version {
-    /// Reads a version as `parse` does. A text that is no version is `None`, and no error is made of
-    /// it.
+    /// Parses a version as `parse` does, and returns `None` for an invalid one, with no error made.
     pub fn read(alloc: Global, text: &str) -> Result<Option<Version>, AllocError>
         ensures found { IfOk result (λ found. IfSome found (IsVersionText text.now)) }
         ensures none { IfOk result (λ found. IfNone found (

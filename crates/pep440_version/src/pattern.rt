@@ -22,8 +22,7 @@ impl VersionPattern {
     ghost use Rattle.pep440_version.specs.Parse.{IsPatternGivenUnlessMemory};
     ghost use Rattle.pep440_version.specs.Parts.{Parts};
 
-    /// Reads a pattern as `parse` does. A text that is no pattern is `None`, and no error is made of
-    /// it.
+    /// Parses a pattern as `parse` does, and returns `None` for an invalid one, with no error made.
     pub fn read(alloc: Global, text: &str) -> Result<Option<VersionPattern>, AllocError>
         ensures found { IfOk result (λ found. IfSome found (λ p.
             IsPatternText text.now p.version p.wildcard)) }
