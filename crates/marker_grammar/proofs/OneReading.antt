@@ -1,7 +1,7 @@
 -- A text has one reading: what another one makes of it goes along with the first, part by part.
 use Rattle.std.proofs.Common.{◌≡◌, ℕ, List, [], ◌∷◌, Option, None, refl, sym, ap, ◌∙◌, subst}
 use Rattle.pep508_text.proofs.RunLaws.{trimmed_by_run, spaces_end}
-use Rattle.marker_warnings.specs.declared.warning.MarkerWarningKind.{MarkerWarningKind}
+use Rattle.pep508_errors.specs.declared.warning.MarkerWarningKind.{MarkerWarningKind}
 use Rattle.marker_grammar.specs.Formula.{Formula, and_of, or_of}
 use Rattle.marker_grammar.specs.Grammar.{Atom, group, comparison, AndRest, no_and, one_and, and, OrRest, no_or, one_or, or, Reads}
 use Rattle.marker_grammar.specs.Reading.{Level, ended, After, goes, Before, before}

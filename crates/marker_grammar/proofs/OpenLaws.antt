@@ -5,7 +5,7 @@ use Rattle.std.specs.Str.{chars}
 use Rattle.std.proofs.lemmas.List.{append_cancel_left}
 use Rattle.pep508_text.specs.declared.classes.Class.TheVariants.{NotSpace}
 use Rattle.pep508_text.specs.Run.{Run, none, after_space}
-use Rattle.marker_warnings.specs.declared.warning.MarkerWarningKind.{MarkerWarningKind}
+use Rattle.pep508_errors.specs.declared.warning.MarkerWarningKind.{MarkerWarningKind}
 use Rattle.marker_parts.specs.Comparison.{Meaning, Compared}
 use Rattle.marker_grammar.specs.declared.reader.Group.{Group}
 use Rattle.marker_grammar.specs.Formula.{Formula, and_of, or_of, of_test}

@@ -11,7 +11,7 @@ use Rattle.pep508_text.specs.Run.{Run, after_space}
 use Rattle.marker_words.specs.Keyword.{NoKeyword, IsKeyword}
 use Rattle.marker_words.specs.declared.parts.Keyword.{Keyword}
 use Rattle.marker_words.specs.declared.parts.Keyword.TheVariants as keywords
-use Rattle.marker_warnings.specs.declared.warning.MarkerWarningKind.{MarkerWarningKind}
+use Rattle.pep508_errors.specs.declared.warning.MarkerWarningKind.{MarkerWarningKind}
 use Rattle.marker_parts.specs.Comparison.{Meaning, Compared}
 use Rattle.std.specs.Str.{chars}
 use Rattle.pep508_text.specs.Suffix.{IsSuffix}

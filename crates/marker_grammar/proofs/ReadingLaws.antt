@@ -6,7 +6,7 @@ use Rattle.pep508_text.specs.declared.classes.Class.TheVariants.{Space, NotSpace
 use Rattle.pep508_text.specs.Class.{holds}
 use Rattle.pep508_text.specs.Run.{Run, Spaces, none, after_space}
 use Rattle.pep508_text.proofs.RunLaws.{run_same, run_begins, run_of-first, trimmed_by_run, spaces_end, spaces_all, spaces_then}
-use Rattle.marker_warnings.specs.declared.warning.MarkerWarningKind.{MarkerWarningKind}
+use Rattle.pep508_errors.specs.declared.warning.MarkerWarningKind.{MarkerWarningKind}
 use Rattle.marker_parts.specs.Comparison.{Meaning, Compared, compared}
 use Rattle.marker_words.specs.Lexical.{sides}
 use Rattle.marker_words.proofs.LexicalLaws.{sides_begins}

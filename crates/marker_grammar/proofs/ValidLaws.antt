@@ -8,7 +8,7 @@ use Rattle.marker_words.specs.declared.operator.MarkerOperator.{MarkerOperator}
 use Rattle.marker_words.specs.declared.operator.MarkerOperator.TheVariants.{Equal, NotEqual, GreaterThan, GreaterEqual, LessThan, LessEqual, TildeEqual, In, NotIn, Contains, NotContains}
 use Rattle.marker_words.specs.Operator.{turned}
 use Rattle.marker_words.specs.Lexical.{Value}
-use Rattle.marker_warnings.specs.declared.warning.MarkerWarningKind.{MarkerWarningKind}
+use Rattle.pep508_errors.specs.declared.warning.MarkerWarningKind.{MarkerWarningKind}
 use Rattle.marker_parts.specs.declared.expression.MarkerExpression.{MarkerExpression}
 use Rattle.marker_parts.specs.Expression.{Extra, Test, test_of}
 use Rattle.marker_parts.specs.VersionComparison.{Asks, AsksBefore, compares, lists, compares_before}

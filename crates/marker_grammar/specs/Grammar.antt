@@ -7,7 +7,7 @@ use Rattle.std.specs.Prelude.{◌≡◌, ℕ, List, [], ◌∷◌, ◌++◌, Opt
 use Rattle.std.specs.Str.{chars}
 use Rattle.pep508_text.specs.Run.{Run, Spaces}
 use Rattle.pep508_text.specs.declared.classes.Class.TheVariants.{NotSpace}
-use Rattle.marker_warnings.specs.declared.warning.MarkerWarningKind.{MarkerWarningKind}
+use Rattle.pep508_errors.specs.declared.warning.MarkerWarningKind.{MarkerWarningKind}
 use Rattle.marker_parts.specs.Comparison.{Meaning, Compared}
 use Rattle.marker_grammar.specs.Formula.{Formula, and_of, or_of, of_test}
 

@@ -3,7 +3,7 @@
 -- is read as.
 use Rattle.std.specs.Prelude.{◌≡◌, ℕ, List, [], ◌∷◌, Option}
 use Rattle.pep508_text.specs.Run.{Spaces}
-use Rattle.marker_warnings.specs.declared.warning.MarkerWarningKind.{MarkerWarningKind}
+use Rattle.pep508_errors.specs.declared.warning.MarkerWarningKind.{MarkerWarningKind}
 use Rattle.marker_grammar.specs.Formula.{Formula, and_of, or_of}
 use Rattle.marker_grammar.specs.Grammar.{Atom, AndRest, OrRest}
 

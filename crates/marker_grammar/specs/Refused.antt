@@ -2,7 +2,7 @@
 use Rattle.std.specs.Prelude.{◌≡◌, ℕ, List, ◌++◌, Option, encode_utf8}
 use Rattle.marker_words.specs.declared.fault.Fault.{Fault}
 use Rattle.marker_words.specs.Fault.{IsFault}
-use Rattle.marker_warnings.specs.declared.warning.MarkerWarningKind.{MarkerWarningKind}
+use Rattle.pep508_errors.specs.declared.warning.MarkerWarningKind.{MarkerWarningKind}
 use Rattle.marker_parts.specs.declared.comparison.ComparisonError.{ComparisonError}
 use Rattle.marker_parts.specs.declared.comparison.ComparisonError.TheVariants as errors
 use Rattle.marker_grammar.specs.Formula.{Formula}

@@ -1,6 +1,6 @@
 //! Laws of marker texts. Each is a function that does nothing, whose contract is the law.
 ghost use Rattle.std.specs.Prelude.{ℕ, List, Option};
-ghost use Rattle.marker_warnings.specs.declared.warning.MarkerWarningKind.{MarkerWarningKind};
+ghost use Rattle.pep508_errors.specs.declared.warning.MarkerWarningKind.{MarkerWarningKind};
 ghost use Rattle.marker_grammar.specs.Formula.{Formula};
 ghost use Rattle.marker_grammar.specs.Grammar.{Reads, IsOnlyReading};
 

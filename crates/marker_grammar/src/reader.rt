@@ -11,8 +11,8 @@ ghost use Rattle.marker_grammar.specs.Refused.{IsTextFault, OpensMarker};
 
 use crate::formula::{FlatFormula, Token, append, join_and, join_or};
 use marker_parts::{ComparisonError, read_comparison};
-use marker_warnings::MarkerWarningKind;
 use marker_words::{Fault, FaultKind, Keyword, keyword};
+use pep508_errors::MarkerWarningKind;
 use pep508_text::{Place, first, last, skip_space, strip};
 use std::alloc::{AllocError, Global};
 

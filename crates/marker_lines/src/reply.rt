@@ -5,7 +5,7 @@ ghost use Rattle.std.specs.List.{flat_map};
 ghost use Rattle.pep508_markers.specs.Session.{answer_of, reason_of};
 ghost use Rattle.marker_lines.specs.Reply.{kind_name, kind_text, reason_text, reply_text};
 
-use marker_warnings::MarkerWarningKind;
+use pep508_errors::MarkerWarningKind;
 use pep508_markers::{Reason, Reply};
 use std::alloc::AllocError;
 use std::fmt::Display;

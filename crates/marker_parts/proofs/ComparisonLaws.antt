@@ -6,7 +6,7 @@ use Rattle.marker_words.specs.declared.operator.MarkerOperator.{MarkerOperator}
 use Rattle.std.specs.Str.{chars}
 use Rattle.marker_words.specs.Lexical.{Value, Sides}
 use Rattle.marker_words.proofs.LexicalLaws.{sides_same}
-use Rattle.marker_warnings.specs.declared.warning.MarkerWarningKind.{MarkerWarningKind}
+use Rattle.pep508_errors.specs.declared.warning.MarkerWarningKind.{MarkerWarningKind}
 use Rattle.marker_parts.specs.Expression.{Extra, name, Test}
 use Rattle.marker_parts.specs.Comparison.{Meaning, extra_meaning, IsExtra, named, unnamed, Means, key_and_text, text_and_key, extra_and_text, text_and_extra, two_keys, key_and_extra, extra_and_key, two_extras, two_texts, MeansBehind, asks, asks_nothing, MeansBefore, asks_before, asks_nothing_before, version_and_text, text_and_version, version_and_key, version_and_extra, two_versions, key_and_version, extra_and_version, kept_with, Compared, compared}
 use Rattle.marker_parts.proofs.AskLaws.{Asks-same, AsksBefore-same}

@@ -7,8 +7,8 @@ use Rattle.marker_words.specs.declared.operator.MarkerOperator.{MarkerOperator}
 use Rattle.marker_words.specs.Operator.{turned}
 use Rattle.marker_words.specs.Lexical.{Value, version_key, text_key, quoted}
 use Rattle.marker_words.specs.Lexical as lexical
-use Rattle.marker_warnings.specs.declared.warning.MarkerWarningKind.{MarkerWarningKind}
-use Rattle.marker_warnings.specs.declared.warning.MarkerWarningKind.TheVariants.{ExtraInvalidComparison, MarkerMarkerComparison, Pep440Error, StringStringComparison}
+use Rattle.pep508_errors.specs.declared.warning.MarkerWarningKind.{MarkerWarningKind}
+use Rattle.pep508_errors.specs.declared.warning.MarkerWarningKind.TheVariants.{ExtraInvalidComparison, MarkerMarkerComparison, Pep440Error, StringStringComparison}
 use Rattle.marker_parts.specs.Expression.{name, arbitrary, Test}
 use Rattle.marker_parts.specs.VersionComparison.{version_operator, Asks, AsksBefore, refused_kinds}
 use Rattle.marker_parts.specs.Comparison.{Meaning, dropped_with, key_kinds, text_meaning, IsExtra, named, unnamed, Means, key_and_text, text_and_key, extra_and_text, text_and_extra, two_keys, key_and_extra, extra_and_key, two_extras, two_texts, MeansExtra, kept_with, MeansBehind, asks, asks_nothing, MeansBefore, asks_before, asks_nothing_before, version_and_text, text_and_version, version_and_key, version_and_extra, two_versions, key_and_version, extra_and_version}

@@ -10,8 +10,8 @@ use Rattle.pep508_text.proofs.RunLaws.{spaces_end, spaces_from, trimmed_nil, tri
 use Rattle.refusal.specs.declared.Refusal.{Refusal}
 use Rattle.refusal.specs.declared.Refusal.TheVariants as refusals
 use Rattle.pep508_errors.specs.declared.error.Pep508Error.{Pep508Error}
-use Rattle.marker_warnings.specs.declared.warning.MarkerWarningKind.{MarkerWarningKind}
-use Rattle.marker_warnings.specs.Kinds.{Adds, Keeps}
+use Rattle.pep508_errors.specs.declared.warning.MarkerWarningKind.{MarkerWarningKind}
+use Rattle.pep508_errors.specs.Kinds.{Adds, Keeps}
 use Rattle.marker_words.specs.declared.fault.Fault.{Fault}
 use Rattle.marker_words.specs.declared.fault.FaultKind.TheVariants.{Trailing}
 use Rattle.marker_words.specs.Fault.{NoneOpen, IsFault, IsWordFault, IsFaultAt, IsMarkerFault, message_of, IsAllButLast, HasNoSpace}

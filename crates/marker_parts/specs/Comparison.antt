@@ -11,8 +11,8 @@ use Rattle.marker_words.specs.Key.{is_deprecated}
 use Rattle.marker_words.specs.Operator.{turned}
 use Rattle.marker_words.specs.Lexical.{Value, version_key, text_key, quoted, Sides}
 use Rattle.marker_words.specs.Lexical as lexical
-use Rattle.marker_warnings.specs.declared.warning.MarkerWarningKind.{MarkerWarningKind}
-use Rattle.marker_warnings.specs.declared.warning.MarkerWarningKind.TheVariants.{DeprecatedMarkerName, ExtraInvalidComparison, LexicographicComparison, MarkerMarkerComparison, Pep440Error, StringStringComparison}
+use Rattle.pep508_errors.specs.declared.warning.MarkerWarningKind.{MarkerWarningKind}
+use Rattle.pep508_errors.specs.declared.warning.MarkerWarningKind.TheVariants.{DeprecatedMarkerName, ExtraInvalidComparison, LexicographicComparison, MarkerMarkerComparison, Pep440Error, StringStringComparison}
 use Rattle.marker_parts.specs.Expression.{Extra, name, arbitrary, Test, text, extra}
 use Rattle.marker_parts.specs.VersionComparison.{version_operator, Asks, AsksBefore, refused_kinds}
 

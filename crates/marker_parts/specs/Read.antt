@@ -7,7 +7,7 @@ use Rattle.marker_words.specs.declared.parts.ComparisonRef.{ComparisonRef}
 use Rattle.marker_words.specs.Lexical.{Value, Sides}
 use Rattle.marker_words.specs.Part.{value_of}
 use Rattle.marker_words.specs.Fault.{HasNoSides, IsWordFault}
-use Rattle.marker_warnings.specs.declared.warning.MarkerWarningKind.{MarkerWarningKind}
+use Rattle.pep508_errors.specs.declared.warning.MarkerWarningKind.{MarkerWarningKind}
 use Rattle.marker_parts.specs.declared.expression.MarkerExpression.{MarkerExpression}
 use Rattle.marker_parts.specs.declared.meaning.Outcome.{Outcome}
 use Rattle.marker_parts.specs.declared.comparison.ComparisonError.{ComparisonError}

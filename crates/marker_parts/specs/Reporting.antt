@@ -1,7 +1,7 @@
 -- A text that is read with kinds of warnings, and what a reporter is told of them.
 use Rattle.std.specs.Prelude.{◌≡◌, ◌⊎◌, ℕ, List, [], ◌++◌, Option}
-use Rattle.marker_warnings.specs.declared.warning.MarkerWarningKind.{MarkerWarningKind}
-use Rattle.marker_warnings.specs.Kinds.{Adds}
+use Rattle.pep508_errors.specs.declared.warning.MarkerWarningKind.{MarkerWarningKind}
+use Rattle.pep508_errors.specs.Kinds.{Adds}
 
 abbrev Kinds : Type 0
 Kinds = List MarkerWarningKind

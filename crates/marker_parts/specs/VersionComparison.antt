@@ -10,8 +10,8 @@ use Rattle.pep440_specifier.specs.Specifier.{Specifier, Makes}
 use Rattle.marker_words.specs.declared.key.MarkerValueVersion.{MarkerValueVersion}
 use Rattle.marker_words.specs.declared.operator.MarkerOperator.{MarkerOperator}
 use Rattle.marker_words.specs.declared.operator.MarkerOperator.TheVariants.{Equal, NotEqual, GreaterThan, GreaterEqual, LessThan, LessEqual, TildeEqual, In, NotIn, Contains, NotContains}
-use Rattle.marker_warnings.specs.declared.warning.MarkerWarningKind.{MarkerWarningKind}
-use Rattle.marker_warnings.specs.declared.warning.MarkerWarningKind.TheVariants.{Pep440Error}
+use Rattle.pep508_errors.specs.declared.warning.MarkerWarningKind.{MarkerWarningKind}
+use Rattle.pep508_errors.specs.declared.warning.MarkerWarningKind.TheVariants.{Pep440Error}
 use Rattle.marker_parts.specs.declared.version_operator.VersionOperator.{VersionOperator}
 use Rattle.marker_parts.specs.declared.version_operator.VersionOperator.TheVariants.{Compare, Among, Neither}
 use Rattle.marker_parts.specs.Expression.{Test, version, version_in}

@@ -2,7 +2,7 @@
 use Rattle.std.specs.Prelude.{◌≡◌, ℕ, List, [], Option, option_map, ⊤}
 use Rattle.std.specs.Str.{chars}
 use Rattle.pep508_text.specs.Run.{Spaces}
-use Rattle.marker_warnings.specs.declared.warning.MarkerWarningKind.{MarkerWarningKind}
+use Rattle.pep508_errors.specs.declared.warning.MarkerWarningKind.{MarkerWarningKind}
 use Rattle.marker_words.specs.Fault.{IsWordFault}
 use Rattle.marker_parts.specs.declared.expression.MarkerExpression.{MarkerExpression}
 use Rattle.marker_parts.specs.declared.comparison.ComparisonError.{ComparisonError}

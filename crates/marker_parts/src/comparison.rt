@@ -6,8 +6,8 @@ ghost use Rattle.marker_parts.specs.Read.{ReadsComparison, IsRefusal};
 
 use crate::expression::MarkerExpression;
 use crate::meaning::Outcome;
-use marker_warnings::MarkerWarningKind;
 use marker_words::{Fault, sides};
+use pep508_errors::MarkerWarningKind;
 use std::alloc::{AllocError, Global};
 
 /// Why a comparison was not read.

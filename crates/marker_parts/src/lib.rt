@@ -18,13 +18,15 @@ pub use comparison::{ComparisonError, read_comparison};
 pub use expression::MarkerExpression;
 pub use extra::MarkerValueExtra;
 pub use marker_environment::{MarkerEnvironment, MarkerEnvironmentBuilder, StringVersion};
-pub use marker_warnings::{MarkerWarningKind, ReportTo, Reporter, TracingReporter};
 pub use marker_words::{
     ExtraOperator, Fault, FaultKind, MarkerOperator, MarkerOperatorBounds, MarkerValue,
     MarkerValueString, MarkerValueVersion, TextVariable, VersionVariable,
 };
 pub use parse::report_kinds;
 pub use pep440_rs::{Version, VersionSpecifier};
-pub use pep508_errors::{Pep508Error, Pep508ErrorSource, Pep508Url, Surroundings};
+pub use pep508_errors::{
+    MarkerWarningKind, Pep508Error, Pep508ErrorSource, Pep508Url, ReportTo, Reporter, Surroundings,
+    TracingReporter,
+};
 pub use pep508_names::{ExtraName, InvalidNameError, PackageName};
 pub use refusal::Refusal;

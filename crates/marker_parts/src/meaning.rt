@@ -7,11 +7,11 @@ use crate::expression::MarkerExpression;
 use crate::extra::MarkerValueExtra;
 use crate::version_comparison::{asked_before, asked_behind};
 use crate::version_operator::VersionOperator;
-use marker_warnings::MarkerWarningKind;
 use marker_words::{
     ComparisonRef, ExtraOperator, MarkerOperator, MarkerValueRef, MarkerValueString,
     MarkerValueVersion,
 };
+use pep508_errors::MarkerWarningKind;
 use pep508_names::ExtraName;
 use refusal::unless_fault;
 use std::alloc::{AllocError, Global};
@@ -26,7 +26,7 @@ pub(crate) struct Outcome {
 
 impl Outcome {
     ghost use Rattle.std.specs.Prelude.{◌++◌, ◌∷◌, [], List, IfOk, IfSome, IfNone, OnOk};
-    ghost use Rattle.marker_warnings.specs.declared.warning.MarkerWarningKind.{MarkerWarningKind};
+    ghost use Rattle.pep508_errors.specs.declared.warning.MarkerWarningKind.{MarkerWarningKind};
     ghost use Rattle.marker_parts.specs.Expression.{extra_of};
     ghost use Rattle.marker_parts.specs.Comparison.{key_kinds, extra_kinds, dropped_with, text_meaning, extra_meaning, IsExtra, MeansExtra, MeansBehind, MeansBefore};
     ghost use Rattle.marker_parts.specs.VersionComparison.{refused_kinds};

@@ -3,8 +3,8 @@
 ghost use Rattle.std.specs.Prelude.{◌≡◌, ◌≢◌, ◌++◌, [], List, IfOk, IfErr, IfSome, IfNone, OnErr, OnOk};
 ghost use Rattle.std.specs.Str.{chars};
 ghost use Rattle.pep508_text.specs.Run.{after_space};
-ghost use Rattle.marker_warnings.specs.declared.warning.MarkerWarningKind.{MarkerWarningKind};
-ghost use Rattle.marker_warnings.specs.Kinds.{Adds, Keeps};
+ghost use Rattle.pep508_errors.specs.declared.warning.MarkerWarningKind.{MarkerWarningKind};
+ghost use Rattle.pep508_errors.specs.Kinds.{Adds, Keeps};
 ghost use Rattle.marker_words.specs.Fault.{IsWordFault};
 ghost use Rattle.marker_parts.specs.Whole as whole;
 ghost use Rattle.marker_parts.specs.Whole.{IsRead};
@@ -13,9 +13,8 @@ ghost use Rattle.marker_parts.specs.Error.{Tells, Becomes, IsRefusal, OnFault};
 
 use crate::comparison::{ComparisonError, read_comparison};
 use crate::expression::MarkerExpression;
-use marker_warnings::{MarkerWarningKind, Reporter};
 use marker_words::{Fault, FaultKind};
-use pep508_errors::{Pep508Error, Pep508ErrorSource, Pep508Url};
+use pep508_errors::{MarkerWarningKind, Pep508Error, Pep508ErrorSource, Pep508Url, Reporter};
 use pep508_text::{Place, first, last, skip_space};
 use refusal::Refusal;
 use std::alloc::{AllocError, Global};

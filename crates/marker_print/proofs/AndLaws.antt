@@ -3,7 +3,7 @@ use Rattle.std.proofs.Common.{ℕ, List, [], ◌∷◌, ◌++◌, codes, map, So
 use Rattle.pep508_text.specs.Run.{Run, none, more}
 use Rattle.pep508_text.specs.declared.classes.Class.TheVariants.{NotSpace}
 use Rattle.marker_words.specs.Lexical.{sides}
-use Rattle.marker_warnings.specs.declared.warning.MarkerWarningKind.{MarkerWarningKind}
+use Rattle.pep508_errors.specs.declared.warning.MarkerWarningKind.{MarkerWarningKind}
 use Rattle.marker_parts.specs.Expression.{Test}
 use Rattle.marker_parts.specs.Comparison.{Meaning, Compared, compared}
 use Rattle.marker_grammar.specs.Formula.{Formula, and_of, of_test}

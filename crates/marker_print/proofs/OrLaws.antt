@@ -3,7 +3,7 @@ use Rattle.std.proofs.Common.{◌≡◌, ℕ, Bool, true, false, ◌&&◌, ◌||
 use Rattle.std.specs.List.{list_all, list_any}
 use Rattle.pep508_text.specs.Run.{none, more}
 use Rattle.marker_environment.specs.Valuation.{Valuation}
-use Rattle.marker_warnings.specs.declared.warning.MarkerWarningKind.{MarkerWarningKind}
+use Rattle.pep508_errors.specs.declared.warning.MarkerWarningKind.{MarkerWarningKind}
 use Rattle.marker_parts.specs.Expression.{Test, holds}
 use Rattle.marker_grammar.specs.Formula.{Formula, and_of, or_of, of_test, truth}
 use Rattle.marker_grammar.specs.Grammar.{group, comparison, no_and, And, and, OrRest, no_or, one_or, Or, or}

@@ -1,7 +1,7 @@
 -- What clauses mean, and what a text says that is read as they are meant.
 use Rattle.std.specs.Prelude.{◌≡◌, ℕ, List, Option}
 use Rattle.marker_environment.specs.Valuation.{Valuation}
-use Rattle.marker_warnings.specs.declared.warning.MarkerWarningKind.{MarkerWarningKind}
+use Rattle.pep508_errors.specs.declared.warning.MarkerWarningKind.{MarkerWarningKind}
 use Rattle.marker_parts.specs.declared.expression.MarkerExpression.{MarkerExpression}
 use Rattle.marker_parts.specs.Expression.{Overflows}
 use Rattle.marker_grammar.specs.Formula.{Formula, truth}

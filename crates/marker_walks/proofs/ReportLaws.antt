@@ -3,9 +3,9 @@ use Rattle.std.proofs.Common.{◌≡◌, ℕ, zero, suc, ◌<◌, List, [], ◌�
 use Rattle.std.specs.Prelude.{Result, Ok, Err, OnErr, OnOk, String}
 use Rattle.std.specs.Global.{Global}
 use Rattle.std.proofs.lemmas.List.Elements.{All-nil, All-append}
-use Rattle.marker_warnings.specs.declared.warning.MarkerWarningKind.{MarkerWarningKind}
-use Rattle.marker_warnings.specs.declared.warning.MarkerWarningKind.TheVariants.{LexicographicComparison}
-use Rattle.marker_warnings.specs.Kinds.{Adds, Keeps}
+use Rattle.pep508_errors.specs.declared.warning.MarkerWarningKind.{MarkerWarningKind}
+use Rattle.pep508_errors.specs.declared.warning.MarkerWarningKind.TheVariants.{LexicographicComparison}
+use Rattle.pep508_errors.specs.Kinds.{Adds, Keeps}
 use Rattle.marker_diagrams.proofs.NodeLaws.{same_some}
 use Rattle.marker_walks.specs.Report.{AddsComparisons}
 

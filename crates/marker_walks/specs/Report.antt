@@ -4,9 +4,9 @@ use Rattle.std.specs.Global.{Global}
 use Rattle.std.specs.String.{string_eq}
 use Rattle.std.specs.declared.ops.Bound.{Bound}
 use Rattle.std.specs.declared.ops.Bound.TheVariants.{Included, Excluded, Unbounded}
-use Rattle.marker_warnings.specs.declared.warning.MarkerWarningKind.{MarkerWarningKind}
-use Rattle.marker_warnings.specs.declared.warning.MarkerWarningKind.TheVariants.{LexicographicComparison}
-use Rattle.marker_warnings.specs.Kinds.{Adds}
+use Rattle.pep508_errors.specs.declared.warning.MarkerWarningKind.{MarkerWarningKind}
+use Rattle.pep508_errors.specs.declared.warning.MarkerWarningKind.TheVariants.{LexicographicComparison}
+use Rattle.pep508_errors.specs.Kinds.{Adds}
 
 -- whether one value alone lies between two bounds
 abbrev pub is_single : Bound (String Global) → Bound (String Global) → Bool

@@ -13,7 +13,7 @@ ghost use Rattle.marker_walks.specs.Report.{AddsComparisons, is_single};
 use crate::child::child_in;
 use marker_environment::MarkerEnvironment;
 use marker_nodes::{Branches, Node, NodeId, NodeTable};
-use marker_warnings::{MarkerWarningKind, Reporter};
+use pep508_errors::{MarkerWarningKind, Reporter};
 use pep508_names::ExtraName;
 use std::alloc::{AllocError, Global};
 use std::ops::Bound;

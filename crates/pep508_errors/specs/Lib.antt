@@ -1,3 +1,4 @@
 pub mod Error
+pub mod Kinds
 pub mod Underline
 pub mod Url

@@ -4,7 +4,7 @@ use Rattle.std.specs.Prelude.{◌≡◌, ◌≢◌, ◌⊎◌, ℕ, ◌≤◌, B
 use Rattle.std.specs.declared.ops.Bound.{Bound}
 use Rattle.pep440_version.specs.Parts.{Parts}
 use Rattle.marker_words.specs.Fault.{IsMarkerFault}
-use Rattle.marker_warnings.specs.declared.warning.MarkerWarningKind.{MarkerWarningKind}
+use Rattle.pep508_errors.specs.declared.warning.MarkerWarningKind.{MarkerWarningKind}
 use Rattle.marker_environment.specs.Valuation.{Valuation}
 use Rattle.marker_environment.specs.Environment.{Values, valuation_of}
 use Rattle.marker_parts.specs.Expression.{Test, holds, Overflows}

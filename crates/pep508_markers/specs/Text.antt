@@ -4,8 +4,8 @@ use Rattle.refusal.specs.declared.Refusal.{Refusal}
 use Rattle.refusal.specs.declared.Refusal.TheVariants.{OutOfMemory, SegmentAtEnd, Fault}
 use Rattle.pep508_errors.specs.declared.error.Pep508Error.{Pep508Error}
 use Rattle.pep508_errors.specs.Url.{IfFault}
-use Rattle.marker_warnings.specs.declared.warning.MarkerWarningKind.{MarkerWarningKind}
-use Rattle.marker_warnings.specs.Kinds.{Adds}
+use Rattle.pep508_errors.specs.declared.warning.MarkerWarningKind.{MarkerWarningKind}
+use Rattle.pep508_errors.specs.Kinds.{Adds}
 use Rattle.marker_environment.specs.Valuation.{Valuation}
 use Rattle.marker_parts.specs.Expression.{Overflows}
 use Rattle.marker_parts.specs.Error.{IsErrorOf}

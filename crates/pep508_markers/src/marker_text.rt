@@ -2,8 +2,8 @@
 
 ghost use Rattle.std.specs.Prelude.{◌≡◌, ◌≤◌, List, IfOk, IfErr, option_map, string_bytes};
 ghost use Rattle.pep508_text.specs.Suffix.{IsSuffix};
-ghost use Rattle.marker_warnings.specs.declared.warning.MarkerWarningKind.{MarkerWarningKind};
-ghost use Rattle.marker_warnings.specs.Kinds.{Keeps};
+ghost use Rattle.pep508_errors.specs.declared.warning.MarkerWarningKind.{MarkerWarningKind};
+ghost use Rattle.pep508_errors.specs.Kinds.{Keeps};
 ghost use Rattle.marker_parts.specs.Reporting.{HasBegun};
 ghost use Rattle.marker_parts.specs.declared.expression.MarkerExpression.{MarkerExpression as Term};
 ghost use Rattle.marker_terms.specs.Clauses.{clauses_of};
@@ -22,8 +22,7 @@ use marker_grammar::read;
 use marker_graph::{Interner, MarkerTree};
 use marker_parts::{MarkerExpression, report_kinds};
 use marker_view::MarkerTreeView;
-use marker_warnings::{MarkerWarningKind, Reporter};
-use pep508_errors::{Pep508Error, Pep508Url};
+use pep508_errors::{MarkerWarningKind, Pep508Error, Pep508Url, Reporter};
 use refusal::Refusal;
 use std::alloc::AllocError;
 

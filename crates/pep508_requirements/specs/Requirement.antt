@@ -2,7 +2,7 @@
 -- the grammar speaks of their characters.
 use Rattle.std.specs.Prelude.{◌≡◌, ℕ, Bool, true, false, List, [], Option, Some, None, encode_utf8_all}
 use Rattle.std.specs.Str.{chars}
-use Rattle.marker_warnings.specs.declared.warning.MarkerWarningKind.{MarkerWarningKind}
+use Rattle.pep508_errors.specs.declared.warning.MarkerWarningKind.{MarkerWarningKind}
 use Rattle.marker_environment.specs.Valuation.{Valuation}
 use Rattle.marker_parts.specs.Expression.{Overflows}
 use Rattle.marker_graph.specs.declared.tree.MarkerTree.{MarkerTree}

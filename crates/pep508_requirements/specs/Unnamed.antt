@@ -7,7 +7,7 @@ use Rattle.refusal.specs.declared.Refusal.TheVariants as refusals
 use Rattle.pep508_errors.specs.declared.error.Pep508Error.{Pep508Error}
 use Rattle.pep508_errors.specs.declared.error.Pep508ErrorSource.{Pep508ErrorSource}
 use Rattle.pep508_errors.specs.declared.error.Pep508ErrorSource.TheVariants as sources
-use Rattle.marker_warnings.specs.declared.warning.MarkerWarningKind.{MarkerWarningKind}
+use Rattle.pep508_errors.specs.declared.warning.MarkerWarningKind.{MarkerWarningKind}
 use Rattle.marker_environment.specs.Valuation.{Valuation}
 use Rattle.marker_parts.specs.Expression.{Overflows}
 use Rattle.marker_graph.specs.declared.tree.MarkerTree.{MarkerTree}

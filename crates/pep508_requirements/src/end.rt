@@ -11,8 +11,7 @@ ghost use Rattle.pep508_requirements.specs.Refused.{IsEndRefusal};
 
 use crate::error::refusal_of_fault;
 use marker_graph::{Interner, MarkerTree};
-use marker_warnings::MarkerWarningKind;
-use pep508_errors::{Pep508Error, Pep508Url};
+use pep508_errors::{MarkerWarningKind, Pep508Error, Pep508Url};
 use pep508_markers::read_behind;
 use refusal::Refusal;
 use requirement_words::read_tail;

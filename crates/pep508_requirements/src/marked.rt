@@ -4,7 +4,7 @@ ghost use Rattle.std.specs.Prelude.{◌≡◌, ◌≤◌, ◌&&◌, All, false, 
 ghost use Rattle.marker_environment.specs.Environment.{valuation_of, values_of};
 ghost use Rattle.marker_environment.specs.Valuation.{Valuation};
 ghost use Rattle.marker_graph.specs.Contents.{IsHeld, IsKept, truth};
-ghost use Rattle.marker_warnings.specs.declared.warning.MarkerWarningKind.TheVariants.{LexicographicComparison};
+ghost use Rattle.pep508_errors.specs.declared.warning.MarkerWarningKind.TheVariants.{LexicographicComparison};
 ghost use Rattle.marker_walks.specs.Possible.{IsImpossibleAt, IsPossibleAt};
 ghost use Rattle.pep508_requirements.specs.Changed.{without_url};
 
@@ -13,9 +13,8 @@ use crate::requirement::Requirement;
 use crate::version_or_url::VersionOrUrl;
 use marker_environment::MarkerEnvironment;
 use marker_graph::{Interner, MarkerTree, TruthVariable};
-use marker_warnings::MarkerWarningKind;
 use pep440_version::Version;
-use pep508_errors::Pep508Url;
+use pep508_errors::{MarkerWarningKind, Pep508Url};
 use pep508_names::ExtraName;
 use std::alloc::AllocError;
 

@@ -1,8 +1,8 @@
 //! Requirements with a name.
 
 ghost use Rattle.std.specs.Prelude.{◌≡◌, ◌≤◌, ℕ, IfErr, IfOk, List, None};
-ghost use Rattle.marker_warnings.specs.declared.warning.MarkerWarningKind.{MarkerWarningKind};
-ghost use Rattle.marker_warnings.specs.Kinds.{Adds, Keeps};
+ghost use Rattle.pep508_errors.specs.declared.warning.MarkerWarningKind.{MarkerWarningKind};
+ghost use Rattle.pep508_errors.specs.Kinds.{Adds, Keeps};
 ghost use Rattle.marker_parts.specs.Reporting.{HasBegun};
 ghost use Rattle.marker_graph.specs.Contents.{IsHeld, IsKept};
 ghost use Rattle.pep508_markers.specs.Json.{IsStringOf};
@@ -17,8 +17,7 @@ use crate::origin::RequirementOrigin;
 use crate::version_or_url::VersionOrUrl;
 use marker_graph::{Interner, MarkerTree};
 use marker_parts::report_kinds;
-use marker_warnings::{MarkerWarningKind, Reporter};
-use pep508_errors::{Pep508Error, Pep508Url, Surroundings};
+use pep508_errors::{MarkerWarningKind, Pep508Error, Pep508Url, Reporter, Surroundings};
 use pep508_markers::json::{no_string, read_string};
 use pep508_names::{ExtraName, PackageName};
 use refusal::Refusal;

@@ -1,8 +1,8 @@
 //! Requirements without a name.
 
 ghost use Rattle.std.specs.Prelude.{◌≡◌, ◌≤◌, IfErr, IfOk, List, None, Some, false, true};
-ghost use Rattle.marker_warnings.specs.declared.warning.MarkerWarningKind.{MarkerWarningKind};
-ghost use Rattle.marker_warnings.specs.Kinds.{Adds, Keeps};
+ghost use Rattle.pep508_errors.specs.declared.warning.MarkerWarningKind.{MarkerWarningKind};
+ghost use Rattle.pep508_errors.specs.Kinds.{Adds, Keeps};
 ghost use Rattle.marker_environment.specs.Environment.{valuation_of, values_of};
 ghost use Rattle.marker_parts.specs.Reporting.{HasBegun};
 ghost use Rattle.marker_walks.specs.Possible.{IsImpossible, IsPossible};
@@ -16,8 +16,7 @@ use crate::url::{read_unnamed, unnamed_url};
 use marker_environment::MarkerEnvironment;
 use marker_graph::{Interner, MarkerTree};
 use marker_parts::report_kinds;
-use marker_warnings::{MarkerWarningKind, Reporter};
-use pep508_errors::{Pep508Error, Surroundings};
+use pep508_errors::{MarkerWarningKind, Pep508Error, Reporter, Surroundings};
 use pep508_names::ExtraName;
 use pep508_urls::UnnamedRequirementUrl;
 use refusal::Refusal;

@@ -1,5 +1,5 @@
 use Rattle.std.proofs.Common.{take}
-use Rattle.marker_warnings.specs.Kinds.{Adds}
+use Rattle.pep508_errors.specs.Kinds.{Adds}
 use Rattle.marker_parts.proofs.parse.report_kinds.Given as goal
 
 abbrev pub invariant-loop-kind : goal.invariant-loop-kind

@@ -1,7 +1,7 @@
 -- The kinds of the warnings that a reporter has taken, in order: None where it tells none, and then
 -- nothing is said of it.
 use Rattle.std.specs.Prelude.{◌≡◌, List, ◌++◌, Option, Some, IfSome}
-use Rattle.marker_warnings.specs.declared.warning.MarkerWarningKind.{MarkerWarningKind}
+use Rattle.pep508_errors.specs.declared.warning.MarkerWarningKind.{MarkerWarningKind}
 
 -- these kinds came behind those that were told
 abbrev pub Adds :

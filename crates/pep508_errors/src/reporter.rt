@@ -1,8 +1,8 @@
 //! Who is told of warnings.
 
 ghost use Rattle.std.specs.Prelude.{⊤, ◌≡◌, ◌∷◌, [], List, Option, None, Some, OnErr, OnOk, IsOk, map};
-ghost use Rattle.marker_warnings.specs.Kinds.{Adds, Keeps};
-ghost use Rattle.marker_warnings.specs.declared.warning.MarkerWarningKind.{MarkerWarningKind};
+ghost use Rattle.pep508_errors.specs.Kinds.{Adds, Keeps};
+ghost use Rattle.pep508_errors.specs.declared.warning.MarkerWarningKind.{MarkerWarningKind};
 
 use crate::warning::MarkerWarningKind;
 use log::{Log, warn};
