@@ -1,5 +1,5 @@
 -- Reading a list of specifiers piece by piece.
-use Rattle.std.proofs.Common.{◌≡◌, ◌≢◌, ◌||◌, ℕ, Bool, true, false, eqb, not, List, [], ◌∷◌, ◌++◌, length, refl, sym, ap, ◌∙◌, subst, append_assoc, append-nil, IsUtf8}
+use Rattle.std.proofs.Common.{◌≡◌, ◌≢◌, ℕ, Bool, true, false, eqb, List, [], ◌∷◌, ◌++◌, refl, sym, ap, ◌∙◌, subst, append_assoc, append-nil, IsUtf8}
 use Rattle.std.specs.Prelude.{encode_utf8_all}
 use Rattle.std.specs.Str.{chars}
 use Rattle.std.proofs.lemmas.Bool.{eqb-true, false≢true}
@@ -12,7 +12,6 @@ use Rattle.refusal.specs.declared.Refusal.TheVariants as refusals
 use Rattle.pep440_specifier.specs.Grammar.{IsSpecifierText}
 use Rattle.pep440_specifier.specs.Specifier.{Specifier}
 use Rattle.pep508_text.specs.Suffix.{IsSuffix}
-use Rattle.pep508_text.specs.Class.{holds}
 use Rattle.pep508_text.specs.Run.{run_of, after_run}
 use Rattle.pep508_text.specs.declared.classes.Class.TheVariants as classes
 use Rattle.requirement_words.specs.Fault.{FindsInSpecifiers, no_specifier, Preceded}

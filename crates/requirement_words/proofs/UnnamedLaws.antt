@@ -2,7 +2,7 @@
 use Rattle.std.proofs.Common.{◌≡◌, ℕ, ◌<◌, List, [], ◌∷◌, ◌++◌, length, drop, get_or, refl, sym, ap, ◌∙◌, subst, arith, append_assoc, length-append, lit<, IsUtf8}
 use Rattle.std.specs.Prelude.{encode_utf8_all}
 use Rattle.std.specs.Str.{chars, IsCharBoundary}
-use Rattle.std.proofs.lemmas.List.{drop_at, get_or_at, nil_from_length}
+use Rattle.std.proofs.lemmas.List.{drop_at, get_or_at}
 use Rattle.std.proofs.lemmas.Str.{chars-append, chars-nil, encodes_same, IsCharBoundary-before_ascii, IsUtf8-drop}
 use Rattle.pep508_text.specs.Run.{after_space}
 use Rattle.pep508_text.specs.Suffix.{IsSuffix}

@@ -59,6 +59,14 @@ pub data Listed (inside : List ℕ) : List (List ℕ) → List ℕ → Type 0 wh
       → IsNameAt here rest n → after_space rest ≡ 44 ∷ next
       → Listed inside (names ++ n ∷ []) (after_space next)
 
+-- a name stands in the brackets, and this is left behind it
+pub record IsBehindExtra (inside rest : List ℕ) : Type 0 where
+  pub names : List (List ℕ)
+  pub here : List ℕ
+  pub n : List ℕ
+  pub listed : Listed inside names here
+  pub named : IsNameAt here rest n
+
 -- no name begins with the character, and right behind the bracket it is no comma and no bracket
 pub record BeginsNoExtra (names : List (List ℕ)) (c : ℕ) : Type 0 where
   pub no_letter : is_ascii_alphanumeric c ≡ false

@@ -7,8 +7,8 @@ ghost use Rattle.pep508_names.specs.Name.{IsName};
 ghost use Rattle.pep508_text.specs.Run.{Run, after_space};
 ghost use Rattle.pep508_text.specs.Suffix.{IsSuffix};
 ghost use Rattle.pep508_text.specs.declared.classes.Class.TheVariants.{NamePart};
-ghost use Rattle.requirement_words.specs.Extras.{IsExtras, IsNameAt};
-ghost use Rattle.requirement_words.specs.Fault.{begins_name, FindsInExtras, IsFaultBy, Listed, may_follow_extra, RefusesExtras};
+ghost use Rattle.requirement_words.specs.Extras.{IsExtras};
+ghost use Rattle.requirement_words.specs.Fault.{begins_name, FindsInExtras, IsBehindExtra, IsFaultBy, Listed, may_follow_extra, RefusesExtras};
 
 use crate::fault::{Fault, FaultKind};
 use pep508_names::ExtraName;
@@ -73,8 +73,7 @@ fn separator_fault<'a>(found: char, rest: &'a str, behind: &'a str, after: &str)
     requires suffix { IsSuffix behind.now after.now }
     requires comma { found ≢ 44 }
     requires bracket { found ≢ 93 }
-    ensures { (inside here n : List ℕ) (names : List (List ℕ)) → Listed inside names here
-        → IsNameAt here (chars rest.now) n
+    ensures { (inside : List ℕ) → IsBehindExtra inside (chars rest.now)
         → IsFaultBy (FindsInExtras (91 ∷ inside)) behind.now result }
 {
     if behind.len() == rest.len() {

@@ -87,7 +87,7 @@ pub returns-in_default-strip-3-clause-refused : goal.returns-in_default-strip-3-
 returns-in_default-strip-3-clause-refused c =
     let name = named _ _ _ _ _ c.skip_space-here.ensures.rest c.split_run.ensures.bytes c.split_run.ensures.rest c.in-Ok.ensures.read in (
       in_text (chars c.in-Some.inside.now) (suffix_then c.loop-found.invariant.reading.suffix (suffix_then c.skip_space-here.ensures.suffix (suffix_then c.split_run.ensures.suffix c.skip_space-behind.ensures.suffix))) c.in-Some.ensures.found
-          (c.separator_fault.ensures (chars c.in-Some.inside.now) _ _ _ c.loop-found.invariant.listed name),
+          (c.separator_fault.ensures (chars c.in-Some.inside.now) (record { names = c.loop-found.names.items; here = after_space (chars c.loop-found.left.now); n = c.in-Ok.name; listed = c.loop-found.invariant.listed; named = name })),
       none_more _ _ _ _ _ c.loop-found.invariant.reading name
           (λ x e. c.in_default-strip-2.ensures.none x (c.skip_space-behind.ensures.rest ∙ e))
           (λ x e. c.in_default-strip-3.ensures.none x (c.skip_space-behind.ensures.rest ∙ e)),

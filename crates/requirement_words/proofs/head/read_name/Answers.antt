@@ -1,5 +1,4 @@
 use Rattle.std.proofs.Common.{ap, sym, ◌∙◌}
-use Rattle.std.specs.Str.{chars}
 use Rattle.pep508_text.proofs.SuffixLaws.{suffix_then}
 use Rattle.requirement_words.proofs.ExtrasLaws.{is_run, named, not_named, nothing_named, not_begun, refused_name, run_ends}
 use Rattle.pep508_urls.specs.Variables.{value_of}

@@ -1,4 +1,4 @@
-use Rattle.std.proofs.Common.{sym, subst, ap, ◌∙◌, List, ℕ}
+use Rattle.std.proofs.Common.{sym, subst, ap, List, ℕ}
 use Rattle.std.specs.Str.{chars}
 use Rattle.pep508_text.proofs.SuffixLaws.{suffix_self, suffix_then}
 use Rattle.pep440_specifier.specs.Grammar.{IsSpecifierText}
