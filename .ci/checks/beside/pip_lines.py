@@ -57,7 +57,7 @@ def version() -> str | None:
 
 def cases(count: int) -> Iterator[Case]:
     """So many cases, the same ones each time."""
-    chosen = random.Random(47)
+    chosen = random.Random("requirements files")
     for number in range(count):
         longest = 80 if number % 10 == 0 else 14
         parts = [chosen.choice(PARTS) for _ in range(chosen.randrange(longest))]
