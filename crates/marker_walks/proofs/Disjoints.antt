@@ -1,6 +1,6 @@
 -- Whether two ids are never true together, from their children.
 use Rattle.std.proofs.Common.{◌≡◌, ℕ, zero, suc, ◌+◌, ◌<◌, Bool, true, false, cond, ◌&&◌, List, [], ◌∷◌, Option, Some, None, replicate, refl, sym, ap, ◌∙◌, subst, arith}
-use Rattle.std.specs.Prelude.{slice_get}
+use Rattle.std.specs.Prelude.{IfNone, is_some, slice_get}
 use Rattle.std.specs.Ordering.{is_eq}
 use Rattle.std.proofs.lemmas.Bool.{true≢false, false≢true}
 use Rattle.std.proofs.lemmas.List.Elements.{All-replicate}
@@ -21,7 +21,7 @@ use Rattle.marker_nodes.proofs.PairLaws.{listed_side}
 use Rattle.marker_nodes.proofs.NodeLaws.{lawful}
 use Rattle.marker_nodes.specs.And.{IsAnd}
 use Rattle.marker_nodes.specs.Side.{branch_by, branch, HasBranches, IsFirst}
-use Rattle.marker_walks.specs.Disjoint.{AreApart, AreDisjoint, AreShared, TellsDisjoint}
+use Rattle.marker_walks.specs.Disjoint.{AreApart, AreDisjoint, AreShared, IsLastOf, TellsDisjoint}
 use Rattle.marker_nodes.proofs.ChildLaws.{branch_means, branch_after}
 use Rattle.marker_nodes.proofs.Firsts.{false_is}
 use Rattle.marker_nodes.proofs.ChildLaws.{pair_below}
@@ -50,6 +50,22 @@ tells_yes nodes a b h = record { disjoint = λ e. h; shared = λ e. absurd (true
 
 pub tells_no : (nodes : List Node) (a b : NodeId) → AreShared nodes a b → TellsDisjoint nodes a b false
 tells_no nodes a b h = record { disjoint = λ e. absurd (false≢true e); shared = λ e. h }
+
+-- what holds where there is nothing
+pub on_none : {A : Type 0} → (found : Option A) (P : Type 0) → IfNone found P → is_some found ≡ false → P
+on_none None P h e = h
+on_none (Some a) P h e = absurd (true≢false e)
+
+-- where two ids are apart, so is the last pair of their children
+pub last_apart : (nodes : List Node) (a b left right : NodeId) → AreDisjoint nodes a b → IsLastOf nodes a b left right → AreDisjoint nodes left right
+last_apart nodes a b left right apart last v = by_values (truth markers nodes left v) (truth markers nodes right v) refl refl
+  where
+    by_values : (x y : Bool) → truth markers nodes left v ≡ x → truth markers nodes right v ≡ y → (truth markers nodes left v && truth markers nodes right v) ≡ false
+    by_values true true e f =
+        let s = (last.tells false (tells_no nodes left right (v, e, f))).shared refl in
+        absurd (true≢false (sym (ap (λ z. z && truth markers nodes b s.0) s.1 ∙ s.2) ∙ apart s.0))
+    by_values true false e f = ap (λ z. z && truth markers nodes right v) e ∙ f
+    by_values false y e f = ap (λ z. z && truth markers nodes right v) e
 
 -- at first each pair that is remembered is of FALSE alone
 pub nothing_apart : (nodes : List Node) (n : ℕ) → AreApart nodes (replicate n (FALSE, FALSE))

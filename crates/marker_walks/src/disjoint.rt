@@ -25,6 +25,9 @@ struct Memory<const N: usize> {
     looks: Looks,
 }
 
+// A way of so many last pairs is gone again where it leads to one; a longer one is remembered.
+const SHORT_WAY: usize = 32;
+
 /// Whether no valuation satisfies both ids.
 ///
 /// This takes no memory: pairs that were found apart are remembered on the stack, up to 65,536 of
@@ -120,17 +123,49 @@ fn are_apart<const N: usize>(
         return Some(answer);
     }
     let mut pair = (a, b);
+    let mut passed = 0usize;
     loop {
         match all_but_last::<N>(nodes, memory, pair.0, pair.1)? {
             Rest::Last(left, right) => pair = (left, right),
             Rest::Shared => return Some(false),
         }
         if let Some(answer) = memory.recall(pair.0, pair.1) {
-            if answer {
+            if answer && passed > SHORT_WAY {
+                remember_way::<N>(nodes, memory, a, b);
+            } else if answer {
                 memory.remember(a, b);
             }
             return Some(answer);
         }
+        passed = passed.saturating_add(1);
+    }
+}
+
+// Remembers a pair that is apart, and those that are looked at on the way from each to its last one.
+#[cycle(apart)]
+fn remember_way<const N: usize>(nodes: &NodeTable, memory: &mut Memory<N>, a: NodeId, b: NodeId)
+    requires rules { diagram.IsStore markers nodes.now }
+    requires a { diagram.IsHeld nodes.now a }
+    requires b { diagram.IsHeld nodes.now b }
+    requires a_node { 0 < place_of a }
+    requires b_node { 0 < place_of b }
+    requires places { 2 ≤ N }
+    requires apart { AreApart nodes.now memory.old.apart }
+    requires disjoint { AreDisjoint nodes.now a b }
+    ensures unbounded { AreUnbounded memory.old.looks → AreUnbounded memory.new.looks }
+    ensures apart { AreApart nodes.now memory.new.apart }
+{
+    memory.remember(a, b);
+    let mut pair = (a, b);
+    loop {
+        match all_but_last::<N>(nodes, memory, pair.0, pair.1) {
+            Some(Rest::Last(left, right)) => pair = (left, right),
+            _ => return,
+        }
+        if memory.recall(pair.0, pair.1).is_some() {
+            return;
+        }
+        memory.remember(pair.0, pair.1);
     }
 }
 
@@ -188,12 +223,12 @@ impl<const N: usize> Memory<N> {
             return Some(both == NodeId::FALSE);
         }
         let place = first_place(N, a, b);
-        let (left, right) = self.apart[place];
-        if left == a && right == b {
+        let first = self.apart[place];
+        if first.0 == a && first.1 == b {
             return Some(true);
         }
-        let (left, right) = self.apart[place + 1];
-        if left == a && right == b {
+        let second = self.apart[place + 1];
+        if second.0 == a && second.1 == b {
             return Some(true);
         }
         None

@@ -1,6 +1,7 @@
-use Rattle.std.proofs.Common.{rules}
+use Rattle.std.proofs.Common.{rules, sym, ap, ◌∙◌, arith}
 use Rattle.marker_nodes.proofs.SideLaws.{signed_branches, signed_first}
-use Rattle.marker_walks.proofs.Disjoints.{walks, on_left, on_right, on_shared, on_told, on_next, on_end}
+use Rattle.marker_walks.specs.Disjoint.{IsLastOf}
+use Rattle.marker_walks.proofs.Disjoints.{walks, on_left, on_right, on_shared, on_told, on_next, on_end, last_apart, on_none}
 use Rattle.marker_walks.proofs.disjoint.+apart.Goals as goal
 
 pub all_but_last-loop-left-init : goal.all_but_last-loop-left-init
@@ -42,3 +43,19 @@ all_but_last-returns-clause-rest g t c = record {
   left_held = c.loop-left.invariant.walk.left_held;
   right_held = c.loop-left.invariant.walk.right_held;
 }
+
+pub remember_way-loop-left-preserved : goal.remember_way-loop-left-preserved
+remember_way-loop-left-preserved g t c =
+    let last : IsLastOf c.args.nodes.now c.loop-left.pair.0 c.loop-left.pair.1 c.in-Some-Last.left c.in-Some-Last.right = search rules in
+    let apart = last_apart c.args.nodes.now _ _ _ _ c.loop-left.invariant.disjoint last in
+    let nodes = on_none c.recall.result _ c.recall.ensures.nodes (sym c.if-is_some.ensures) in
+    record {
+      apart = c.remember-in-loop-left.ensures.apart c.args.nodes.now apart c.all_but_last.ensures.apart;
+      unbounded = λ u. ap (λ looks. looks.left) c.remember-in-loop-left.ensures.looks ∙ c.all_but_last.ensures.unbounded (c.loop-left.invariant.unbounded u);
+      left = last.left_held;
+      right = last.right_held;
+      left_node = nodes.0;
+      right_node = nodes.1;
+      below = omega (arith, last.below, c.loop-left.invariant.below);
+      disjoint = apart;
+    }

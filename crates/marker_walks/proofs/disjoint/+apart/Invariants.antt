@@ -2,16 +2,16 @@ use Rattle.std.proofs.Common.{◌≤◌, ◌<◌, ◌+◌, ◌*◌, Bool}
 use Rattle.marker_diagrams.specs.Diagram.{IsHeld}
 use Rattle.marker_diagrams.specs.Id.{place_of}
 use Rattle.marker_nodes.specs.Pairs.{pairs_left}
-use Rattle.marker_walks.specs.Disjoint.{AreApart, TellsDisjoint}
+use Rattle.marker_walks.specs.Disjoint.{AreApart, AreDisjoint, TellsDisjoint}
 use Rattle.marker_walks.specs.Looks.{AreUnbounded}
 use Rattle.marker_walks.proofs.Disjoints.{WalksBut}
 use Rattle.marker_walks.proofs.disjoint.+apart.Given as goal
 
 abbrev pub decreases-are_apart : goal.decreases-are_apart
-decreases-are_apart g l = 2 * (place_of l.a + place_of l.b) + 1
+decreases-are_apart g l = 3 * (place_of l.a + place_of l.b) + 2
 
 abbrev pub decreases-all_but_last : goal.decreases-all_but_last
-decreases-all_but_last g l = 2 * (place_of l.a + place_of l.b)
+decreases-all_but_last g l = 3 * (place_of l.a + place_of l.b)
 
 abbrev pub invariant-are_apart-loop-left : goal.invariant-are_apart-loop-left
 invariant-are_apart-loop-left g l = record {
@@ -34,3 +34,21 @@ invariant-all_but_last-loop-left g l = record {
   unbounded : AreUnbounded l.fn.memory.looks → AreUnbounded l.memory.looks;
   walk : WalksBut l.nodes l.a l.b l.last (pairs_left l.left-iterator);
 }
+
+abbrev pub decreases-remember_way : goal.decreases-remember_way
+decreases-remember_way g l = 3 * (place_of l.a + place_of l.b) + 1
+
+abbrev pub invariant-remember_way-loop-left : goal.invariant-remember_way-loop-left
+invariant-remember_way-loop-left g l = record {
+  apart : AreApart l.nodes l.memory.apart;
+  unbounded : AreUnbounded l.fn.memory.looks → AreUnbounded l.memory.looks;
+  left : IsHeld l.nodes l.pair.0;
+  right : IsHeld l.nodes l.pair.1;
+  left_node : 0 < place_of l.pair.0;
+  right_node : 0 < place_of l.pair.1;
+  below : place_of l.pair.0 + place_of l.pair.1 ≤ place_of l.fn.a + place_of l.fn.b;
+  disjoint : AreDisjoint l.nodes l.pair.0 l.pair.1;
+}
+
+abbrev pub decreases-remember_way-loop-left : goal.decreases-remember_way-loop-left
+decreases-remember_way-loop-left g l = place_of l.pair.0 + place_of l.pair.1
