@@ -141,7 +141,7 @@ fn are_apart<const N: usize>(
     }
 }
 
-// Remembers a pair that is apart, and those that are looked at on the way from each to its last one.
+// Remembers a pair that is apart, and those on the way from each to the last pair of its children.
 #[cycle(apart)]
 fn remember_way<const N: usize>(nodes: &NodeTable, memory: &mut Memory<N>, a: NodeId, b: NodeId)
     requires rules { diagram.IsStore markers nodes.now }
