@@ -1,5 +1,5 @@
--- What is known of two tables: how far they agree, from their oldest node on, and which diagrams are
--- equal.
+-- What is known of two tables: how far they agree, from their oldest node on, and which diagrams
+-- are equal.
 use Rattle.std.specs.Prelude.{◌≡◌, ℕ, ◌+◌, ◌<◌, All, List, Some}
 use Rattle.std.specs.declared.cmp.Ordering.TheVariants.{Equal}
 use Rattle.marker_diagrams.specs.declared.node_id.NodeId.{NodeId}
