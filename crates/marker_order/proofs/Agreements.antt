@@ -1,20 +1,23 @@
 -- An id means the same in two tables where they agree up to it.
-use Rattle.std.proofs.Common.{◌≡◌, ℕ, zero, suc, ◌+◌, ◌-◌, ◌==◌, ◌<◌, ◌≤◌, Bool, true, false, not, cond, List, length, Option, Some, None, refl, sym, ap, ◌∙◌, subst, arith, below_more}
+use Rattle.std.proofs.Common.{◌≡◌, ℕ, zero, suc, ◌+◌, ◌-◌, ◌==◌, ◌<◌, ◌≤◌, Bool, true, false, not, cond, List, length, Option, Some, None, refl, sym, ap, ◌∙◌, subst, arith, below_more, replicate}
 use Rattle.std.specs.declared.cmp.Ordering.TheVariants.{Equal}
 use Rattle.marker_environment.specs.Valuation.{Valuation}
 use Rattle.marker_diagrams.specs.declared.node_id.NodeId.{NodeId}
 use Rattle.marker_diagrams.specs.Id.{index_of, is_negated, place_of, same_id, signed}
-use Rattle.marker_diagrams.specs.Diagram.{IsStore, truth, truth_at}
+use Rattle.marker_diagrams.specs.declared.node_id.TheConstants.NodeId.{FALSE}
+use Rattle.marker_diagrams.specs.Diagram.{IsStore, node_at, truth, truth_at}
 use Rattle.std.proofs.lemmas.Bool.{eqb-false}
+use Rattle.std.proofs.lemmas.List.Elements.{All-replicate}
 use Rattle.marker_diagrams.proofs.IdLaws.{same_id_is}
 use Rattle.marker_diagrams.proofs.Canonicity.{descends}
 use Rattle.marker_diagrams.proofs.NodeLaws.{node_bounds, none_some, same_some, truth_first, truth_node}
 use Rattle.marker_nodes.specs.Branches.{value_at}
 use Rattle.marker_nodes.specs.Node.{Node, markers}
 use Rattle.marker_nodes.proofs.NodeLaws.{lawful}
-use Rattle.marker_order.specs.Agreement.{AgreeAt, AgreeUpTo}
+use Rattle.marker_order.specs.Agreement.{AgreeAt, AgreeUpTo, AreEqual, IsEqual}
 use Rattle.marker_order.specs.Order.{diagram_cmp}
 use Rattle.marker_order.proofs.TruthLaws.{mean_tied}
+use Rattle.marker_order.proofs.TurnLaws.{on_constants}
 
 module _ (a b : List Node) (rules : IsStore markers a) (other_rules : IsStore markers b) (agreed : ℕ) (agree : AgreeUpTo a b agreed) where
   same_below : (k i : ℕ) → i < k → i ≤ agreed → (v : Valuation) → truth_at markers a i v ≡ truth_at markers b i v
@@ -63,3 +66,11 @@ agree_more a b agreed h k = below_more _ _ h k
 -- at first no node is known to agree
 pub agree_none : (a b : List Node) → AgreeUpTo a b 0
 agree_none a b i h = absurd (omega arith)
+
+no_node : (nodes : List Node) (found : Option Node) → node_at nodes 0 ≡ found → node_at nodes 0 ≡ None
+no_node nodes None e = e
+no_node nodes (Some n) e = let l = (node_bounds nodes 0 n e).0 in absurd (omega (arith, l))
+
+-- at first each pair that is remembered is of FALSE alone
+pub falsehoods_are_equal : (a b : List Node) → IsStore markers a → IsStore markers b → (n : ℕ) → AreEqual a b (replicate n (FALSE, FALSE))
+falsehoods_are_equal a b left right n = All-replicate (IsEqual a b) n (FALSE, FALSE) (on_constants a b left right FALSE FALSE (no_node a (node_at a 0) refl) (no_node b (node_at b 0) refl))

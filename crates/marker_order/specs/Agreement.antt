@@ -1,7 +1,11 @@
--- How far two tables agree, from their oldest node on.
-use Rattle.std.specs.Prelude.{◌≡◌, ℕ, ◌+◌, ◌<◌, List, Some}
+-- What is known of two tables: how far they agree, from their oldest node on, and which diagrams are
+-- equal.
+use Rattle.std.specs.Prelude.{◌≡◌, ℕ, ◌+◌, ◌<◌, All, List, Some}
+use Rattle.std.specs.declared.cmp.Ordering.TheVariants.{Equal}
+use Rattle.marker_diagrams.specs.declared.node_id.NodeId.{NodeId}
 use Rattle.marker_diagrams.specs.Diagram.{node_at, AreSame}
 use Rattle.marker_nodes.specs.Node.{Node, markers}
+use Rattle.marker_order.specs.Order.{diagram_cmp}
 
 -- two tables have nodes at an index, counted from the oldest, that are the same
 pub record AgreeAt (a b : List Node) (index : ℕ) : Type 0 where
@@ -14,3 +18,11 @@ pub record AgreeAt (a b : List Node) (index : ℕ) : Type 0 where
 -- two tables agree at each index below a number
 abbrev pub AgreeUpTo : List Node → List Node → ℕ → Type 0
 AgreeUpTo a b agreed = (index : ℕ) → index < agreed → AgreeAt a b index
+
+-- the diagrams of a pair of ids are equal
+abbrev pub IsEqual : List Node → List Node → NodeId × NodeId → Type 0
+IsEqual a b pair = diagram_cmp (a, pair.0) (b, pair.1) ≡ Equal
+
+-- those of each pair are
+abbrev pub AreEqual : List Node → List Node → List (NodeId × NodeId) → Type 0
+AreEqual a b pairs = All (IsEqual a b) pairs

@@ -1,10 +1,10 @@
 //! The order of two diagrams.
 
-ghost use Rattle.std.specs.Prelude.{◌≡◌, ◌+◌, ◌<◌, ◌^◌, true};
+ghost use Rattle.std.specs.Prelude.{◌≡◌, ◌+◌, ◌<◌, ◌≤◌, ◌^◌, IfSome, IsSome, List, None, true};
 ghost use Rattle.std.specs.declared.cmp.Ordering.TheVariants.{Equal};
 ghost use Rattle.marker_diagrams.specs.Diagram.{IsStore};
-ghost use Rattle.marker_nodes.specs.Node.{markers};
-ghost use Rattle.marker_order.specs.Agreement.{AgreeAt, AgreeUpTo};
+ghost use Rattle.marker_nodes.specs.Node.{Node, markers};
+ghost use Rattle.marker_order.specs.Agreement.{AgreeAt, AgreeUpTo, AreEqual, IsEqual};
 ghost use Rattle.marker_order.specs.Order.{diagram_cmp};
 
 use crate::turns::{Turn, side_by_side};
@@ -14,14 +14,32 @@ use std::cmp::Ordering;
 // How many nodes are looked at where equal ids are met.
 const PACE: usize = 8;
 
+// How many pairs are looked at by a comparison that remembers hardly any, since most end within
+// them, and by one that remembers 4,096.
+const FIRST: usize = 64;
+
+const SECOND: usize = 65_536;
+
+// What a comparison remembers, and how many pairs of nodes it may look at.
+#[derive(Drop)]
+struct Memory<const N: usize> {
+    // How many nodes of both tables are known to agree, from the oldest on.
+    agreed: usize,
+    // Pairs of ids whose diagrams are equal. A pair has two places, and shares them with others.
+    equal: [(NodeId, NodeId); N],
+    // Without a number as many looks as are needed.
+    looks: Option<usize>,
+}
+
 /// The order of two diagrams, each an id in its table: `TRUE`, `FALSE`, and then by the variable
 /// that is asked about first, versions before texts before truths; then edge by edge, by lower
 /// bound, upper bound and child. Who has no more edges comes first. This takes no memory. The calls
 /// are nested no deeper than the ids have variables.
 ///
 /// Equal ids are passed over as far as both tables are known to agree from their oldest node on. At
-/// each pair of equal ids some more nodes are looked at, so no comparison is slower than a plain
-/// one but by a factor, and in one table none takes time for each path.
+/// each pair of equal ids some more nodes are looked at. Other pairs that were found equal are
+/// remembered in an array on the stack, which forgets; so a comparison that takes too many looks
+/// begins anew with a larger array, of up to 65,536 pairs.
 pub fn diagram_order(
     table: &NodeTable,
     id: NodeId,
@@ -32,54 +50,164 @@ pub fn diagram_order(
     requires other_rules { IsStore markers other_table.now }
     ensures { result ≡ diagram_cmp (table.now, id) (other_table.now, other) }
 {
-    let mut agreed = 0;
-    order_from(table, id, other_table, other, &mut agreed)
+    if let Some(order) = order_by::<2>(table, id, other_table, other, Some(FIRST)) {
+        return order;
+    }
+    if let Some(order) = order_by::<4_096>(table, id, other_table, other, Some(SECOND)) {
+        return order;
+    }
+    match order_by::<65_536>(table, id, other_table, other, None) {
+        Some(order) => order,
+        None => unreachable!(),
+    }
 }
 
-// The same, where so many nodes of both tables are known to agree.
-fn order_from(
+// The same by a comparison with so many places, if it ends within the looks. The places are on the
+// stack of this call, so that no other comparison pays for them.
+#[inline(never)]
+fn order_by<const N: usize>(
     table: &NodeTable,
     id: NodeId,
     other_table: &NodeTable,
     other: NodeId,
-    agreed: &mut usize,
-) -> Ordering
+    looks: Option<usize>,
+) -> Option<Ordering>
     requires rules { IsStore markers table.now }
     requires other_rules { IsStore markers other_table.now }
-    requires agreed { AgreeUpTo table.now other_table.now agreed.old }
-    ensures order { result ≡ diagram_cmp (table.now, id) (other_table.now, other) }
-    ensures agreed { AgreeUpTo table.now other_table.now agreed.new }
+    requires places { 2 ≤ N }
+    requires size { N ≤ 65536 }
+    ensures order { IfSome result (λ order.
+        order ≡ diagram_cmp (table.now, id) (other_table.now, other)) }
+    ensures answered { looks ≡ None → IsSome result }
 {
-    if are_passed_over(table, id, other_table, other, agreed) {
-        return Ordering::Equal;
+    let mut memory = Memory {
+        agreed: 0,
+        equal: [(NodeId::FALSE, NodeId::FALSE); N],
+        looks,
+    };
+    order_from::<N>(table, id, other_table, other, &mut memory)
+}
+
+// The same, by what is remembered and is to be.
+fn order_from<const N: usize>(
+    table: &NodeTable,
+    id: NodeId,
+    other_table: &NodeTable,
+    other: NodeId,
+    memory: &mut Memory<N>,
+) -> Option<Ordering>
+    requires rules { IsStore markers table.now }
+    requires other_rules { IsStore markers other_table.now }
+    requires places { 2 ≤ N }
+    requires agreed { AgreeUpTo table.now other_table.now memory.old.agreed }
+    requires equal { AreEqual table.now other_table.now memory.old.equal }
+    ensures order { IfSome result (λ order.
+        order ≡ diagram_cmp (table.now, id) (other_table.now, other)) }
+    ensures answered { memory.old.looks ≡ None → IsSome result }
+    ensures unbounded { memory.old.looks ≡ None → memory.new.looks ≡ None }
+    ensures agreed { AgreeUpTo table.now other_table.now memory.new.agreed }
+    ensures equal { AreEqual table.now other_table.now memory.new.equal }
+{
+    let mut agreed = memory.agreed;
+    let passed_over = are_passed_over(table, id, other_table, other, &mut agreed);
+    memory.agreed = agreed;
+    if passed_over {
+        return Some(Ordering::Equal);
     }
     let (left, right) = match (table.node(id), other_table.node(other)) {
         (Some(left), Some(right)) => (left, right),
-        (Some(_), None) => return Ordering::Greater,
-        (None, Some(_)) => return Ordering::Less,
-        (None, None) => return id.is_complement().cmp(&other.is_complement()),
+        (Some(_), None) => return Some(Ordering::Greater),
+        (None, Some(_)) => return Some(Ordering::Less),
+        (None, None) => return Some(id.is_complement().cmp(&other.is_complement())),
     };
     match left.cmp_variable(right) {
         Ordering::Equal => {}
-        Ordering::Less => return Ordering::Less,
-        Ordering::Greater => return Ordering::Greater,
+        Ordering::Less => return Some(Ordering::Less),
+        Ordering::Greater => return Some(Ordering::Greater),
     }
+    if memory.remembers(id, other) {
+        return Some(Ordering::Equal);
+    }
+    memory.take_look()?;
     for turn in side_by_side(left, right) {
         let order = match turn {
             Turn::Told(order) => order,
-            Turn::Below(child, other_child) => order_from(
+            Turn::Below(child, other_child) => order_from::<N>(
                 table,
                 child.negate(id),
                 other_table,
                 other_child.negate(other),
-                agreed,
-            ),
+                memory,
+            )?,
         };
         if order != Ordering::Equal {
-            return order;
+            return Some(order);
         }
     }
-    Ordering::Equal
+    memory.remember(id, other);
+    Some(Ordering::Equal)
+}
+
+impl<const N: usize> Memory<N> {
+    // Takes a look, if one is left.
+    fn take_look(&mut self) -> Option<()>
+        ensures taken { self.old.looks ≡ None → IsSome result }
+        ensures unbounded { self.old.looks ≡ None → self.new.looks ≡ None }
+        ensures agreed { self.new.agreed ≡ self.old.agreed }
+        ensures equal { self.new.equal ≡ self.old.equal }
+    {
+        if let Some(looks) = self.looks {
+            self.looks = Some(looks.checked_sub(1)?);
+        }
+        Some(())
+    }
+
+    // Whether a pair is remembered.
+    fn remembers(&self, id: NodeId, other: NodeId) -> bool
+        requires { 2 ≤ N }
+        ensures { result ≡ true → (a b : List Node) → AreEqual a b self.now.equal
+            → IsEqual a b (id, other) }
+    {
+        let place = first_place(N, id, other);
+        let first = self.equal[place];
+        if first.0 == id && first.1 == other {
+            return true;
+        }
+        let second = self.equal[place + 1];
+        second.0 == id && second.1 == other
+    }
+
+    // Remembers a pair in the first of its places, and what was there in the second one.
+    fn remember(&mut self, id: NodeId, other: NodeId)
+        requires { 2 ≤ N }
+        ensures agreed { self.new.agreed ≡ self.old.agreed }
+        ensures looks { self.new.looks ≡ self.old.looks }
+        ensures equal { (a b : List Node) → IsEqual a b (id, other)
+            → AreEqual a b self.old.equal → AreEqual a b self.new.equal }
+    {
+        let place = first_place(N, id, other);
+        self.equal[place + 1] = self.equal[place];
+        self.equal[place] = (id, other);
+    }
+}
+
+// The first of the two places of a pair among so many.
+fn first_place(places: usize, id: NodeId, other: NodeId) -> usize
+    requires { 2 ≤ places }
+    ensures { result + 1 < places }
+{
+    let left = number(id).wrapping_mul(0x9e37_79b9_7f4a_7c15);
+    let right = number(other).wrapping_mul(0xc2b2_ae3d_27d4_eb4f);
+    let mixed = left.wrapping_add(right) >> 32;
+    mixed % (places / 2) * 2
+}
+
+// A number of an id, another one for each.
+fn number(id: NodeId) -> usize {
+    let index = id.index().unwrap_or(0);
+    index
+        .wrapping_mul(2)
+        .wrapping_add(usize::from(id.is_complement()))
 }
 
 // Whether the ids are equal and stand where both tables agree, which some more nodes may show.

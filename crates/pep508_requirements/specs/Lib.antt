@@ -5,3 +5,4 @@ pub mod Refused
 pub mod Changed
 pub mod Wanted
 pub mod Unnamed
+pub mod Order

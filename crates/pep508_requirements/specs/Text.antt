@@ -59,6 +59,11 @@ pub record IsTextOf (f : Valuation → Bool) (parts : Option (List ℕ) → Opti
   pub tells : TellsText f marker
   pub text_is : (known : List ℕ) → parts marker ≡ Some known → text ≡ known
 
+-- so it is of the text that these parts make of a text that tells the marker of this truth
+abbrev pub WithText : (Valuation → Bool) → (Option (List ℕ) → Option (List ℕ))
+    → (Option (List ℕ) → Type 0) → Type 0
+WithText f parts P = (marker : Option (List ℕ)) × TellsText f marker × P (parts marker)
+
 -- the truth is one everywhere, or it is readable and somewhere so
 abbrev pub IsPrintedTruth : (Valuation → Bool) → Type 0
 IsPrintedTruth f =

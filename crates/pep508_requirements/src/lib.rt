@@ -5,6 +5,7 @@ mod end;
 mod error;
 mod extras;
 mod head;
+pub mod laws;
 mod marked;
 mod origin;
 mod requirement;

@@ -41,8 +41,8 @@ impl<T: Pep508Url> Requirement<T> {
     /// for want of memory alone, and then the requirement stays as it was.
     pub fn with_extra_marker(
         &mut self,
-        extra: &ExtraName,
         interner: &mut Interner,
+        extra: &ExtraName,
     ) -> Result<(), AllocError>
         requires { IsHeld interner.old self.old.marker }
         ensures kept { IsKept interner.old interner.new }

@@ -1,7 +1,9 @@
 //! Requirements without a name, with the interners that their markers stand in.
 
-ghost use Rattle.std.specs.Prelude.{◌≡◌, None};
-ghost use Rattle.marker_graph.specs.Contents.{IsHeld};
+ghost use Rattle.std.specs.Prelude.{◌≡◌, IfOk, None};
+ghost use Rattle.std.specs.Fmt.{DisplaysOnOk, DisplaysStyledOnOk};
+ghost use Rattle.marker_graph.specs.Contents.{IsHeld, truth};
+ghost use Rattle.pep508_requirements.specs.Text.{unnamed_text, WithText};
 
 use crate::origin::RequirementOrigin;
 use crate::unnamed::UnnamedRequirement;
@@ -61,10 +63,19 @@ impl<Url: UnnamedRequirementUrl> UnnamedRequirement<Url> {
 }
 
 impl<Url: UnnamedRequirementUrl> Display for UnnamedRequirementView<'_, Url> {
-    // Which text is printed is left open: `UnnamedRequirement::try_to_string` says what it tells.
+    // The text is no function of the view, but told by a relation: the clause `told` of `fmt`.
     ghost output = { λ _. None };
 
-    fn fmt<W: fmt::Write>(&self, f: &mut fmt::Formatter<W>) -> fmt::Result {
+    fn fmt<W: fmt::Write>(&self, f: &mut fmt::Formatter<W>) -> fmt::Result
+        ensures writes { DisplaysOnOk W.write_str_gives f.old result None f.new }
+        ensures styled { DisplaysStyledOnOk W.write_str_gives f.old result None f.new }
+
+        // The text of the requirement is written, as far as that of its URL is known.
+        ensures told { IfOk result (λ _. WithText
+            (truth self.now.marker.interner.now self.now.marker.tree)
+            (unnamed_text (Url.output self.now.url.now) self.now.extras.now)
+            (λ text. DisplaysOnOk W.write_str_gives f.old result text f.new)) }
+    {
         let marker = marker_text(&self.marker)?;
         let text = UnnamedText {
             url: self.url,

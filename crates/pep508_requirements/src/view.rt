@@ -1,7 +1,11 @@
 //! Requirements with a name, with the interners that their markers stand in.
 
-ghost use Rattle.std.specs.Prelude.{◌≡◌, None};
-ghost use Rattle.marker_graph.specs.Contents.{IsHeld};
+ghost use Rattle.std.specs.Prelude.{◌≡◌, IfOk, None, string_bytes};
+ghost use Rattle.std.specs.Fmt.{DisplaysOnOk, DisplaysStyledOnOk};
+ghost use Rattle.std.specs.Option.{option_map};
+ghost use Rattle.marker_graph.specs.Contents.{IsHeld, truth};
+ghost use Rattle.marker_readable.specs.Text.{TellsText};
+ghost use Rattle.pep508_requirements.specs.Text.{requirement_text, WithText};
 
 use crate::origin::RequirementOrigin;
 use crate::requirement::Requirement;
@@ -64,7 +68,10 @@ impl<T: Pep508Url> Requirement<T> {
 }
 
 // The text of a marker, where there is memory for it.
-pub(crate) fn marker_text(marker: &MarkerTreeView<'_>) -> Result<Option<String>, fmt::Error> {
+pub(crate) fn marker_text(marker: &MarkerTreeView<'_>) -> Result<Option<String>, fmt::Error>
+    ensures { IfOk result (λ text. TellsText
+        (truth marker.now.interner.now marker.now.tree) (option_map string_bytes text)) }
+{
     match marker.tree().try_to_string(marker.interner()) {
         Ok(text) => Ok(text),
         Err(_) => Err(fmt::Error),
@@ -72,10 +79,20 @@ pub(crate) fn marker_text(marker: &MarkerTreeView<'_>) -> Result<Option<String>,
 }
 
 impl<T: Pep508Url> Display for RequirementView<'_, T> {
-    // Which text is printed is left open: `Requirement::try_to_string` says what it tells.
+    // The text is no function of the view, but told by a relation: the clause `told` of `fmt`.
     ghost output = { λ _. None };
 
-    fn fmt<W: fmt::Write>(&self, f: &mut fmt::Formatter<W>) -> fmt::Result {
+    fn fmt<W: fmt::Write>(&self, f: &mut fmt::Formatter<W>) -> fmt::Result
+        ensures writes { DisplaysOnOk W.write_str_gives f.old result None f.new }
+        ensures styled { DisplaysStyledOnOk W.write_str_gives f.old result None f.new }
+
+        // The text of the requirement is written, as far as that of its URL is known.
+        ensures told { IfOk result (λ _. WithText
+            (truth self.now.marker.interner.now self.now.marker.tree)
+            (requirement_text T.output self.now.name.now self.now.extras.now
+            self.now.version_or_url.now)
+            (λ text. DisplaysOnOk W.write_str_gives f.old result text f.new)) }
+    {
         let marker = marker_text(&self.marker)?;
         let text = RequirementText {
             name: self.name,
