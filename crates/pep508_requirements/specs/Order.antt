@@ -51,7 +51,7 @@ module _ {T E : Type 0} (url_cmp : T → T → Ordering) where
       (on (λ v. v.origin.now) (option_cmp origin_cmp)))))
 
   -- by URL, then extras, then marker, then origin
-  abbrev pub unnamed_cmp : UnnamedRequirementView T → UnnamedRequirementView T → Ordering
+  abbrev pub unnamed_cmp : UnnamedRequirementView T E → UnnamedRequirementView T E → Ordering
   unnamed_cmp =
       then_cmp (on (λ v. v.url.now) url_cmp)
       (then_cmp (on (λ v. v.extras.now) (slice_cmp name_cmp))
