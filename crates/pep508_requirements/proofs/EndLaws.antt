@@ -1,14 +1,12 @@
 -- The end of a requirement: nothing, or the marker that the text ends with.
-use Rattle.std.proofs.Common.{ℕ, false, List, [], Option, Some, None, refl, sym, subst, IsUtf8}
+use Rattle.std.proofs.Common.{ℕ, List, [], ◌++◌, Option, Some, None, Result, Ok, Err, refl, sym, subst, IsUtf8}
+use Rattle.std.specs.Prelude.{IfErr}
 use Rattle.std.specs.Str.{chars}
 use Rattle.std.proofs.lemmas.Str.{encodes-chars}
 use Rattle.refusal.specs.declared.Refusal.{Refusal}
 use Rattle.refusal.specs.declared.Refusal.TheVariants as refusals
 use Rattle.pep508_errors.specs.declared.error.Pep508Error.{Pep508Error}
-use Rattle.pep508_errors.specs.declared.error.Pep508ErrorSource.{Pep508ErrorSource}
-use Rattle.pep508_errors.specs.declared.error.Pep508ErrorSource.TheVariants as sources
 use Rattle.pep508_errors.specs.declared.warning.MarkerWarningKind.{MarkerWarningKind}
-use Rattle.marker_parts.specs.Error.{IsMessage}
 use Rattle.marker_nodes.proofs.Firsts.{true_is}
 use Rattle.marker_graph.specs.declared.tree.MarkerTree.{MarkerTree}
 use Rattle.marker_graph.specs.declared.tree.TheConstants.MarkerTree.{TRUE}
@@ -16,10 +14,15 @@ use Rattle.marker_graph.specs.Contents.{Contents}
 use Rattle.marker_grammar.specs.Formula.{Formula}
 use Rattle.marker_grammar.specs.Grammar.{Reads}
 use Rattle.pep508_markers.specs.Text.{IsTreeOf, IsRefusalIn}
-use Rattle.requirement_words.specs.Tail.{IsTail}
+use Rattle.pep508_text.specs.Suffix.{IsSuffix}
+use Rattle.requirement_words.specs.Fault.{FindsInTail, IsFaultBy, IsTailFault}
+use Rattle.requirement_words.specs.Tail.{HasNoTail, IsTail}
+use Rattle.requirement_words.specs.declared.fault.Fault.{Fault}
+use Rattle.requirement_words.proofs.FaultLaws.{fault_behind}
 use Rattle.requirement_words.proofs.Readings.{tail_same}
 use Rattle.pep508_requirements.specs.Requirement.{ReadsMarker, EndsWith, IsNoEnd, IsTreeOfEnd}
-use Rattle.pep508_requirements.specs.Refused.{IsSource, IsEndRefusal}
+use Rattle.pep508_requirements.specs.Refused.{OnError, TellsFault, no_tail, in_marker, IsEndRefusal}
+use Rattle.pep508_requirements.proofs.ErrorLaws.{error_by}
 
 abbrev Kinds : Type 0
 Kinds = List MarkerWarningKind
@@ -51,17 +54,26 @@ module _ (rest marker : List ℕ) (utf8 : IsUtf8 marker) (tail : IsTail rest (So
   pub marked_end : (c : Contents) (t : MarkerTree) (kinds : Kinds) → IsTreeOf c marker t kinds → IsTreeOfEnd c rest t kinds
   marked_end c t kinds h = record { formula = h.formula; end = ends_with h.reads; no_overflow = h.no_overflow; means = h.means }
 
-  module _ {T E : Type 0} where
-    message_source : (m : Pep508ErrorSource T E) (said : List ℕ) → IsMessage m said → IsSource false m
-    message_source (sources.String message) said h = tt
-    message_source (sources.UrlError fault) said h = absurd h
-    message_source (sources.UnsupportedRequirement message) said h = absurd h
+module _ {T E : Type 0} (text front rest : List ℕ) where
+  -- no end of a requirement is left
+  pub end_refusal : (fault : Fault) (refusal : Refusal (Pep508Error T E)) → IsSuffix text (front ++ rest) → IsTailFault front rest fault → HasNoTail (chars rest)
+      → OnError (TellsFault text fault) refusal → IsEndRefusal text front rest refusal
+  end_refusal fault refusals.OutOfMemory s f none t = tt
+  end_refusal fault refusals.SegmentAtEnd s f none t = absurd t
+  end_refusal fault (refusals.Fault error) s f none t =
+      let here : IsFaultBy (FindsInTail front rest) text fault = fault_behind (FindsInTail front rest) (FindsInTail front rest) s (λ k p b h. h) f in
+      (no_tail (error_by (FindsInTail front rest) here t) none, no_end_there (chars rest) none)
 
-    pub marker_refusal : (text : List ℕ) (refusal : Refusal (Pep508Error T E)) → IsRefusalIn text marker refusal → IsEndRefusal text rest refusal
-    marker_refusal text refusals.OutOfMemory h = tt
-    marker_refusal text refusals.SegmentAtEnd h = record { formula = h.0; kinds = h.1.0; end = ends_with h.1.1; overflows = h.2 }
-    marker_refusal text (refusals.Fault error) h = record {
-      told = record { input = h.1.input; span = h.1.place.place.span };
-      source = message_source error.message h.1.said h.1.message;
-      no_end = λ f kinds e. h.0 f kinds (marker_of e);
-    }
+  module _ (marker : List ℕ) (utf8 : IsUtf8 marker) (tail : IsTail (chars rest) (Some (chars marker))) where
+    -- no marker stands behind `;`
+    marker_refusal : (refusal : Refusal (Pep508Error T E)) → IsRefusalIn text marker refusal → IsEndRefusal text front rest refusal
+    marker_refusal refusals.OutOfMemory h = tt
+    marker_refusal refusals.SegmentAtEnd h = record { formula = h.0; kinds = h.1.0; end = ends_with (chars rest) marker utf8 tail h.1.1; overflows = h.2 }
+    marker_refusal (refusals.Fault error) h = (
+      in_marker tail (subst (λ (x : List ℕ). IsRefusalIn text x (refusals.Fault error)) (sym (encodes-chars marker utf8)) h),
+      λ f kinds e. h.0 f kinds (marker_of (chars rest) marker utf8 tail e),
+    )
+
+    pub marker_refused : {A : Type 0} (result : Result A (Refusal (Pep508Error T E))) → IfErr result (IsRefusalIn text marker) → IfErr result (IsEndRefusal text front rest)
+    marker_refused (Ok a) h = tt
+    marker_refused (Err refusal) h = marker_refusal refusal h

@@ -1,101 +1,70 @@
 -- How faults are told, and what they say of the text.
-use Rattle.std.proofs.Common.{◌≡◌, ◌≢◌, ℕ, ◌+◌, ◌-◌, Bool, true, false, List, [], ◌++◌, length, refl, sym, subst, arith, length-append, IsUtf8}
-use Rattle.std.specs.Str.{IsCharBoundary, chars}
+use Rattle.std.proofs.Common.{◌≡◌, ℕ, ◌+◌, ◌-◌, ◌<◌, cond, eqb, Bool, true, false, List, ◌++◌, Option, Some, None, length, sym, subst, ◌∙◌, arith, length-append, IsUtf8}
+use Rattle.std.specs.Prelude.{IfSome}
 use Rattle.refusal.specs.declared.Refusal.{Refusal}
 use Rattle.refusal.specs.declared.Refusal.TheVariants as refusals
-use Rattle.pep508_text.specs.Suffix.{IsSuffix, IsPiece, IsSpan, within}
-use Rattle.pep508_text.proofs.SuffixLaws.{piece_in_front, piece_begins, piece_ends}
+use Rattle.pep508_text.specs.Suffix.{IsSuffix, IsPiece, IsSpan}
+use Rattle.pep508_text.proofs.SuffixLaws.{len_inside, piece_start, spanned}
 use Rattle.pep508_errors.specs.declared.error.Pep508Error.{Pep508Error}
 use Rattle.pep508_errors.specs.declared.error.Pep508ErrorSource.{Pep508ErrorSource}
 use Rattle.pep508_errors.specs.declared.error.Pep508ErrorSource.TheVariants as sources
+use Rattle.marker_words.specs.Fault.{IsSpanOf}
 use Rattle.requirement_words.specs.declared.fault.Fault.{Fault}
-use Rattle.requirement_words.specs.Extras.{IsExtras}
-use Rattle.requirement_words.specs.Fault.{IsExtrasFault, IsFault, IsTailFault, IsUnnamedFault}
-use Rattle.requirement_words.specs.Head.{Asked, nothing, specifiers, url}
-use Rattle.requirement_words.specs.Message.{is_unsupported}
-use Rattle.requirement_words.proofs.KindLaws.{extras_supported, tail_supported, unnamed_supported}
-use Rattle.pep508_requirements.specs.Requirement.{IsNoEnd}
-use Rattle.pep508_requirements.specs.Unnamed.{IsUnnamedHeadless, IsUnnamedHeadError}
-use Rattle.pep508_requirements.specs.Refused.{url_text, IsHeadless, IsNameless, IsSource, IsErrorIn, OnError, IsToldOf, IsHeadSource, IsHeadError, IsExtrasError, IsEndError, IsEndRefusal, IsUrlFault, IsUrlSource, IsUrlError}
+use Rattle.requirement_words.specs.declared.fault.FaultKind.{FaultKind}
+use Rattle.requirement_words.specs.Fault.{IsFaultBy, IsRefused}
+use Rattle.pep508_requirements.specs.Refused.{HasMessage, TellsFault, IsErrorBy, OnError, IsRefusedBy, IsUrlFault, TellsUrl, IsUrlError}
 
--- where a URL stands in front of what follows it
-pub url_within : (t u r : List ℕ) (n : ℕ) → IsSuffix t (u ++ r) → IsUtf8 r → n ≡ length t - length r - length u → n ≢ length t → IsSpan t n (length u)
-url_within t u r n s utf8 e other =
-    let p : IsPiece t u (length (u ++ r)) = piece_in_front s refl utf8 in
-    let here : length t - length (u ++ r) ≡ n = omega (arith, e, length-append u r) in
-    within (omega (arith, e)) (subst (IsCharBoundary t) here (piece_begins p)) (subst (λ (m : ℕ). IsCharBoundary t (m + length u)) here (piece_ends p))
+pub covers_of : (t n left : ℕ) → t - left < t → cond (eqb left 0) 1 n ≡ n
+covers_of t n left inside = len_inside left n (omega arith)
 
-pub placed_url : (text rest : List ℕ) (a : Asked) → IsSuffix text rest → ((piece : List ℕ) → a ≡ url piece → IsSuffix text (piece ++ rest)) → IsSuffix text (url_text a ++ rest)
-placed_url text rest nothing s p = s
-placed_url text rest (specifiers set) s p = s
-placed_url text rest (url t) s p = p t refl
+-- a piece of a text has a span there
+abbrev pub span_at : {text piece : List ℕ} {left start len : ℕ} → IsPiece text piece left → start ≡ length text - left → len ≡ cond (eqb left 0) 1 (length piece) → IsSpanOf text piece start len
+span_at {text} {piece} {left} {start} {len} p s l = record {
+  stands = record { front = p.begins.front; back = p.back; joined = p.begins.joined; start_is = piece_start p ∙ sym s };
+  span = subst (λ (n : ℕ). IsSpan text n len) (sym s) (subst (IsSpan text (length text - left)) (sym l) (spanned p));
+  covers = λ inside. l ∙ covers_of (length text) (length piece) left (subst (λ (n : ℕ). n < length text) s inside);
+}
+
+-- a URL stands in front of what follows it
+abbrev pub url_piece : (text url rest : List ℕ) → IsSuffix text (url ++ rest) → IsUtf8 rest → IsPiece text url (length url + length rest)
+url_piece text url rest s utf8 = record { back = rest; begins = s; ends = utf8; length_is = length-append url rest }
 
 module _ {T E : Type 0} where
-  head_source : (value : List ℕ → List ℕ) (text : List ℕ) (b : Bool) (m : Pep508ErrorSource T E) → IsSource b m → (b ≡ true → IsNameless value text) → IsHeadSource value text m
-  head_source value text false (sources.String message) s n = tt
-  head_source value text false (sources.UrlError fault) s n = absurd s
-  head_source value text false (sources.UnsupportedRequirement message) s n = absurd s
-  head_source value text true (sources.String message) s n = absurd s
-  head_source value text true (sources.UrlError fault) s n = absurd s
-  head_source value text true (sources.UnsupportedRequirement message) s n = n refl
+  -- a message is said, as far as it is known
+  pub has_message : (b : Bool) (m : Pep508ErrorSource T E) (known : List ℕ) (said : Option (List ℕ)) → HasMessage b (Some known) m → IfSome said (λ bs. known ≡ bs) → HasMessage b said m
+  has_message false (sources.String message) known None h k = tt
+  has_message false (sources.String message) known (Some bs) h k = h ∙ k
+  has_message false (sources.UrlError fault) known said h k = absurd h
+  has_message false (sources.UnsupportedRequirement message) known said h k = absurd h
+  has_message true (sources.String message) known said h k = absurd h
+  has_message true (sources.UrlError fault) known said h k = absurd h
+  has_message true (sources.UnsupportedRequirement message) known None h k = tt
+  has_message true (sources.UnsupportedRequirement message) known (Some bs) h k = h ∙ k
 
-  -- no requirement begins in the text
-  pub head_error : (value : List ℕ → List ℕ) (text : List ℕ) (fault : Fault) (refusal : Refusal (Pep508Error T E)) → IsFault value text fault → IsHeadless text
-      → OnError (IsToldOf text (is_unsupported fault.kind)) refusal → OnError (IsHeadError value text) refusal
-  head_error value text fault refusals.OutOfMemory f none t = tt
-  head_error value text fault refusals.SegmentAtEnd f none t = absurd t
-  head_error value text fault (refusals.Fault error) f none t = record {
-    told = t.told;
-    source = head_source value text (is_unsupported fault.kind) error.message t.source (λ e. record { fault = fault; found = f; kind = e });
-    headless = none;
+  -- an error that tells a fault of the text
+  pub error_by : (Finds : FaultKind → List ℕ → List ℕ → Type 0) {text : List ℕ} {fault : Fault} {error : Pep508Error T E} → IsFaultBy Finds text fault → TellsFault text fault error → IsErrorBy Finds text error
+  error_by Finds {text} {fault} {error} f t = record {
+    input = t.input;
+    kind = fault.kind;
+    piece = fault.place.piece.now;
+    place = span_at f.place t.start t.len;
+    found = f.found;
+    message = t.message;
   }
 
-  -- no end of a requirement is left
-  pub end_error : (front behind text rest : List ℕ) (fault : Fault) (refusal : Refusal (Pep508Error T E)) → IsTailFault front behind fault → IsNoEnd rest
-      → OnError (IsToldOf text (is_unsupported fault.kind)) refusal → IsEndRefusal text rest refusal
-  end_error front behind text rest fault refusals.OutOfMemory f none t = tt
-  end_error front behind text rest fault refusals.SegmentAtEnd f none t = absurd t
-  end_error front behind text rest fault (refusals.Fault error) f none t = record {
-    told = t.told;
-    source = subst (λ (b : Bool). IsSource b error.message) (tail_supported f.found) t.source;
-    no_end = none;
-  }
-
-  -- no extras stand at the front of the text
-  pub extras_error : (text : List ℕ) (fault : Fault) (refusal : Refusal (Pep508Error T E)) → IsExtrasFault text fault
-      → ((rest : List ℕ) (names : List (List ℕ)) → ¬ IsExtras (chars text) rest names)
-      → OnError (IsToldOf text (is_unsupported fault.kind)) refusal → OnError (IsExtrasError text) refusal
-  extras_error text fault refusals.OutOfMemory f none t = tt
-  extras_error text fault refusals.SegmentAtEnd f none t = absurd t
-  extras_error text fault (refusals.Fault error) f none t = record {
-    told = t.told;
-    source = subst (λ (b : Bool). IsSource b error.message) (extras_supported f.found) t.source;
-    none = none;
-  }
-
-  -- no requirement without a name begins in the text
-  pub unnamed_head_error : (text : List ℕ) (fault : Fault) (refusal : Refusal (Pep508Error T E)) → IsUnnamedFault text fault → IsUnnamedHeadless text
-      → OnError (IsToldOf text (is_unsupported fault.kind)) refusal → OnError (IsUnnamedHeadError text) refusal
-  unnamed_head_error text fault refusals.OutOfMemory f none t = tt
-  unnamed_head_error text fault refusals.SegmentAtEnd f none t = absurd t
-  unnamed_head_error text fault (refusals.Fault error) f none t = record {
-    told = t.told;
-    source = subst (λ (b : Bool). IsSource b error.message) (unnamed_supported f.found) t.source;
-    headless = none;
-  }
+  -- a refusal that tells a fault of the text, and what follows from it
+  pub refused_by : (Finds : FaultKind → List ℕ → List ℕ → Type 0) (P : Type 0) (text : List ℕ) (fault : Fault) {read : Refusal Fault} (refusal : Refusal (Pep508Error T E)) → read ≡ refusals.Fault fault
+      → IsRefused (IsFaultBy Finds text) P read → OnError (TellsFault text fault) refusal → IsRefusedBy Finds P text refusal
+  refused_by Finds P text fault refusals.OutOfMemory is r t = tt
+  refused_by Finds P text fault refusals.SegmentAtEnd is r t = absurd t
+  refused_by Finds P text fault (refusals.Fault error) is r t =
+      let h = subst (IsRefused (IsFaultBy Finds text) P) is r in
+      (error_by Finds h.0 t, h.1)
 
   -- the type of URLs refuses the text
-  pub url_error : (names : List ℕ → T → Type 0) (tells_size : E → Bool) (may_overflow : List ℕ → Type 0) (text piece : List ℕ) (fault : E) (refusal : Refusal (Pep508Error T E))
-      → (tells_size fault ≡ false → (u : T) → ¬ names piece u) → (tells_size fault ≡ true → may_overflow piece)
-      → OnError (IsErrorIn text) refusal → OnError (λ error. error.message ≡ sources.UrlError fault) refusal
-      → OnError (IsUrlError names tells_size may_overflow text (url piece)) refusal
-  url_error names tells_size may_overflow text piece fault refusals.OutOfMemory none large t m = tt
-  url_error names tells_size may_overflow text piece fault refusals.SegmentAtEnd none large t m = absurd t
-  url_error names tells_size may_overflow text piece fault (refusals.Fault error) none large t m =
-      let here : IsUrlSource names tells_size may_overflow piece (sources.UrlError fault) = record { none = none; large = large } in
-      record {
-        told = t;
-        piece = piece;
-        is_url = refl;
-        source = subst (IsUrlSource names tells_size may_overflow piece) (sym m) here;
-      }
+  pub url_error : (names : List ℕ → T → Type 0) (tells_size : E → Bool) (may_overflow : List ℕ → Type 0) (text whole given rest : List ℕ) (fault : E) (refusal : Refusal (Pep508Error T E))
+      → (tells_size fault ≡ false → (u : T) → ¬ names given u) → (tells_size fault ≡ true → may_overflow given)
+      → OnError (TellsUrl text whole rest fault) refusal → OnError (IsUrlError names tells_size may_overflow text whole given rest) refusal
+  url_error names tells_size may_overflow text whole given rest fault refusals.OutOfMemory none large t = tt
+  url_error names tells_size may_overflow text whole given rest fault refusals.SegmentAtEnd none large t = absurd t
+  url_error names tells_size may_overflow text whole given rest fault (refusals.Fault error) none large t = record { fault = fault; told = t; fault_is = record { none = none; large = large } }

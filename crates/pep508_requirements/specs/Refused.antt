@@ -1,94 +1,99 @@
 -- Why a text is no requirement, and how that is told.
-use Rattle.std.specs.Prelude.{◌≡◌, ◌⊎◌, ℕ, Bool, true, false, List, [], string_bytes}
+use Rattle.std.specs.Prelude.{◌≡◌, ◌⊎◌, ℕ, ◌-◌, Bool, true, false, List, [], Option, Some, IfSome, encode_utf8_all, length, string_bytes, ⊤}
 use Rattle.std.specs.Str.{chars}
 use Rattle.refusal.specs.declared.Refusal.{Refusal}
 use Rattle.refusal.specs.declared.Refusal.TheVariants as refusals
-use Rattle.pep508_text.specs.Suffix.{IsSpan}
+use Rattle.pep508_text.specs.Suffix.{span_len}
 use Rattle.pep508_errors.specs.declared.error.Pep508Error.{Pep508Error}
 use Rattle.pep508_errors.specs.declared.error.Pep508ErrorSource.{Pep508ErrorSource}
 use Rattle.pep508_errors.specs.declared.error.Pep508ErrorSource.TheVariants as sources
+use Rattle.pep508_errors.specs.declared.surroundings.Surroundings.{Surroundings}
+use Rattle.marker_words.specs.Fault.{IsSpanOf}
 use Rattle.pep508_markers.specs.Json.{IsStringOf, TellsNoString}
+use Rattle.pep508_markers.specs.Text as markers
+use Rattle.pep508_urls.specs.Variables.{value_of}
 use Rattle.requirement_words.specs.declared.fault.Fault.{Fault}
-use Rattle.requirement_words.specs.Extras.{IsExtras}
-use Rattle.requirement_words.specs.Fault.{IsFault}
+use Rattle.requirement_words.specs.declared.fault.FaultKind.{FaultKind}
+use Rattle.requirement_words.specs.Fault.{FindsInHead, FindsInTail}
 use Rattle.requirement_words.specs.Head.{Asked, nothing, specifiers, url, IsHead}
-use Rattle.requirement_words.specs.Message.{is_unsupported}
-use Rattle.pep508_requirements.specs.Requirement.{IsNoEnd, EndOverflows, IsUnread, RequirementOverflows}
+use Rattle.requirement_words.specs.Message.{is_unsupported, message_of}
+use Rattle.requirement_words.specs.Tail.{HasNoTail, IsTail}
+use Rattle.pep508_requirements.specs.Requirement.{IsNoEnd, EndOverflows, IsUnread, RequirementOverflows, urls_in}
 
 -- the bytes of the URL that is asked, and none where no URL is
-abbrev pub url_text : Asked → List ℕ
-url_text nothing = []
-url_text (specifiers set) = []
-url_text (url text) = text
-
--- no requirement begins there
-abbrev pub IsHeadless : List ℕ → Type 0
-IsHeadless text = (output name : List ℕ) (extras : List (List ℕ)) (asked : Asked)
-    → ¬ IsHead (chars text) output name extras asked
-
--- a path, URL or archive stands in the text in place of a name
-pub record IsNameless (value : List ℕ → List ℕ) (text : List ℕ) : Type 0 where
-  pub fault : Fault
-  pub found : IsFault value text fault
-  pub kind : is_unsupported fault.kind ≡ true
+abbrev pub asked_url : Asked → List ℕ
+asked_url nothing = []
+asked_url (specifiers set) = []
+asked_url (url text) = text
 
 module _ {T E : Type 0} where
-  -- a message of this project, which says so where a name is missing
-  abbrev pub IsSource : Bool → Pep508ErrorSource T E → Type 0
-  IsSource false (sources.String message) = Unit {0}
-  IsSource false (sources.UrlError fault) = ⊥
-  IsSource false (sources.UnsupportedRequirement message) = ⊥
-  IsSource true (sources.String message) = ⊥
-  IsSource true (sources.UrlError fault) = ⊥
-  IsSource true (sources.UnsupportedRequirement message) = Unit {0}
+  -- this message, of a missing name or of another fault
+  abbrev pub HasMessage : Bool → Option (List ℕ) → Pep508ErrorSource T E → Type 0
+  HasMessage false said (sources.String message) = IfSome said (λ bs. string_bytes message ≡ bs)
+  HasMessage false said (sources.UrlError fault) = ⊥
+  HasMessage false said (sources.UnsupportedRequirement message) = ⊥
+  HasMessage true said (sources.String message) = ⊥
+  HasMessage true said (sources.UrlError fault) = ⊥
+  HasMessage true said (sources.UnsupportedRequirement message) =
+      IfSome said (λ bs. string_bytes message ≡ bs)
 
-  -- the error keeps the text, and has a span of it
-  pub record IsErrorIn (text : List ℕ) (error : Pep508Error T E) : Type 0 where
+  -- the error of a fault: its message, its place and the text
+  pub record TellsFault (text : List ℕ) (fault : Fault) (error : Pep508Error T E) : Type 0 where
     pub input : string_bytes error.input ≡ text
-    pub span : IsSpan text error.start error.len
+    pub message : HasMessage (is_unsupported fault.kind)
+        (message_of fault.kind fault.place.piece.now) error.message
+    pub start : error.start ≡ length text - fault.place.left
+    pub len : error.len ≡ span_len fault.place
+
+  -- one of these faults is true of the text at the error's place, and the error says so
+  pub record IsErrorBy (Finds : FaultKind → List ℕ → List ℕ → Type 0) (text : List ℕ)
+      (error : Pep508Error T E) : Type 0 where
+    pub input : string_bytes error.input ≡ text
+    pub kind : FaultKind
+    pub piece : List ℕ
+    pub place : IsSpanOf text piece error.start error.len
+    pub found : Finds kind piece place.stands.back
+    pub message : HasMessage (is_unsupported kind) (message_of kind piece) error.message
 
   -- what holds of the error, where the refusal is a fault; no text raises a largest number here
   abbrev pub OnError : (Pep508Error T E → Type 0) → Refusal (Pep508Error T E) → Type 0
-  OnError P refusals.OutOfMemory = Unit {0}
+  OnError P refusals.OutOfMemory = ⊤
   OnError P refusals.SegmentAtEnd = ⊥
   OnError P (refusals.Fault error) = P error
 
-  -- a fault of the words of requirements is told
-  pub record IsToldOf (text : List ℕ) (kind : Bool) (error : Pep508Error T E) : Type 0 where
-    pub told : IsErrorIn text error
-    pub source : IsSource kind error.message
+  -- memory ran out, or the text has such a fault, and then this holds
+  abbrev pub IsRefusedBy : (FaultKind → List ℕ → List ℕ → Type 0) → Type 0 → List ℕ
+      → Refusal (Pep508Error T E) → Type 0
+  IsRefusedBy Finds P text = OnError (λ error. IsErrorBy Finds text error × P)
 
-  -- a message of this project: a name is missing only where a path, URL or archive stands in its
-  -- place
-  abbrev pub IsHeadSource : (List ℕ → List ℕ) → List ℕ → Pep508ErrorSource T E → Type 0
-  IsHeadSource value text (sources.String message) = Unit {0}
-  IsHeadSource value text (sources.UrlError fault) = ⊥
-  IsHeadSource value text (sources.UnsupportedRequirement message) = IsNameless value text
-
-  -- no requirement begins in the text
-  pub record IsHeadError (value : List ℕ → List ℕ) (text : List ℕ) (error : Pep508Error T E)
-      : Type 0 where
-    pub told : IsErrorIn text error
-    pub source : IsHeadSource value text error.message
-    pub headless : IsHeadless text
-
-  -- no extras stand at the front of the text
-  pub record IsExtrasError (text : List ℕ) (error : Pep508Error T E) : Type 0 where
-    pub told : IsErrorIn text error
-    pub source : IsSource false error.message
-    pub none : (rest : List ℕ) (names : List (List ℕ)) → ¬ IsExtras (chars text) rest names
-
-  -- no end of a requirement is left
-  pub record IsEndError (text rest : List ℕ) (error : Pep508Error T E) : Type 0 where
-    pub told : IsErrorIn text error
-    pub source : IsSource false error.message
-    pub no_end : IsNoEnd rest
+  -- what is wrong with `rest` behind a URL, or with the marker there
+  pub data IsEndError (text url rest : List ℕ) (error : Pep508Error T E) : Type 0 where
+    no_tail : IsErrorBy (FindsInTail url rest) text error → HasNoTail (chars rest)
+        → IsEndError text url rest error
+    in_marker : {marker : List ℕ} → IsTail (chars rest) (Some marker)
+        → markers.IsRefusalIn text (encode_utf8_all marker) (refusals.Fault error)
+        → IsEndError text url rest error
 
   -- why no end of a requirement is read
-  abbrev pub IsEndRefusal : List ℕ → List ℕ → Refusal (Pep508Error T E) → Type 0
-  IsEndRefusal text rest refusals.OutOfMemory = Unit {0}
-  IsEndRefusal text rest refusals.SegmentAtEnd = EndOverflows rest
-  IsEndRefusal text rest (refusals.Fault error) = IsEndError text rest error
+  abbrev pub IsEndRefusal : List ℕ → List ℕ → List ℕ → Refusal (Pep508Error T E) → Type 0
+  IsEndRefusal text front rest refusals.OutOfMemory = ⊤
+  IsEndRefusal text front rest refusals.SegmentAtEnd = EndOverflows (chars rest)
+  IsEndRefusal text front rest (refusals.Fault error) =
+      IsEndError text front rest error × IsNoEnd (chars rest)
+
+  -- the error of a fault of a URL, at `whole`, right before `rest`
+  pub record TellsUrl (text whole rest : List ℕ) (fault : E) (error : Pep508Error T E)
+      : Type 0 where
+    pub input : string_bytes error.input ≡ text
+    pub message : error.message ≡ sources.UrlError fault
+    pub place : IsSpanOf text whole error.start error.len
+    pub before : place.stands.back ≡ rest
+
+  -- a URL is refused for its size alone
+  abbrev pub is_of_size : (E → Bool) → Pep508ErrorSource T E → Bool
+  is_of_size tells_size (sources.String message) = false
+  is_of_size tells_size (sources.UrlError fault) = tells_size fault
+  is_of_size tells_size (sources.UnsupportedRequirement message) = false
 
   -- over the type of URLs: which values a text has, which faults are of size alone, and which texts
   -- may be too large
@@ -99,52 +104,58 @@ module _ {T E : Type 0} where
       pub none : tells_size fault ≡ false → (u : T) → ¬ names piece u
       pub large : tells_size fault ≡ true → may_overflow piece
 
-    abbrev pub IsUrlSource : List ℕ → Pep508ErrorSource T E → Type 0
-    IsUrlSource piece (sources.String message) = ⊥
-    IsUrlSource piece (sources.UrlError fault) = IsUrlFault piece fault
-    IsUrlSource piece (sources.UnsupportedRequirement message) = ⊥
+    -- the type of URLs refuses `given`, which is told at `whole`, right before `rest`
+    pub record IsUrlError (text whole given rest : List ℕ) (error : Pep508Error T E)
+        : Type 0 where
+      pub fault : E
+      pub told : TellsUrl text whole rest fault error
+      pub fault_is : IsUrlFault given fault
 
-    -- the text of a URL is asked, and the type of URLs refuses it
-    pub record IsUrlError (text : List ℕ) (asked : Asked) (error : Pep508Error T E) : Type 0 where
-      pub told : IsErrorIn text error
-      pub piece : List ℕ
-      pub is_url : asked ≡ url piece
-      pub source : IsUrlSource piece error.message
+    -- a URL is asked, and it is refused
+    abbrev pub IsAskedError : List ℕ → Asked → List ℕ → Pep508Error T E → Type 0
+    IsAskedError text nothing rest error = ⊥
+    IsAskedError text (specifiers set) rest error = ⊥
+    IsAskedError text (url piece) rest error = IsUrlError text piece piece rest error
 
-    -- a URL stands in the text behind `@`, and this is a fault of it
-    pub record HasUrlFault (text : List ℕ) (fault : E) : Type 0 where
-      pub rest : List ℕ
-      pub name : List ℕ
-      pub extras : List (List ℕ)
-      pub piece : List ℕ
-      pub head : IsHead (chars text) rest name extras (url piece)
-      pub fault_is : IsUrlFault piece fault
+    -- what is wrong with a text: up to its marker, with its URL, or behind that
+    pub data HasError (value : List ℕ → List ℕ) (text : List ℕ) (error : Pep508Error T E)
+        : Type 0 where
+      in_head : IsErrorBy (FindsInHead value text) text error → HasError value text error
+      in_url : (rest : List ℕ) {name : List ℕ} {extras : List (List ℕ)} {asked : Asked}
+          → IsHead (chars text) (chars rest) name extras asked
+          → IsAskedError text asked rest error → HasError value text error
+      in_end : (rest : List ℕ) {name : List ℕ} {extras : List (List ℕ)} {asked : Asked}
+          → IsHead (chars text) (chars rest) name extras asked
+          → IsEndError text (asked_url asked) rest error → HasError value text error
 
-    -- What the error says is so: the text is no requirement, unless its URL may be too large. A
-    -- name is missing only where a path, URL or archive stands in its place.
-    abbrev pub IsTrueOf : (List ℕ → List ℕ) → List ℕ → Pep508ErrorSource T E → Type 0
-    IsTrueOf value text (sources.String message) = IsUnread E names text
-    IsTrueOf value text (sources.UrlError fault) = HasUrlFault text fault
-        × (tells_size fault ≡ false → IsUnread E names text)
-    IsTrueOf value text (sources.UnsupportedRequirement message) = IsNameless value text
-        × IsUnread E names text
-
+    -- the text is no requirement, unless its URL may be too large, and the error says why
     pub record IsErrorOf (value : List ℕ → List ℕ) (text : List ℕ) (error : Pep508Error T E)
         : Type 0 where
-      pub told : IsErrorIn text error
-      pub source : IsTrueOf value text error.message
+      pub has : HasError value text error
+      pub unread : is_of_size tells_size error.message ≡ false → IsUnread E names text
 
     -- why a text is not read as a requirement
     abbrev pub IsRefusal : (List ℕ → List ℕ) → List ℕ → Refusal (Pep508Error T E) → Type 0
-    IsRefusal value text refusals.OutOfMemory = Unit {0}
+    IsRefusal value text refusals.OutOfMemory = ⊤
     IsRefusal value text refusals.SegmentAtEnd = RequirementOverflows E names text
     IsRefusal value text (refusals.Fault error) = IsErrorOf value text error
 
     -- why no requirement is read out of JSON: memory ran out, it is no string, or its text is
     -- refused
     abbrev pub IsJsonRefusal : (List ℕ → List ℕ) → List ℕ → Refusal (Pep508Error T E) → Type 0
-    IsJsonRefusal value json refusals.OutOfMemory = Unit {0}
+    IsJsonRefusal value json refusals.OutOfMemory = ⊤
     IsJsonRefusal value json refusals.SegmentAtEnd = (text : List ℕ) × IsStringOf json text
         × RequirementOverflows E names text
     IsJsonRefusal value json (refusals.Fault error) = TellsNoString json error
         ⊎ ((text : List ℕ) × IsStringOf json text × IsErrorOf value text error)
+
+  -- the same in surroundings
+  module _ (names : List ℕ → Surroundings → T → Type 0) (tells_size : E → Bool)
+      (may_overflow : List ℕ → Surroundings → Type 0) (surroundings : Surroundings) where
+    abbrev pub IsRefusalIn : List ℕ → Refusal (Pep508Error T E) → Type 0
+    IsRefusalIn = IsRefusal (urls_in names surroundings) tells_size
+        (λ piece. may_overflow piece surroundings) (value_of surroundings)
+
+    abbrev pub IsJsonRefusalIn : List ℕ → Refusal (Pep508Error T E) → Type 0
+    IsJsonRefusalIn = IsJsonRefusal (urls_in names surroundings) tells_size
+        (λ piece. may_overflow piece surroundings) (value_of surroundings)

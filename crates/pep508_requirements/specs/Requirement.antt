@@ -2,6 +2,7 @@
 -- the grammar speaks of their characters.
 use Rattle.std.specs.Prelude.{◌≡◌, ℕ, Bool, true, false, List, [], Option, Some, None, encode_utf8_all}
 use Rattle.std.specs.Str.{chars}
+use Rattle.pep508_errors.specs.declared.surroundings.Surroundings.{Surroundings}
 use Rattle.pep508_errors.specs.declared.warning.MarkerWarningKind.{MarkerWarningKind}
 use Rattle.marker_environment.specs.Valuation.{Valuation}
 use Rattle.marker_parts.specs.Expression.{Overflows}
@@ -29,6 +30,11 @@ pub record EndsWith (rest : List ℕ) (f : Option Formula) (kinds : Kinds) : Typ
   pub marker : Option (List ℕ)
   pub tail : IsTail rest marker
   pub says : ReadsMarker marker f kinds
+
+-- the values that a type of URLs has for a text in the surroundings
+abbrev pub urls_in : {T : Type 0} → (List ℕ → Surroundings → T → Type 0) → Surroundings
+    → List ℕ → T → Type 0
+urls_in names surroundings = λ piece url. names piece surroundings url
 
 module _ {T E : Type 0} (names : List ℕ → T → Type 0) where
   -- what is asked, with a value that the type of URLs has for the text of a URL

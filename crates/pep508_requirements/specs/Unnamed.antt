@@ -1,12 +1,11 @@
 -- A requirement without a name as a whole text, over any type of URLs. Texts are bytes, and the
 -- grammar speaks of their characters.
-use Rattle.std.specs.Prelude.{◌≡◌, ℕ, Bool, true, false, List, Option, Some}
+use Rattle.std.specs.Prelude.{◌≡◌, ⊤, ℕ, Bool, false, List, Option, Some}
 use Rattle.std.specs.Str.{chars}
 use Rattle.refusal.specs.declared.Refusal.{Refusal}
 use Rattle.refusal.specs.declared.Refusal.TheVariants as refusals
 use Rattle.pep508_errors.specs.declared.error.Pep508Error.{Pep508Error}
-use Rattle.pep508_errors.specs.declared.error.Pep508ErrorSource.{Pep508ErrorSource}
-use Rattle.pep508_errors.specs.declared.error.Pep508ErrorSource.TheVariants as sources
+use Rattle.pep508_errors.specs.declared.surroundings.Surroundings.{Surroundings}
 use Rattle.pep508_errors.specs.declared.warning.MarkerWarningKind.{MarkerWarningKind}
 use Rattle.marker_environment.specs.Valuation.{Valuation}
 use Rattle.marker_parts.specs.Expression.{Overflows}
@@ -16,16 +15,12 @@ use Rattle.marker_grammar.specs.Formula.{Formula}
 use Rattle.marker_grammar.specs.Formula as formulas
 use Rattle.marker_grammar.specs.HasTest.{Says}
 use Rattle.requirement_words.specs.Unnamed.{IsUnnamedHead}
-use Rattle.pep508_requirements.specs.Requirement.{EndsWith}
-use Rattle.pep508_requirements.specs.Refused.{IsErrorIn, IsSource, IsUrlFault}
+use Rattle.requirement_words.specs.Fault.{FindsInUnnamed}
+use Rattle.pep508_requirements.specs.Requirement.{EndsWith, urls_in}
+use Rattle.pep508_requirements.specs.Refused.{is_of_size, IsEndError, IsErrorBy, IsUrlError}
 
 abbrev Kinds : Type 0
 Kinds = List MarkerWarningKind
-
--- no requirement without a name begins there
-abbrev pub IsUnnamedHeadless : List ℕ → Type 0
-IsUnnamedHeadless text = (output whole given : List ℕ) (extras : List (List ℕ))
-    → ¬ IsUnnamedHead (chars text) output whole given extras
 
 module _ {U : Type 0} (names : List ℕ → U → Type 0) where
   -- The text is a URL with extras, and a marker that says this and warns of these kinds. The URL
@@ -71,38 +66,35 @@ module _ {U : Type 0} (names : List ℕ → U → Type 0) where
     pub means : (v : Valuation) → truth c t v ≡ formulas.truth formula v
 
 module _ {U E : Type 0} where
-  -- no requirement without a name begins in the text
-  pub record IsUnnamedHeadError (text : List ℕ) (error : Pep508Error U E) : Type 0 where
-    pub told : IsErrorIn text error
-    pub source : IsSource false error.message
-    pub headless : IsUnnamedHeadless text
-
   -- over the type of URLs: which values a text has, which faults are of size alone, and which texts
   -- may be too large
   module _ (names : List ℕ → U → Type 0) (tells_size : E → Bool)
       (may_overflow : List ℕ → Type 0) where
-    -- a URL stands in the text, and this is a fault of it
-    pub record HasUnnamedFault (text : List ℕ) (fault : E) : Type 0 where
-      pub rest : List ℕ
-      pub whole : List ℕ
-      pub given : List ℕ
-      pub extras : List (List ℕ)
-      pub head : IsUnnamedHead (chars text) rest whole given extras
-      pub fault_is : IsUrlFault names tells_size may_overflow given fault
+    -- what is wrong with a text: up to its marker, with its URL, or behind that
+    pub data HasUnnamedError (text : List ℕ) (error : Pep508Error U E) : Type 0 where
+      in_head : IsErrorBy (FindsInUnnamed text) text error → HasUnnamedError text error
+      in_url : {rest whole given : List ℕ} {extras : List (List ℕ)}
+          → IsUnnamedHead (chars text) (chars rest) whole given extras
+          → IsUrlError names tells_size may_overflow text whole given rest error
+          → HasUnnamedError text error
+      in_end : {rest whole given : List ℕ} {extras : List (List ℕ)}
+          → IsUnnamedHead (chars text) (chars rest) whole given extras
+          → IsEndError text whole rest error → HasUnnamedError text error
 
-    -- what the error says is so: the text is no such requirement, unless its URL may be too large
-    abbrev pub IsTrueOfUnnamed : List ℕ → Pep508ErrorSource U E → Type 0
-    IsTrueOfUnnamed text (sources.String message) = IsUnreadUnnamed names text
-    IsTrueOfUnnamed text (sources.UrlError fault) = HasUnnamedFault text fault
-        × (tells_size fault ≡ false → IsUnreadUnnamed names text)
-    IsTrueOfUnnamed text (sources.UnsupportedRequirement message) = ⊥
-
+    -- the text is no such requirement, unless its URL may be too large, and the error says why
     pub record IsUnnamedError (text : List ℕ) (error : Pep508Error U E) : Type 0 where
-      pub told : IsErrorIn text error
-      pub source : IsTrueOfUnnamed text error.message
+      pub has : HasUnnamedError text error
+      pub unread : is_of_size tells_size error.message ≡ false → IsUnreadUnnamed names text
 
     -- why a text is not read as a requirement without a name
     abbrev pub IsUnnamedRefusal : List ℕ → Refusal (Pep508Error U E) → Type 0
-    IsUnnamedRefusal text refusals.OutOfMemory = Unit {0}
+    IsUnnamedRefusal text refusals.OutOfMemory = ⊤
     IsUnnamedRefusal text refusals.SegmentAtEnd = UnnamedOverflows names text
     IsUnnamedRefusal text (refusals.Fault error) = IsUnnamedError text error
+
+  -- the same in surroundings
+  module _ (names : List ℕ → Surroundings → U → Type 0) (tells_size : E → Bool)
+      (may_overflow : List ℕ → Surroundings → Type 0) (surroundings : Surroundings) where
+    abbrev pub IsUnnamedRefusalIn : List ℕ → Refusal (Pep508Error U E) → Type 0
+    IsUnnamedRefusalIn = IsUnnamedRefusal (urls_in names surroundings) tells_size
+        (λ piece. may_overflow piece surroundings)

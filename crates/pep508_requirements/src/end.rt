@@ -5,7 +5,7 @@ ghost use Rattle.std.specs.Str.{chars};
 ghost use Rattle.pep508_text.specs.Suffix.{IsSuffix};
 ghost use Rattle.marker_graph.specs.Contents.{IsHeld, IsKept};
 ghost use Rattle.requirement_words.specs.Tail.{IsTail};
-ghost use Rattle.pep508_markers.specs.Text.{OnFault};
+ghost use Rattle.pep508_markers.specs.Text.{IsRefusalIn, OnFault};
 ghost use Rattle.pep508_requirements.specs.Requirement.{IsTreeOfEnd};
 ghost use Rattle.pep508_requirements.specs.Refused.{IsEndRefusal};
 
@@ -30,7 +30,7 @@ fn read_marker<T: Pep508Url>(
     ensures counts { interner.old.expansions ≤ interner.new.expansions }
     ensures held { IfOk result (λ r. IsHeld interner.new r.0) }
     ensures means { IfOk result (λ r. IsTreeOfEnd interner.new (chars rest.now) r.0 r.1.items) }
-    ensures refused { IfErr result (IsEndRefusal text.now (chars rest.now)) }
+    ensures refused { IfErr result (IsRefusalIn text.now marker.now) }
     ensures untouched { OnFault result (interner.new ≡ interner.old) }
 {
     match read_behind(text, marker, interner) {
@@ -54,7 +54,7 @@ pub(crate) fn read_end<T: Pep508Url>(
     ensures counts { interner.old.expansions ≤ interner.new.expansions }
     ensures held { IfOk result (λ r. IsHeld interner.new r.0) }
     ensures means { IfOk result (λ r. IsTreeOfEnd interner.new (chars rest.now) r.0 r.1.items) }
-    ensures refused { IfErr result (IsEndRefusal text.now (chars rest.now)) }
+    ensures refused { IfErr result (IsEndRefusal text.now url.now rest.now) }
     ensures untouched { OnFault result (interner.new ≡ interner.old) }
 {
     match read_tail(url, rest) {

@@ -2,8 +2,9 @@
 
 ghost use Rattle.std.specs.Prelude.{◌≡◌, IfErr, IfOk, List, ℕ};
 ghost use Rattle.std.specs.Str.{chars};
-ghost use Rattle.requirement_words.specs.Extras.{IsExtras};
-ghost use Rattle.pep508_requirements.specs.Refused.{IsExtrasError, OnError};
+ghost use Rattle.requirement_words.specs.Extras.{HasNoExtras, IsExtras};
+ghost use Rattle.requirement_words.specs.Fault.{FindsInExtras};
+ghost use Rattle.pep508_requirements.specs.Refused.{IsRefusedBy};
 
 use crate::error::refusal_of_fault;
 use pep508_errors::{Pep508Error, Pep508Url};
@@ -22,13 +23,14 @@ impl Extras {
     /// Reads the extras in brackets at the front of a text, and ignores what follows them. There
     /// are none where no bracket stands in front.
     ///
-    /// Where a bracket stands there and no extras are read, the fault has the message, the place
-    /// and the text. A refusal is never `SegmentAtEnd`.
-    #[tactic(auto, using(crate::proofs::ErrorLaws::extras_error))]
+    /// # Errors
+    /// - [`Refusal::OutOfMemory`] when memory runs out.
+    /// - [`Refusal::Fault`] if a bracket is there and no extras are, with what is wrong and where.
     pub fn parse<T: Pep508Url>(alloc: Global, text: &str) -> Result<Extras, Refusal<Pep508Error<T>>>
         ensures found { IfOk result (λ extras.
             (rest : List ℕ) × IsExtras (chars text.now) rest extras.names.items) }
-        ensures refused { IfErr result (OnError (IsExtrasError text.now)) }
+        ensures refused { IfErr result
+            (IsRefusedBy (FindsInExtras (chars text.now)) (HasNoExtras (chars text.now)) text.now) }
     {
         match read_extras(alloc, text) {
             Ok((names, _)) => Ok(Extras { names }),

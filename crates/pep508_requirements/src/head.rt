@@ -1,12 +1,13 @@
 //! A requirement up to its marker, with a value for its URL.
 
-ghost use Rattle.std.specs.Prelude.{◌≡◌, ◌++◌, IfErr, IfOk, List, ℕ};
+ghost use Rattle.std.specs.Prelude.{◌≡◌, ◌++◌, IfErr, IfOk};
 ghost use Rattle.std.specs.Str.{chars};
 ghost use Rattle.pep508_text.specs.Suffix.{IsSuffix};
 ghost use Rattle.pep508_urls.specs.Variables.{value_of};
-ghost use Rattle.requirement_words.specs.Head.{asked_of, IsHead, url};
-ghost use Rattle.pep508_requirements.specs.Requirement.{IsWanted};
-ghost use Rattle.pep508_requirements.specs.Refused.{IsHeadError, IsUrlError, OnError, url_text};
+ghost use Rattle.requirement_words.specs.Fault.{FindsInHead};
+ghost use Rattle.requirement_words.specs.Head.{asked_of, HasNoHead, IsHead};
+ghost use Rattle.pep508_requirements.specs.Requirement.{IsWanted, urls_in};
+ghost use Rattle.pep508_requirements.specs.Refused.{asked_url, IsAskedError, IsRefusedBy, OnError};
 
 use crate::error::{refusal_of_fault, refusal_of_url};
 use crate::version_or_url::VersionOrUrl;
@@ -16,7 +17,6 @@ use requirement_words::{Asked, Head, read_head};
 use std::alloc::Global;
 
 // A requirement up to its marker, and what follows it.
-#[tactic(auto, using(crate::proofs::ErrorLaws::head_error))]
 pub(crate) fn read_named<'a, T: Pep508Url>(
     alloc: Global,
     text: &'a str,
@@ -24,13 +24,13 @@ pub(crate) fn read_named<'a, T: Pep508Url>(
 ) -> Result<(Head<'a>, &'a str), Refusal<Pep508Error<T>>>
     ensures found { IfOk result (λ x. IsHead (chars text.now) (chars x.1.now) x.0.name
         x.0.extras.items (asked_of x.0.asked)) }
-    ensures refused { IfErr result
-        (OnError (IsHeadError (value_of surroundings.now) text.now)) }
+    ensures refused { IfErr result (IsRefusedBy
+        (FindsInHead (value_of surroundings.now) text.now) (HasNoHead (chars text.now)) text.now) }
     ensures suffix { IfOk result (λ x. IsSuffix text.now x.1.now) }
 
     // A URL stands right before what follows it.
     ensures placed { IfOk result (λ x. IsSuffix text.now
-        (url_text (asked_of x.0.asked) ++ x.1.now)) }
+        (asked_url (asked_of x.0.asked) ++ x.1.now)) }
 {
     match read_head(alloc, text, surroundings) {
         Ok((head, rest)) => Ok((head, rest)),
@@ -41,7 +41,7 @@ pub(crate) fn read_named<'a, T: Pep508Url>(
 
 // The text of the URL that is asked, or none.
 pub(crate) fn written_url<'a>(asked: &Asked<'a>) -> &'a str
-    ensures { result.now ≡ url_text (asked_of asked.now) }
+    ensures { result.now ≡ asked_url (asked_of asked.now) }
 {
     match asked {
         Asked::Url(url) => *url,
@@ -57,12 +57,13 @@ pub(crate) fn read_version_or_url<T: Pep508Url>(
     rest: &str,
     surroundings: &Surroundings<'_>,
 ) -> Result<Option<VersionOrUrl<T>>, Refusal<Pep508Error<T>>>
-    requires { IsSuffix text.now (url_text (asked_of asked) ++ rest.now) }
+    requires { IsSuffix text.now (asked_url (asked_of asked) ++ rest.now) }
     ensures found { IfOk result
-        (IsWanted (λ piece url. T.names piece surroundings.now url) (asked_of asked.entry)) }
-    ensures refused { IfErr result (OnError (IsUrlError
-        (λ piece url. T.names piece surroundings.now url) T.tells_size
-        (λ piece. T.may_overflow piece surroundings.now) text.now (asked_of asked.entry))) }
+        (IsWanted (urls_in T.names surroundings.now) (asked_of asked.entry)) }
+    ensures refused { IfErr result (OnError (λ error. IsAskedError
+        (urls_in T.names surroundings.now) T.tells_size
+        (λ piece. T.may_overflow piece surroundings.now)
+        text.now (asked_of asked.entry) rest.now error)) }
 {
     match asked {
         Asked::Nothing => Ok(None),

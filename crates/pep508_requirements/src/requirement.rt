@@ -7,9 +7,8 @@ ghost use Rattle.marker_parts.specs.Reporting.{HasBegun};
 ghost use Rattle.marker_graph.specs.Contents.{IsHeld, IsKept};
 ghost use Rattle.pep508_markers.specs.Json.{IsStringOf};
 ghost use Rattle.pep508_markers.specs.Text.{OnFault, OnRefusedText};
-ghost use Rattle.pep508_urls.specs.Variables.{value_of};
-ghost use Rattle.pep508_requirements.specs.Requirement.{IsMarkedBy, IsReadAs};
-ghost use Rattle.pep508_requirements.specs.Refused.{IsJsonRefusal, IsRefusal};
+ghost use Rattle.pep508_requirements.specs.Requirement.{IsMarkedBy, IsReadAs, urls_in};
+ghost use Rattle.pep508_requirements.specs.Refused.{IsJsonRefusalIn, IsRefusalIn};
 
 use crate::end::read_end;
 use crate::head::{read_named, read_version_or_url, written_url};
@@ -60,12 +59,11 @@ fn read<T: Pep508Url>(
     ensures counts { interner.old.expansions ≤ interner.new.expansions }
     ensures held { IfOk result (λ r. IsHeld interner.new r.0.marker) }
     ensures means { IfOk result (λ r. IsReadAs
-        (λ piece url. T.names piece surroundings.now url) interner.new text.now r.0.name
+        (urls_in T.names surroundings.now) interner.new text.now r.0.name
         r.0.extras.items r.0.version_or_url r.0.marker r.1.items) }
     ensures unknown { IfOk result (λ r. r.0.origin ≡ None) }
-    ensures refused { IfErr result (IsRefusal
-        (λ piece url. T.names piece surroundings.now url) T.tells_size
-        (λ piece. T.may_overflow piece surroundings.now) (value_of surroundings.now) text.now) }
+    ensures refused { IfErr result (IsRefusalIn
+        T.names T.tells_size T.may_overflow surroundings.now text.now) }
     ensures untouched { OnFault result (interner.new ≡ interner.old) }
 {
     let alloc = interner.allocator();
@@ -112,12 +110,11 @@ impl<T: Pep508Url> Requirement<T> {
         ensures counts { interner.old.expansions ≤ interner.new.expansions }
         ensures held { IfOk result (λ r. IsHeld interner.new r.marker) }
         ensures means { IfOk result (λ r. (kinds : List MarkerWarningKind)
-            × IsReadAs (λ piece url. T.names piece surroundings.now url) interner.new text.now
+            × IsReadAs (urls_in T.names surroundings.now) interner.new text.now
             r.name r.extras.items r.version_or_url r.marker kinds) }
         ensures unknown { IfOk result (λ r. r.origin ≡ None) }
-        ensures refused { IfErr result (IsRefusal
-            (λ piece url. T.names piece surroundings.now url) T.tells_size
-            (λ piece. T.may_overflow piece surroundings.now) (value_of surroundings.now) text.now) }
+        ensures refused { IfErr result (IsRefusalIn
+            T.names T.tells_size T.may_overflow surroundings.now text.now) }
         ensures untouched { OnFault result (interner.new ≡ interner.old) }
     {
         match read(text, surroundings, interner) {
@@ -146,18 +143,17 @@ impl<T: Pep508Url> Requirement<T> {
         ensures counts { interner.old.expansions ≤ interner.new.expansions }
         ensures held { IfOk result (λ r. IsHeld interner.new r.marker) }
         ensures means { IfOk result (λ r. (kinds : List MarkerWarningKind)
-            × IsReadAs (λ piece url. T.names piece surroundings.now url) interner.new text.now
+            × IsReadAs (urls_in T.names surroundings.now) interner.new text.now
             r.name r.extras.items r.version_or_url r.marker kinds
             × Adds (R.kinds reporter.old) (R.kinds reporter.new) kinds) }
         ensures unknown { IfOk result (λ r. r.origin ≡ None) }
-        ensures refused { IfErr result (IsRefusal
-            (λ piece url. T.names piece surroundings.now url) T.tells_size
-            (λ piece. T.may_overflow piece surroundings.now) (value_of surroundings.now) text.now) }
+        ensures refused { IfErr result (IsRefusalIn
+            T.names T.tells_size T.may_overflow surroundings.now text.now) }
         ensures untouched { OnFault result (interner.new ≡ interner.old) }
         ensures unreported { IfErr result (λ refusal. OnRefusedText refusal
             (Keeps (R.kinds reporter.old) (R.kinds reporter.new))) }
         ensures begun { IfErr result (λ _. HasBegun
-            (IsMarkedBy T.Err (λ piece url. T.names piece surroundings.now url))
+            (IsMarkedBy T.Err (urls_in T.names surroundings.now))
             text.now (R.kinds reporter.old) (R.kinds reporter.new)) }
         ensures again { R.can_report reporter.new }
     {
@@ -184,12 +180,11 @@ impl<T: Pep508Url> Requirement<T> {
         ensures held { IfOk result (λ r. IsHeld interner.new r.marker) }
         ensures means { IfOk result (λ r. (text : List ℕ) × (kinds : List MarkerWarningKind)
             × IsStringOf json.now text
-            × IsReadAs (λ piece url. T.names piece surroundings.now url) interner.new text
+            × IsReadAs (urls_in T.names surroundings.now) interner.new text
             r.name r.extras.items r.version_or_url r.marker kinds) }
         ensures unknown { IfOk result (λ r. r.origin ≡ None) }
-        ensures refused { IfErr result (IsJsonRefusal
-            (λ piece url. T.names piece surroundings.now url) T.tells_size
-            (λ piece. T.may_overflow piece surroundings.now) (value_of surroundings.now) json.now) }
+        ensures refused { IfErr result (IsJsonRefusalIn
+            T.names T.tells_size T.may_overflow surroundings.now json.now) }
         ensures untouched { OnFault result (interner.new ≡ interner.old) }
     {
         let alloc = interner.allocator();

@@ -8,7 +8,8 @@ ghost use Rattle.marker_parts.specs.Reporting.{HasBegun};
 ghost use Rattle.marker_walks.specs.Possible.{IsImpossible, IsPossible};
 ghost use Rattle.marker_graph.specs.Contents.{IsHeld, IsKept, truth};
 ghost use Rattle.pep508_markers.specs.Text.{OnFault, OnRefusedText};
-ghost use Rattle.pep508_requirements.specs.Unnamed.{IsUnnamedMarkedBy, IsUnnamedReadAs, IsUnnamedRefusal};
+ghost use Rattle.pep508_requirements.specs.Requirement.{urls_in};
+ghost use Rattle.pep508_requirements.specs.Unnamed.{IsUnnamedMarkedBy, IsUnnamedReadAs, IsUnnamedRefusalIn};
 
 use crate::end::read_end;
 use crate::origin::RequirementOrigin;
@@ -58,12 +59,11 @@ fn read<Url: UnnamedRequirementUrl>(
     ensures counts { interner.old.expansions ≤ interner.new.expansions }
     ensures held { IfOk result (λ r. IsHeld interner.new r.0.marker) }
     ensures means { IfOk result (λ r. IsUnnamedReadAs
-        (λ piece url. Url.names piece surroundings.now url) Url.given_text interner.new text.now
+        (urls_in Url.names surroundings.now) Url.given_text interner.new text.now
         r.0.url r.0.extras.items r.0.marker r.1.items) }
     ensures unknown { IfOk result (λ r. r.0.origin ≡ None) }
-    ensures refused { IfErr result (IsUnnamedRefusal
-        (λ piece url. Url.names piece surroundings.now url) Url.tells_size
-        (λ piece. Url.may_overflow piece surroundings.now) text.now) }
+    ensures refused { IfErr result (IsUnnamedRefusalIn
+        Url.names Url.tells_size Url.may_overflow surroundings.now text.now) }
     ensures untouched { OnFault result (interner.new ≡ interner.old) }
 {
     let alloc = interner.allocator();
@@ -115,18 +115,17 @@ impl<Url: UnnamedRequirementUrl> UnnamedRequirement<Url> {
         ensures counts { interner.old.expansions ≤ interner.new.expansions }
         ensures held { IfOk result (λ r. IsHeld interner.new r.marker) }
         ensures means { IfOk result (λ r. (kinds : List MarkerWarningKind)
-            × IsUnnamedReadAs (λ piece url. Url.names piece surroundings.now url) Url.given_text
+            × IsUnnamedReadAs (urls_in Url.names surroundings.now) Url.given_text
             interner.new text.now r.url r.extras.items r.marker kinds
             × Adds (R.kinds reporter.old) (R.kinds reporter.new) kinds) }
         ensures unknown { IfOk result (λ r. r.origin ≡ None) }
-        ensures refused { IfErr result (IsUnnamedRefusal
-            (λ piece url. Url.names piece surroundings.now url) Url.tells_size
-            (λ piece. Url.may_overflow piece surroundings.now) text.now) }
+        ensures refused { IfErr result (IsUnnamedRefusalIn
+            Url.names Url.tells_size Url.may_overflow surroundings.now text.now) }
         ensures untouched { OnFault result (interner.new ≡ interner.old) }
         ensures unreported { IfErr result (λ refusal. OnRefusedText refusal
             (Keeps (R.kinds reporter.old) (R.kinds reporter.new))) }
         ensures begun { IfErr result (λ _. HasBegun
-            (IsUnnamedMarkedBy (λ piece url. Url.names piece surroundings.now url))
+            (IsUnnamedMarkedBy (urls_in Url.names surroundings.now))
             text.now (R.kinds reporter.old) (R.kinds reporter.new)) }
         ensures again { R.can_report reporter.new }
     {

@@ -7,10 +7,10 @@ ghost use Rattle.pep508_text.specs.Suffix.{IsSuffix};
 ghost use Rattle.refusal.specs.Refused.{IfFault};
 ghost use Rattle.pep508_urls.specs.Meaning.{meaning_of};
 ghost use Rattle.pep508_urls.specs.Unnamed.{EachMayOverflow, MakesNamed, NamesNone};
-ghost use Rattle.requirement_words.specs.Head.{url};
-ghost use Rattle.requirement_words.specs.Unnamed.{IsUnnamedHead};
-ghost use Rattle.pep508_requirements.specs.Refused.{IsUrlError, OnError};
-ghost use Rattle.pep508_requirements.specs.Unnamed.{IsUnnamedHeadError};
+ghost use Rattle.requirement_words.specs.Fault.{FindsInUnnamed};
+ghost use Rattle.requirement_words.specs.Unnamed.{HasNoUnnamedHead, IsUnnamedHead};
+ghost use Rattle.pep508_requirements.specs.Requirement.{urls_in};
+ghost use Rattle.pep508_requirements.specs.Refused.{IsRefusedBy, IsUrlError, OnError};
 
 use crate::error::{refusal_of_fault, refusal_of_url};
 use pep508_errors::{Pep508Error, Surroundings};
@@ -20,14 +20,14 @@ use requirement_words::{UnnamedHead, read_unnamed_head};
 use std::alloc::Global;
 
 // A requirement without a name up to its marker, and what follows it.
-#[tactic(auto, using(crate::proofs::ErrorLaws::unnamed_head_error))]
 pub(crate) fn read_unnamed<'a, Url: UnnamedRequirementUrl>(
     alloc: Global,
     text: &'a str,
 ) -> Result<(UnnamedHead<'a>, &'a str), Refusal<Pep508Error<Url>>>
     ensures found { IfOk result (λ x. IsUnnamedHead (chars text.now) (chars x.1.now)
         x.0.given.now x.0.url.now x.0.extras.items) }
-    ensures refused { IfErr result (OnError (IsUnnamedHeadError text.now)) }
+    ensures refused { IfErr result
+        (IsRefusedBy (FindsInUnnamed text.now) (HasNoUnnamedHead (chars text.now)) text.now) }
     ensures suffix { IfOk result (λ x. IsSuffix text.now x.1.now) }
 
     // The URL as it is written stands right before what follows it.
@@ -100,9 +100,10 @@ pub(crate) fn unnamed_url<Url: UnnamedRequirementUrl>(
     requires { IsSuffix text.now (whole.now ++ rest.now) }
     ensures value { IfOk result (λ url. Url.names given.now surroundings.now url) }
     ensures given { IfOk result (λ url. Url.given_text url ≡ Some given.now) }
-    ensures refused { IfErr result (OnError (IsUrlError
-        (λ piece url. Url.names piece surroundings.now url) Url.tells_size
-        (λ piece. Url.may_overflow piece surroundings.now) text.now (url given.now))) }
+    ensures refused { IfErr result (OnError (λ error. IsUrlError
+        (urls_in Url.names surroundings.now) Url.tells_size
+        (λ piece. Url.may_overflow piece surroundings.now)
+        text.now whole.now given.now rest.now error)) }
 {
     match given_url(alloc, given, surroundings) {
         Ok(url) => Ok(url),
