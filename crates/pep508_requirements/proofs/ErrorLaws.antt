@@ -12,7 +12,7 @@ use Rattle.marker_words.specs.Fault.{IsSpanOf}
 use Rattle.requirement_words.specs.declared.fault.Fault.{Fault}
 use Rattle.requirement_words.specs.declared.fault.FaultKind.{FaultKind}
 use Rattle.requirement_words.specs.Fault.{IsFaultBy, IsRefused}
-use Rattle.pep508_requirements.specs.Refused.{HasMessage, TellsFault, IsErrorBy, OnError, IsRefusedBy, IsUrlFault, TellsUrl, IsUrlError}
+use Rattle.pep508_requirements.specs.Refused.{HasMessage, TellsFault, IsErrorBy, OnError, IsRefusedBy, TellsUrl, IsUrlError}
 
 pub covers_of : (t n left : ℕ) → t - left < t → cond (eqb left 0) 1 n ≡ n
 covers_of t n left inside = len_inside left n (omega arith)

@@ -1,6 +1,6 @@
 -- The orders of requirements' views, of what is asked, and of origins: of two variants the one that
 -- is declared first, and else by fields in turn.
-use Rattle.std.specs.Prelude.{ℕ, List, Option}
+use Rattle.std.specs.Prelude.{ℕ, List}
 use Rattle.std.specs.Cmp.Lexicographic.{slice_cmp}
 use Rattle.std.specs.Option.{option_cmp}
 use Rattle.std.specs.Ordering.{nat_cmp, on, ordering_then, then_cmp}

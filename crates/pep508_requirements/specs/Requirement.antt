@@ -1,6 +1,6 @@
 -- A requirement as a whole text (PEP 508, "Grammar"), over any type of URLs. Texts are bytes, and
 -- the grammar speaks of their characters.
-use Rattle.std.specs.Prelude.{◌≡◌, ℕ, Bool, true, false, List, [], Option, Some, None, encode_utf8_all}
+use Rattle.std.specs.Prelude.{◌≡◌, ℕ, List, [], Option, Some, None, encode_utf8_all}
 use Rattle.std.specs.Str.{chars}
 use Rattle.pep508_errors.specs.declared.surroundings.Surroundings.{Surroundings}
 use Rattle.pep508_errors.specs.declared.warning.MarkerWarningKind.{MarkerWarningKind}

@@ -6,7 +6,7 @@ use Rattle.pep508_errors.specs.declared.surroundings.Surroundings.{Surroundings}
 use Rattle.pep508_errors.specs.declared.warning.MarkerWarningKind.{MarkerWarningKind}
 use Rattle.marker_environment.specs.Valuation.{Valuation}
 use Rattle.marker_graph.specs.declared.tree.MarkerTree.{MarkerTree}
-use Rattle.marker_graph.specs.Contents.{Contents, truth}
+use Rattle.marker_graph.specs.Contents.{Contents}
 use Rattle.marker_readable.specs.Readable.{IsReadableTruth}
 use Rattle.marker_readable.specs.Text.{TellsText}
 use Rattle.pep508_markers.specs.Json.{string_of, IsStringOf}

@@ -1,4 +1,4 @@
-use Rattle.std.proofs.Common.{◌≡◌, IfErr, ℕ, List, Option, false, option_copied, sym, ap, subst}
+use Rattle.std.proofs.Common.{◌≡◌, IfErr, false, option_copied, sym, ap, subst}
 use Rattle.refusal.specs.Refused.{IfFault}
 use Rattle.pep508_urls.specs.Meaning.{Meaning, is_url, meaning_of}
 use Rattle.pep508_urls.specs.Unnamed.{NamesNone}
