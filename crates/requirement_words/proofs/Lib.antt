@@ -4,7 +4,6 @@ pub mod ExtrasLaws
 pub mod FaultLaws
 pub mod HeadLaws
 pub mod HeadText
-pub mod KindLaws
 pub mod NameEnds
 pub mod NameText
 pub mod NamelessLaws
