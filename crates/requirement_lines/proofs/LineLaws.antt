@@ -15,31 +15,11 @@ no_return c e = go (c == 13) refl
     go false h = h
     go true h = let bad : is_break 13 ≡ false = subst (λ (n : ℕ). is_break n ≡ false) (eqb-true c 13 h) e in absurd cc
 
--- a line feed is no carriage return
-feed_is_single : (c : ℕ) (ps : List Character) → (c == 10) ≡ true → (c == 13) && begins_with 10 ps ≡ false
-feed_is_single c ps h = subst (λ (n : ℕ). (n == 13) && begins_with 10 ps ≡ false) (sym (eqb-true c 10 h)) refl
-
-feed_breaks : (c : ℕ) → (c == 10) ≡ true → is_break c ≡ true
-feed_breaks c h = subst (λ (n : ℕ). is_break n ≡ true) (sym (eqb-true c 10 h)) refl
-
 single-kept : (p : Character) (ps : List Character) → (p.char == 13) && begins_with 10 ps ≡ false → single_breaks (p ∷ ps) ≡ p ∷ single_breaks ps
 single-kept p ps e = ap (λ b. cond b (single_breaks ps) (p ∷ single_breaks ps)) e
 
-broken-ends : (p : Character) (ps : List Character) → is_break p.char ≡ true → broken_lines (p ∷ ps) ≡ [] ∷ broken_lines ps
-broken-ends p ps e = ap (λ b. cond b ([] ∷ broken_lines ps) (with_first p (broken_lines ps))) e
-
 broken-goes_on : (p : Character) (ps : List Character) → is_break p.char ≡ false → broken_lines (p ∷ ps) ≡ with_first p (broken_lines ps)
 broken-goes_on p ps e = ap (λ b. cond b ([] ∷ broken_lines ps) (with_first p (broken_lines ps))) e
-
--- a break by itself
-pub lines-single : (p : Character) (ps : List Character) → is_break p.char ≡ true → (p.char == 13) && begins_with 10 ps ≡ false → physical_lines (p ∷ ps) ≡ [] ∷ physical_lines ps
-lines-single p ps ends single = ap broken_lines (single-kept p ps single) ∙ broken-ends p (single_breaks ps) ends
-
--- a carriage return with its line feed
-pub lines-double : (p q : Character) (ps : List Character) → (p.char == 13) ≡ true → (q.char == 10) ≡ true → physical_lines (p ∷ (q ∷ ps)) ≡ [] ∷ physical_lines ps
-lines-double p q ps return feed =
-    let dropped : single_breaks (p ∷ (q ∷ ps)) ≡ single_breaks (q ∷ ps) = ap (λ b. cond (b && (q.char == 10)) (single_breaks (q ∷ ps)) (p ∷ single_breaks (q ∷ ps))) return ∙ ap (λ b. cond b (single_breaks (q ∷ ps)) (p ∷ single_breaks (q ∷ ps))) feed in
-    ap broken_lines dropped ∙ lines-single q ps (feed_breaks q.char feed) (feed_is_single q.char ps feed)
 
 -- a character in a line
 pub lines-goes_on : (p : Character) (ps : List Character) → is_break p.char ≡ false → physical_lines (p ∷ ps) ≡ with_first p (physical_lines ps)
@@ -72,9 +52,6 @@ pub record InLine (whole rest : List Character) : Type 0 where
   pub front : List Character
   pub parts : whole ≡ front ++ rest
   pub plain : IsPlain front
-
-pub in_line_none : (whole : List Character) → InLine whole whole
-in_line_none whole = record { front = []; parts = refl; plain = tt }
 
 pub in_line_more : {whole rest ps : List Character} (p : Character) → InLine whole rest → rest ≡ p ∷ ps → is_break p.char ≡ false → InLine whole ps
 in_line_more {whole} {rest} {ps} p i begins e = record {

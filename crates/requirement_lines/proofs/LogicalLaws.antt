@@ -16,11 +16,6 @@ use Rattle.requirement_lines.specs.declared.sets.Mark.{Mark}
 
 -- ---- lines that are joined
 
--- nothing before the lines changes nothing
-pub trimmed_lines-nil : (lines : List (List Character)) → trimmed_lines (with_front [] lines) ≡ trimmed_lines lines
-trimmed_lines-nil [] = refl
-trimmed_lines-nil (line ∷ lines) = refl
-
 with_front-with_front : (before part : List Character) (lines : List (List Character)) → with_front before (with_front part lines) ≡ with_front (before ++ part) lines
 with_front-with_front before part [] = refl
 with_front-with_front before part (line ∷ lines) = ap (λ (x : List Character). x ∷ lines) (sym (append_assoc before part line))
@@ -34,9 +29,6 @@ joined-ended line lines e = ap (λ b. cond b (with_front (part_of line) (joined 
 -- the logical lines of the whole begin with these parts, and `rest` is still to be looked at
 pub record Joins (whole parts rest : List Character) : Type 0 where
   pub lines : logical_lines whole ≡ trimmed_lines (with_front parts (joined (physical_lines rest)))
-
-pub joins_none : (whole : List Character) → Joins whole [] whole
-joins_none whole = record { lines = sym (trimmed_lines-nil (joined (physical_lines whole))) }
 
 pub joins_more : {whole parts rest after line part new : List Character} → Joins whole parts rest → physical_lines rest ≡ line ∷ physical_lines after → is_continued line ≡ true → part ≡ part_of line → new ≡ parts ++ part → Joins whole new after
 joins_more {whole} {parts} {rest} {after} {line} {part} {new} j first e part_is new_is = record {
@@ -56,10 +48,6 @@ joins_last {whole} {parts} {rest} j none = j.lines ∙ ap (λ x. trimmed_lines (
 
 pub with_text-nil : {line : List Character} (lines : List (List Character)) → line ≡ [] → with_text line lines ≡ lines
 with_text-nil lines e = ap (λ x. with_text x lines) e
-
-pub with_text-some : (line : List Character) (lines : List (List Character)) → line ≢ [] → with_text line lines ≡ line ∷ lines
-with_text-some [] lines some = absurd (some refl)
-with_text-some (p ∷ ps) lines some = refl
 
 -- ---- cut before a mark
 

@@ -1,18 +1,16 @@
 -- Places of the characters of a text that is cut, and lists of characters.
 use Rattle.std.proofs.Common.{◌≡◌, ℕ, Bool, true, false, cond, ◌+◌, ◌-◌, List, [], ◌∷◌, ◌++◌, length, refl, sym, ap, ◌∙◌, subst, append_assoc, take, arith, length-append, IsUtf8}
-use Rattle.std.specs.Prelude.{encode_utf8, encode_utf8_all, reverse, ◌&&◌, None, Some}
+use Rattle.std.specs.Prelude.{encode_utf8, encode_utf8_all, ◌&&◌, None}
 use Rattle.std.specs.Char.{len_utf8}
 use Rattle.std.specs.Str.{chars, IsCharBoundary}
-use Rattle.std.proofs.lemmas.List.{append-nil, append_cancel_right, reverse-append, reverse-reverse, take_at}
+use Rattle.std.proofs.lemmas.List.{append-nil, append_cancel_right, take_at}
 use Rattle.std.proofs.lemmas.Str.{chars-append, chars-nil, encodes-chars, length-encode}
 use Rattle.pep508_text.specs.Suffix.{IsSuffix}
 use Rattle.pep508_text.proofs.SuffixLaws.{suffix_begins}
 use Rattle.requirement_lines.specs.Character.{Character, left_after, after, characters_at, start_of, characters}
-use Rattle.requirement_lines.specs.Ends.{holds, skip, skip_back}
 use Rattle.requirement_lines.specs.Pieces.{IsEnd, characters_of}
 use Rattle.requirement_lines.specs.Marks.{is_mark, opens, before, may_follow}
 use Rattle.requirement_lines.specs.declared.sets.Mark.{Mark}
-use Rattle.requirement_lines.specs.declared.sets.CharacterSet.{CharacterSet}
 use Rattle.requirement_lines.specs.declared.pieces.Piece.{Piece}
 use Rattle.requirement_lines.specs.declared.places.Place.{Place}
 use Rattle.requirement_lines.specs.declared.places.Source.{Source}
@@ -61,19 +59,6 @@ end_then {a} {b} {c} s t = record {
 
 -- ---- runs at the front and at the back
 
-pub skip-holds : (set : CharacterSet) (p : Character) (ps : List Character) → holds set p.char ≡ true → skip set (p ∷ ps) ≡ skip set ps
-skip-holds set p ps e = ap (λ b. cond b (skip set ps) (p ∷ ps)) e
-
-pub skip-fails : (set : CharacterSet) (p : Character) (ps : List Character) → holds set p.char ≡ false → skip set (p ∷ ps) ≡ p ∷ ps
-skip-fails set p ps e = ap (λ b. cond b (skip set ps) (p ∷ ps)) e
-
-pub skip_back-holds : (set : CharacterSet) (p : Character) (ps : List Character) → holds set p.char ≡ true → skip_back set (ps ++ (p ∷ [])) ≡ skip_back set ps
-skip_back-holds set p ps e = ap reverse (ap (skip set) (reverse-append ps (p ∷ [])) ∙ skip-holds set p (reverse ps) e)
-
-pub skip_back-fails : (set : CharacterSet) (p : Character) (ps : List Character) → holds set p.char ≡ false → skip_back set (ps ++ (p ∷ [])) ≡ ps ++ (p ∷ [])
-skip_back-fails set p ps e =
-    ap reverse (ap (skip set) (reverse-append ps (p ∷ [])) ∙ skip-fails set p (reverse ps) e ∙ sym (reverse-append ps (p ∷ []))) ∙ reverse-reverse (ps ++ (p ∷ []))
-
 -- ---- a piece that is cut before its end
 
 pub end_suffix : {whole rest : Piece} → IsEnd whole rest → IsSuffix whole.text.now rest.text.now
@@ -114,9 +99,6 @@ pub record Cuts (mark : Mark) (may now : Bool) (whole rest : List Character) : T
   pub kept : before mark may whole ≡ front ++ before mark now rest
   pub follow : may_follow mark may whole ≡ may_follow mark now rest
 
-pub cuts_none : (mark : Mark) (may : Bool) (whole : List Character) → Cuts mark may may whole whole
-cuts_none mark may whole = record { front = []; parts = refl; kept = refl; follow = refl }
-
 cuts_one : {mark : Mark} {may now : Bool} {whole ps : List Character} (p : Character) → Cuts mark may now whole (p ∷ ps) → now && is_mark mark p.char ≡ false → Cuts mark may (opens mark p.char) whole ps
 cuts_one {mark} {may} {now} {whole} {ps} p passed fails = record {
   front = passed.front ++ (p ∷ []);
@@ -135,12 +117,6 @@ cuts_found {mark} {may} {now} {whole} {rest} {ps} shown p passed begins found pa
       sym (passed.kept ∙ ap (λ (x : List Character). passed.front ++ before mark now x) begins ∙ ap (λ b. passed.front ++ cond b [] (p ∷ before mark (opens mark p.char) ps)) found ∙ append-nil passed.front ∙ front_is),
       sym (passed.follow ∙ ap (may_follow mark now) begins ∙ ap (λ b. cond b None (may_follow mark (opens mark p.char) ps)) found),
     )
-
-pub cuts_end : {mark : Mark} {may now : Bool} {whole rest : List Character} → Cuts mark may now whole rest → rest ≡ [] → (whole ≡ before mark may whole) × (Some now ≡ may_follow mark may whole)
-cuts_end {mark} {may} {now} {whole} {rest} passed none = (
-  passed.parts ∙ ap (λ (x : List Character). passed.front ++ x) none ∙ sym (passed.kept ∙ ap (λ (x : List Character). passed.front ++ before mark now x) none),
-  sym (passed.follow ∙ ap (may_follow mark now) none),
-)
 
 -- ---- texts with no character
 

@@ -1,10 +1,9 @@
 -- Positions, character by character.
 use Rattle.std.proofs.Common.{◌≡◌, ℕ, ◌+◌, ◌<◌, ◌≤◌, Bool, true, false, cond, List, [], ◌∷◌, length, sym, ap, ◌∙◌, subst, arith, IsUtf8}
-use Rattle.std.specs.Str.{chars}
-use Rattle.std.proofs.lemmas.Bool.{lt-ltb, le-ltb}
+use Rattle.std.proofs.lemmas.Bool.{lt-ltb}
 use Rattle.pep508_text.specs.Suffix.{IsSuffix}
 use Rattle.pep508_text.proofs.SuffixLaws.{suffix_self, suffix_then, suffix_length}
-use Rattle.requirement_lines.specs.Character.{Character, characters_at, start_of, characters}
+use Rattle.requirement_lines.specs.Character.{Character, start_of, characters}
 use Rattle.requirement_lines.specs.Pieces.{IsEnd, characters_of}
 use Rattle.requirement_lines.specs.Position.{ends_line, next_position, position_from, StandsAt}
 use Rattle.requirement_lines.specs.declared.pieces.Piece.{Piece}
@@ -14,10 +13,6 @@ use Rattle.requirement_lines.proofs.PlaceLaws.{end_start, end_suffix}
 -- a place after the first character
 position-step : (here : Position) (to_end : ℕ) (p : Character) (ps : List Character) → to_end < p.place.to_end → position_from here to_end (p ∷ ps) ≡ position_from (next_position here p.char ps) to_end ps
 position-step here to_end p ps lt = ap (λ b. cond b (position_from (next_position here p.char ps) to_end ps) here) (lt-ltb to_end p.place.to_end lt)
-
--- a place at the first character, or before it
-position-here : (here : Position) (to_end : ℕ) (p : Character) (ps : List Character) → p.place.to_end ≤ to_end → position_from here to_end (p ∷ ps) ≡ here
-position-here here to_end p ps le = ap (λ b. cond b (position_from (next_position here p.char ps) to_end ps) here) (le-ltb to_end p.place.to_end le)
 
 -- what was seen of a text: `left` is still to be looked at, and its first character is `now`
 pub record Advancing (here : Position) (whole : List ℕ) (to_end : ℕ) (now : Position) (left : Piece) : Type 0 where
@@ -73,20 +68,6 @@ advancing_more {here} {now} {next} {whole} {to_end} {left} {rest} c a begins end
       line_fits = omega arith;
       column_fits = omega arith;
     }
-
--- the place is at the first character that is left
-pub advancing_found : {here now : Position} {whole : List ℕ} {to_end : ℕ} {left : Piece} (rest : Piece) (c : ℕ) → Advancing here whole to_end now left
-    → characters_of left ≡ record { char = c; place = left.place } ∷ characters_of rest → left.place.to_end ≤ to_end → now ≡ position_from here to_end (characters whole)
-advancing_found {here} {now} {whole} {to_end} {left} rest c a begins le =
-    sym (a.asked ∙ ap (position_from now to_end) begins ∙ position-here now to_end (record { char = c; place = left.place }) (characters_of rest) le)
-
-pub advancing_ended : {here now : Position} {whole : List ℕ} {to_end : ℕ} {left : Piece} → Advancing here whole to_end now left → characters_of left ≡ [] → now ≡ position_from here to_end (characters whole)
-advancing_ended {here} {now} {whole} {to_end} {left} a none = sym (a.asked ∙ ap (position_from now to_end) none)
-
--- from the first character of what is left on
-pub advancing_rest : {here now : Position} {whole : List ℕ} {to_end : ℕ} {left : Piece} → Advancing here whole to_end now left
-    → (n : ℕ) → n ≤ length left.text.now → position_from here n (characters whole) ≡ position_from now n (characters left.text.now)
-advancing_rest {here} {now} {whole} {to_end} {left} a n le = a.goes_on n le ∙ ap (λ p. position_from now n (characters_at p (chars left.text.now))) a.place
 
 -- a place that was found in what is left of a file is a place of the file
 pub stands_then : {file rest left : List ℕ} {from now : Position} → StandsAt file rest from → IsSuffix rest left

@@ -88,20 +88,9 @@ pub record Naming (whole : List Character) (read : List ℕ) (rest : List Charac
   pub bytes : read ≡ encode_utf8_all name
   pub goes_on : braced_name whole ≡ option_and_then not_empty (option_map (λ more. name ++ more) (name_before_brace rest))
 
-option_map-nil : (o : Option (List ℕ)) → option_map (λ more. [] ++ more) o ≡ o
-option_map-nil None = refl
-option_map-nil (Some x) = refl
-
 option_map-cons : (name : List ℕ) (c : ℕ) (o : Option (List ℕ)) → option_map (λ more. name ++ more) (option_map (λ more. c ∷ more) o) ≡ option_map (λ more. (name ++ (c ∷ [])) ++ more) o
 option_map-cons name c None = refl
 option_map-cons name c (Some x) = ap (λ (y : List ℕ). Some y) (sym (append_assoc name (c ∷ []) x))
-
-pub naming_none : {whole rest : List Character} (read : List ℕ) (p : Character) → whole ≡ p ∷ rest → (p.char == 123) ≡ true → read ≡ [] → Naming whole read rest
-naming_none {whole} {rest} read p begins brace none = record {
-  name = [];
-  bytes = none;
-  goes_on = ap braced_name begins ∙ ap (λ b. cond b (option_and_then not_empty (name_before_brace rest)) None) brace ∙ ap (option_and_then not_empty) (sym (option_map-nil (name_before_brace rest)));
-}
 
 pub naming_more : {whole rest ps : List Character} {read new : List ℕ} (p : Character) → Naming whole read rest → rest ≡ p ∷ ps → (p.char == 125) ≡ false → is_name_character p.char ≡ true → new ≡ read ++ encode_utf8 p.char → Naming whole new ps
 naming_more {whole} {rest} {ps} {read} {new} p n begins goes_on named new_is =
@@ -121,16 +110,6 @@ naming_closed {whole} {rest} {ps} {read} p n begins closes =
     n.goes_on ∙ ap (λ x. option_and_then not_empty (option_map (λ more. n.name ++ more) (name_before_brace x))) begins
     ∙ ap (λ b. option_and_then not_empty (option_map (λ more. n.name ++ more) (cond b (Some []) (cond (is_name_character p.char) tail None)))) closes
     ∙ ap not_empty (append-nil n.name)
-
-pub naming_refused : {whole rest ps : List Character} {read : List ℕ} (p : Character) → Naming whole read rest → rest ≡ p ∷ ps → (p.char == 125) ≡ false → is_name_character p.char ≡ false → braced_name whole ≡ None
-naming_refused {whole} {rest} {ps} {read} p n begins goes_on named =
-    let tail = option_map (λ name. p.char ∷ name) (name_before_brace ps) in
-    n.goes_on ∙ ap (λ x. option_and_then not_empty (option_map (λ more. n.name ++ more) (name_before_brace x))) begins
-    ∙ ap (λ b. option_and_then not_empty (option_map (λ more. n.name ++ more) (cond b (Some []) (cond (is_name_character p.char) tail None)))) goes_on
-    ∙ ap (λ b. option_and_then not_empty (option_map (λ more. n.name ++ more) (cond b tail None))) named
-
-pub naming_ended : {whole rest : List Character} {read : List ℕ} → Naming whole read rest → rest ≡ [] → braced_name whole ≡ None
-naming_ended {whole} {rest} {read} n none = n.goes_on ∙ ap (λ x. option_and_then not_empty (option_map (λ more. n.name ++ more) (name_before_brace x))) none
 
 -- a name with no byte has no character
 pub named_none : (name : List ℕ) → length (encode_utf8_all name) ≡ 0 → not_empty name ≡ None
@@ -159,10 +138,3 @@ one_character whole front rest c ps begins parts place =
 named_value : (value_of : List ℕ → Option (List ℕ)) (name : Option (List ℕ)) → option_and_then value_of (option_map encode_utf8_all name) ≡ option_and_then (λ n. value_of (encode_utf8_all n)) name
 named_value value_of None = refl
 named_value value_of (Some n) = refl
-
-pub value_at-dollar : (value_of : List ℕ → Option (List ℕ)) (bytes : Option (List ℕ)) (p : Character) (ps : List Character) → (p.char == 36) ≡ true → bytes ≡ option_map encode_utf8_all (braced_name ps) → option_and_then value_of bytes ≡ value_at value_of (p ∷ ps)
-value_at-dollar value_of bytes p ps dollar e =
-    ap (option_and_then value_of) e ∙ named_value value_of (braced_name ps) ∙ sym (ap (λ b. cond b (option_and_then (λ n. value_of (encode_utf8_all n)) (braced_name ps)) None) dollar)
-
-pub value_at-other : (value_of : List ℕ → Option (List ℕ)) (p : Character) (ps : List Character) → (p.char == 36) ≡ false → None ≡ value_at value_of (p ∷ ps)
-value_at-other value_of p ps other = sym (ap (λ b. cond b (option_and_then (λ n. value_of (encode_utf8_all n)) (braced_name ps)) None) other)

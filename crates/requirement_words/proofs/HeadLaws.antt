@@ -78,13 +78,6 @@ body_bare b (at_url u) = absurd (false≢true b)
 body_bare b (bare {set = set} c s) = (set, s, refl)
 body_bare b (enclosed s) = absurd (false≢true b)
 
--- before anything else
-pub body_none : {i o : List ℕ} {a : Asked} → ((x : List ℕ) → i ≢ 64 ∷ x) → ((x : List ℕ) → i ≢ 40 ∷ x) → begins_specifier i ≡ false → IsAsked i o a → IsBare i
-body_none at open_ none (left_out b) = b
-body_none at open_ none (at_url {input = j} u) = absurd (at j refl)
-body_none at open_ none (bare b s) = absurd (false≢true (sym none ∙ b))
-body_none at open_ none (enclosed {input = j} s) = absurd (open_ j refl)
-
 -- no requirement begins there
 pub no_head_named : (i : List ℕ) → ((o n : List ℕ) → ¬ IsNameAt (after_space i) o n) → (output name : List ℕ) (extras : List (List ℕ)) (asked : Asked) → ¬ IsHead i output name extras asked
 no_head_named i h output name extras asked head = h head.after_name name head.named
@@ -158,12 +151,6 @@ url_placed text place u rest piece s joined e =
 
 pub url_is_something : (u : List ℕ) → url u ≢ nothing
 url_is_something u e = cc
-
-pub set_is_something : (a : Asked) (set : List Specifier) → a ≡ specifiers set → a ≢ nothing
-set_is_something a set e f = cc
-
-pub set_is_no_url : (a : Asked) (set : List Specifier) (u : List ℕ) → a ≡ specifiers set → a ≡ url u → ⊥
-set_is_no_url a set u e f = cc
 
 -- ---- a parenthesis that is never closed
 
@@ -332,6 +319,3 @@ refused_with F P (refusals.Fault fault) p h = (h.0, p)
 
 pub nothing_no_url : (piece : List ℕ) → nothing ≡ url piece → ⊥
 nothing_no_url piece e = cc
-
-pub other_body : (i o piece : List ℕ) (a : Asked) → IsBare i → IsAsked i o a → a ≡ url piece → ⊥
-other_body i o piece a b h e = nothing_no_url piece (sym (bare_nothing b h) ∙ e)
