@@ -57,8 +57,6 @@ end_then {a} {b} {c} s t = record {
   place = t.place ∙ ap (λ (p : Place). after p (length t.front)) s.place ∙ after-more a.place (length s.front) (length t.front) ∙ ap (after a.place) (sym (length-append s.front t.front));
 }
 
--- ---- runs at the front and at the back
-
 -- ---- a piece that is cut before its end
 
 pub end_suffix : {whole rest : Piece} → IsEnd whole rest → IsSuffix whole.text.now rest.text.now

@@ -7,8 +7,6 @@ use Rattle.requirement_lines.specs.declared.places.Place.{Place}
 use Rattle.requirement_lines.specs.declared.quoting.Quoting.TheVariants.{Between}
 use Rattle.requirement_lines.specs.declared.quoting.Step.TheVariants.{Pass, Begin}
 
--- ---- one step
-
 -- ---- the end
 
 -- between words there is no word that goes on
@@ -21,8 +19,6 @@ resume-start opened place front (p ∷ ps) = go (parts_words p.char) (is_kept Be
     go true kept (parts rest others) = refl
     go false kept (unclosed o) = refl
     go false kept (parts rest others) = refl
-
--- ---- whether a word goes on
 
 -- ---- one character of a text
 
