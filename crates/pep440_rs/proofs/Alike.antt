@@ -16,7 +16,7 @@ unfolding significant
 take-significant [] = refl
 take-significant (x ∷ xs) = take-keep x xs (significant xs) (take-significant xs)
 
--- where no number is significant, the first one is 0
+-- if no number is significant, the first one is 0
 keep-zero : (x : ℕ) (s : List ℕ) → keep x s ≡ [] → x ≡ 0
 keep-zero x [] h = elim (cases_Bool (x == 0)) [ inl e ↦ grind (arith, nat_tests, e) | inr e ↦ let k : x ∷ [] ≡ [] = rw e at h in cc k ]
 keep-zero x (y ∷ s) h = cc h

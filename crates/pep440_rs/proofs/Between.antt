@@ -13,7 +13,7 @@ use Rattle.pep440_version.specs.OrderLaws.{version_total}
 use Rattle.pep440_version.specs.Parts.{Parts}
 use Rattle.pep440_rs.specs.Intervals.{IsSameBound}
 
--- each point stands alike to values that tie
+-- each point has the same order to equal values
 at-tied : (p : Point Parts) (v w : Parts) → version_cmp v w ≡ Equal → point_cmp version_cmp p (at v) ≡ point_cmp version_cmp p (at w)
 at-tied bottom v w e = refl
 at-tied (at u) v w e = alike_right version_total v w u e

@@ -1,4 +1,4 @@
--- A negated operator stands for the complement.
+-- The set of a negated operator is the complement.
 use Rattle.std.proofs.Common.{◌≡◌, ◌&&◌, not, Bool, true, false, ℕ, List, Some, refl, subst}
 use Rattle.std.specs.declared.ops.Bound.TheVariants.{Included, Excluded, Unbounded}
 use Rattle.version_ranges.specs.Point.{Point, above, at, bottom, is_from, point_lt}

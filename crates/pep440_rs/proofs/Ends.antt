@@ -1,4 +1,4 @@
--- What a set answers at a point goes by how the point stands to its ends.
+-- Whether a point is in a set depends on its order to the ends of the set.
 use Rattle.std.proofs.Common.{◌≡◌, ◌&&◌, not, ℕ, Bool, true, List, refl, ap}
 use Rattle.std.specs.List.{AllByRecursion}
 use Rattle.version_ranges.specs.Alike.{AreAlike}

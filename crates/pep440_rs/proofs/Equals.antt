@@ -1,4 +1,5 @@
--- Specifiers that the order ties stand for one set, and versions that tie with a release are releases.
+-- Specifiers that are equal in the order have one set, and versions that are equal to a release are
+-- releases.
 use Rattle.std.proofs.Common.{◌≡◌, ◌==◌, ◌&&◌, ◌↔◌, not, ℕ, ◌<◌, true, Option, Some, None, List, [], ◌∷◌, length, refl, sym, ap, ◌∙◌, subst, arith, eqb-true}
 use Rattle.std.proofs.lemmas.Bool.{and_parts, false≢true}
 use Rattle.std.specs.FinMap.{nat_cmp-IsAntisymmetric}

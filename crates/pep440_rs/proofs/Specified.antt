@@ -26,7 +26,7 @@ use Rattle.pep440_rs.proofs.Complements.{from_bottom}
 pub some-alike : {A : Type 0} (x y : A) → Some x ≡ Some y → x ≡ y
 some-alike x y e = cc e
 
--- what is there only where a test holds
+-- a value that exists only if a test is true
 pub if-some : {A : Type 0} (b : Bool) (o : Option A) (y : A) → (if b then o else None) ≡ Some y → (b ≡ true) × (o ≡ Some y)
 if-some true o y e = (refl, e)
 if-some false o y e = cc e
@@ -58,7 +58,7 @@ bounding_release v = release_only (bounding v).release
 bounding-same : (v : Parts) → IsRelease v → bounding_release v ≡ v
 bounding-same v e = ap release_only (release-of (is_empty v.locals) v (release_only v.release) refl) ∙ sym e
 
--- `M.m` ties with the version of which it is the two numbers
+-- `M.m` is equal to the version of which it is the two numbers
 two-tied : (r : List ℕ) (m : ℕ × ℕ) → two_numbers r ≡ Some m → padded_cmp (m.0 ∷ m.1 ∷ []) r ≡ Equal
 unfolding padded_cmp
 two-tied [] m e = cc e
@@ -125,7 +125,7 @@ module _ (p : Point Parts) where
       between-same (Included (release_only (m.0 ∷ m.1 ∷ []))) (Excluded (release_only (m.0 ∷ (m.1 + 1) ∷ []))) (Included v) (Excluded w) p
       (minor-tied v m e numbers.0) (minor-tied w (m.0, m.1 + 1) f numbers.1)
 
-  -- the one specifier, where there is one
+  -- the one specifier, if there is one
   single-means : (lower upper : Bound (Bor Parts)) (s : Specifier) → IsAtRelease lower → IsAtRelease upper → single_term lower upper ≡ Some s
       → (is_in s.operator s.version.release p && true) ≡ is_within lower upper p
   single-means (Included v) (Included w) s e f h =

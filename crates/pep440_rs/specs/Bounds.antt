@@ -17,11 +17,11 @@ use Rattle.pep440_rs.specs.Intervals.{is_in}
 abbrev pub is_in_all : List Specifier → Point Parts → Bool
 is_in_all specifiers p = list_all (λ s. is_in s.operator s.version.release p) specifiers
 
--- a version of release numbers alone
+-- a version with only release numbers
 abbrev pub IsRelease : Parts → Type 0
 IsRelease v = v ≡ release_only v.release
 
--- whether a version is so
+-- whether a version has only release numbers
 abbrev pub is_release : Parts → Bool
 is_release v = v.epoch == 0 && is_alone v
 
@@ -37,7 +37,7 @@ IsAtValid (Included v) = IsValid v.now
 IsAtValid (Excluded v) = IsValid v.now
 IsAtValid Unbounded = ⊤
 
--- whether a point lies between two bounds at versions that are lent
+-- whether a point is between two bounds at borrowed versions
 abbrev pub is_within : Bound (Bor Parts) → Bound (Bor Parts) → Point Parts → Bool
 is_within lower upper p =
     is_in_bounds version_cmp (bound_map (λ v. v.now) lower) (bound_map (λ v. v.now) upper) p

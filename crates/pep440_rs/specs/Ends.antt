@@ -1,4 +1,4 @@
--- Where the sets that specifiers stand for begin and end.
+-- Where the sets of specifiers begin and end.
 use Rattle.std.specs.Prelude.{ℕ, List, [], ◌∷◌}
 use Rattle.version_ranges.specs.Point.{Point, above, at, bottom}
 use Rattle.pep440_version.specs.Order.{trimmed}

@@ -1,6 +1,6 @@
--- The sets of versions that version specifiers stand for (PEP 440, "Version specifiers"), as sets
--- of points. That the release alone counts, without epoch, pre-release, post-release, development
--- release and local part, is this project's own.
+-- The sets of versions of version specifiers (PEP 440, "Version specifiers"), as sets of points.
+-- That only the release counts, without epoch, pre-release, post-release, development release and
+-- local part, is this project's own.
 use Rattle.std.specs.Prelude.{◌≡◌, ◌⊎◌, ⊤, IfErr, OnOk, Result, ℕ, ◌+◌, ◌-◌, ◌<◌, ◌==◌, Bool, true, not, List, [], ◌∷◌, length, take, None, Option, Some}
 use Rattle.std.specs.Borrow.{Bor}
 use Rattle.std.specs.Range.Bound.{bound_map}
@@ -34,16 +34,16 @@ last_number [] = None
 last_number (x ∷ []) = Some x
 last_number (x ∷ y ∷ r) = last_number (y ∷ r)
 
--- a bound at a release that is lent
+-- a bound at a borrowed release
 abbrev pub at_numbers : Bound (Bor (List ℕ)) → Bound (List ℕ)
 at_numbers bound = bound_map (λ r. r.now) bound
 
--- whether a point lies between two bounds that are releases
+-- whether a point is between two bounds that are releases
 abbrev pub is_between : Bound (List ℕ) → Bound (List ℕ) → Point Parts → Bool
 is_between lower upper p =
     is_in_bounds version_cmp (bound_map release_only lower) (bound_map release_only upper) p
 
--- whether a point is in the set that an operator and a release stand for
+-- whether a point is in the set of an operator and a release
 abbrev pub is_in : Operator → List ℕ → Point Parts → Bool
 is_in operator.Equal r p = is_between (Included r) (Included r) p
 is_in operator.ExactEqual r p = is_between (Included r) (Included r) p
@@ -63,20 +63,19 @@ raised_number operator.EqualStar r = last_number r
 raised_number operator.NotEqualStar r = last_number r
 raised_number o r = None
 
--- the largest number of a version, which cannot be raised
+-- the largest number of a version
 abbrev pub IsGreatest : Option ℕ → Type 0
 IsGreatest n = n ≡ Some 18446744073709551615
 
--- a comparison would raise the largest number
+-- a bound of a comparison would be above the largest number
 abbrev pub Overflows : Operator → List ℕ → Type 0
 Overflows o r = IsGreatest (raised_number o r)
 
--- a call is refused where there is no memory, or where the largest number would be raised
+-- memory ran out, or a bound would be above the largest number
 abbrev pub IsRefusal : {E : Type 0} → Type 0 → Refusal E → Type 0
 IsRefusal AtEnd e = (e ≡ OutOfMemory) ⊎ ((e ≡ SegmentAtEnd) × AtEnd)
 
--- it is given only where nothing overflows, and refused where there is no memory, or where
--- something does
+-- a value only if nothing overflows; a refusal if memory runs out or something overflows
 abbrev pub RefusedWhere : {T E : Type 0} → Result T (Refusal E) → Type 0 → Type 0
 RefusedWhere result overflow = OnOk result (¬ overflow) × IfErr result (IsRefusal overflow)
 

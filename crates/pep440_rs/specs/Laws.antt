@@ -12,7 +12,7 @@ use Rattle.pep440_specifier.specs.Specifier.{Specifier}
 use Rattle.pep440_specifier.specs.declared.operator.Operator.{Operator}
 use Rattle.pep440_rs.specs.Bounds.{is_in_all, is_within}
 
--- whether a point is in the set that an operator and a release stand for
+-- whether a point is in the set of an operator and a release
 abbrev pub SetOf : Type 0
 SetOf = Operator → List ℕ → Point Parts → Bool
 
@@ -22,11 +22,11 @@ NegationIsComplement set =
     (o n : Operator) (r : List ℕ) (p : Point Parts) → negated o ≡ Some n
     → set n r p ≡ not (set o r p)
 
--- a point lies between two bounds exactly where it is in the set of each specifier of the range
+-- a point is between two bounds exactly if it is in the set of each specifier of the range
 abbrev pub IsRangeAt : Bound (Bor Parts) → Bound (Bor Parts) → Point Parts → Type 0
 IsRangeAt lower upper p = is_in_all (bound_specifiers lower upper) p ≡ is_within lower upper p
 
--- two specifiers stand for one set
+-- two specifiers have the same set
 abbrev pub StandAlike : SetOf → Specifier → Specifier → Type 0
 StandAlike set s t =
     (p : Point Parts) → set s.operator s.version.release p ≡ set t.operator t.version.release p

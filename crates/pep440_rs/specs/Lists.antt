@@ -1,4 +1,4 @@
--- The sets of versions that `in` and `not in` a list of versions stand for.
+-- The sets of versions of `in` and `not in` with a list of versions.
 use Rattle.std.specs.Prelude.{◌≡◌, ◌==◌, Bool, true, false, not, ◌&&◌, if◌then◌else◌, List}
 use Rattle.std.specs.List.{list_any}
 use Rattle.std.specs.declared.ops.Bound.TheVariants.{Included}
@@ -15,20 +15,21 @@ is_listed versions p = list_any (λ v. is_in_bounds version_cmp (Included v) (In
 abbrev pub has_long : List Parts → Bool
 has_long versions = list_any (λ v. has_more v.release) versions
 
--- the full versions whose `python_version` is one of the releases as they are written: none where
--- an entry has too many numbers
+-- the full versions whose `python_version` is one of the releases as they are written: none if an
+-- entry has too many numbers
 abbrev pub is_minor_listed : List Parts → Point Parts → Bool
 is_minor_listed versions p =
     not (has_long versions) && list_any (λ v. is_in_minor v.release p) versions
 
--- `in`, or `not in` where it is negated
+-- `in`, or `not in` if it is negated
 abbrev pub is_in_or_not : Bool → Bool → Bool
 is_in_or_not negated listed = if negated then not listed else listed
 
--- whether the largest number would be raised for an entry
+-- whether the end of an entry would be above the largest number
 abbrev pub raises_greatest : List Parts → Bool
 raises_greatest versions = list_any (λ v. minor_number v.release == 18446744073709551615) versions
 
--- a list would raise the largest number; one with an entry of too many numbers raises nothing
+-- the end of an entry would be above the largest number; a list with an entry of too many numbers
+-- has no ends
 abbrev pub ListOverflows : List Parts → Type 0
 ListOverflows versions = (has_long versions ≡ false) × (raises_greatest versions ≡ true)

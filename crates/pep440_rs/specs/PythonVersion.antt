@@ -1,6 +1,6 @@
--- The sets of full versions of Python that comparisons of `python_version` stand for.
--- `python_version` is `M.m` of a full version (PEP 508, "Environment Markers"); what a comparison
--- with it says of the full version is this project's own.
+-- The sets of full versions of Python of comparisons of `python_version`. `python_version` is `M.m`
+-- of a full version (PEP 508, "Environment Markers"); what a comparison with it means for the full
+-- version is this project's own.
 use Rattle.std.specs.Prelude.{ℕ, Bool, not, ◌&&◌, if◌then◌else◌, nat_lt, List, [], ◌∷◌, length, get_or, None, Option, Some}
 use Rattle.std.specs.declared.ops.Bound.TheVariants.{Included, Excluded, Unbounded}
 use Rattle.version_ranges.specs.Point.{Point}
@@ -10,7 +10,7 @@ use Rattle.pep440_specifier.specs.declared.operator.Operator.{Operator}
 use Rattle.pep440_specifier.specs.declared.operator.Operator.TheVariants as operator
 use Rattle.pep440_rs.specs.Intervals.{IsGreatest, is_between, is_in, raised, raised_number}
 
--- the number after the first one, 0 where there is none: `M` counts as `M.0`
+-- the second number, 0 without one: `M` counts as `M.0`
 abbrev pub minor_number : List ℕ → ℕ
 minor_number r = get_or r 1 0
 
@@ -42,7 +42,7 @@ is_in_star r p = not (has_more r) && is_in operator.EqualStar r p
 abbrev pub first_minor : List ℕ → List ℕ
 first_minor r = if has_more r then next_minor r else minor_release r
 
--- whether a point is in the set that an operator and a release stand for
+-- whether a point is in the set of an operator and a release
 abbrev pub python_is_in : Operator → List ℕ → Point Parts → Bool
 python_is_in operator.Equal r p = is_same_minor (trimmed r) p
 python_is_in operator.ExactEqual r p = is_same_minor (trimmed r) p
@@ -60,7 +60,7 @@ python_is_in operator.NotEqualStar r p = not (is_in_star r p)
 abbrev pub raised_by : List ℕ → Option ℕ → Option ℕ → Option ℕ
 raised_by r few more = if has_more r then more else few
 
--- `m`, where `M.(m+1)` is asked for
+-- `m`, if `M.(m+1)` is an end
 abbrev pub minor_raised : List ℕ → Option ℕ
 minor_raised r = Some (minor_number r)
 
@@ -76,6 +76,6 @@ python_raised_number operator.GreaterThanEqual r =
     raised_by (trimmed r) None (minor_raised (trimmed r))
 python_raised_number o r = raised_by r (raised_number o r) None
 
--- a comparison would raise the largest number
+-- a bound of a comparison would be above the largest number
 abbrev pub PythonOverflows : Operator → List ℕ → Type 0
 PythonOverflows o r = IsGreatest (python_raised_number o r)

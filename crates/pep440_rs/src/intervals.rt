@@ -1,4 +1,4 @@
-//! The sets of versions that version specifiers stand for, by the release alone.
+//! The sets of versions of version specifiers, by releases only.
 
 ghost use Rattle.std.specs.Prelude.{◌≡◌, ◌<◌, ◌≤◌, ℕ, true, length, IfOk};
 ghost use Rattle.std.specs.Range.Bound.{bound_map};
@@ -17,7 +17,7 @@ use std::convert::Infallible;
 use std::ops::Bound;
 use version_ranges::Ranges;
 
-// The version of these release numbers without the zeros at their end, as it stands at a bound.
+// The version of these release numbers without the zeros at their end, as at a bound.
 fn trimmed_version(alloc: Global, release: &[u64]) -> Result<Version, AllocError>
     requires { 0 < length release.now }
     ensures value { IfOk result (λ v. v ≡ release_only (trimmed release.now)) }
@@ -88,7 +88,7 @@ fn raise(alloc: Global, release: &[u64]) -> Result<Vec<u64>, Refusal<Infallible>
     Ok(numbers)
 }
 
-// The versions from a release up to where the last number of another one is raised.
+// The versions from a release up to another one whose last number is raised by one.
 fn up_to_raised(
     alloc: Global,
     release: &[u64],
@@ -106,7 +106,7 @@ fn up_to_raised(
     Ok(range)
 }
 
-// The set of a comparison with a release.
+// The set of versions of a comparison with a release.
 pub(crate) fn release_to_range(
     alloc: Global,
     operator: Operator,
@@ -133,16 +133,18 @@ pub(crate) fn release_to_range(
     }
 }
 
-/// The versions that a specifier stands for where it is compared with a whole version, such as
+/// Returns the versions that match a specifier in comparisons of a whole version, such as
 /// `implementation_version` or `python_full_version`.
 ///
-/// Its release alone counts: epoch, pre-release, post-release, development release and local part
+/// Only the release counts: epoch, pre-release, post release, development release and local part
 /// are dropped. `== 3.9.*` is from 3.9 up to 3.10, and `~= 3.9.1` from 3.9.1 up to 3.10, both
-/// without their end. The bounds are written without zeros at the end of their releases: `>= 3.0`
-/// is from 3 on.
+/// without the upper end. The bounds have no zeros at the end of their releases: `>= 3.0` is from 3
+/// on.
 ///
-/// It is refused as `SegmentAtEnd` where 18446744073709551615 would be raised for such an end,
-/// which `!=` of a star asks for too, and else for want of memory alone.
+/// # Errors
+/// - [`Refusal::SegmentAtEnd`] if an end would be above 2^64 - 1, also of the set that `!=` with a
+///   star leaves out.
+/// - [`Refusal::OutOfMemory`] when memory runs out.
 pub fn release_specifier_to_range(
     alloc: Global,
     specifier: &VersionSpecifier,

@@ -1,4 +1,4 @@
-//! Laws of the sets. A call of one does nothing: what it promises is its contract.
+//! Laws of the sets. Each is a function that does nothing, whose contract is the law.
 
 ghost use Rattle.std.specs.Prelude.{◌≡◌, ◌<◌, ◌↔◌, ℕ, List, length, true};
 ghost use Rattle.std.specs.Borrow.{Bor};
@@ -24,33 +24,33 @@ ghost use Rattle.pep440_rs.specs.PythonVersion.{python_is_in};
 use pep440_version::Version;
 use version_ranges::Ranges;
 
-/// A negated operator stands for the versions that the operator does not stand for.
+/// A negated operator matches the versions that the operator does not match.
 pub fn negated_operator_is_complement()
     ensures release { NegationIsComplement is_in }
     ensures python_version { NegationIsComplement python_is_in }
 {}
 
-/// A clone of a version is equal to it, as sets of versions ask.
+/// A clone of a version is equal to it, as sets of versions require.
 pub fn version_clones_are_equal()
     ensures { ClonesAreEqual ⟦<Version as PartialEq>⟧.eq ⟦<Version as Clone>⟧.is_clone }
 {}
 
-/// A point lies between two bounds that are releases exactly where it is in the set of each
-/// specifier of the range.
+/// A point is between two bounds that are releases exactly if it is in the set of each specifier of
+/// the range.
 pub fn range_is_its_specifiers()
     ensures { (lower upper : Bound (Bor Parts)) (p : Point Parts)
         → IsAtRelease lower → IsAtRelease upper → IsRangeAt lower upper p }
 {}
 
-/// Equal versions with release numbers are written alike, without the zeros at the end of their
+/// Equal versions with only release numbers are the same without the zeros at the end of their
 /// releases.
 pub fn tied_versions_are_trimmed_alike()
     ensures { (v w : Parts) → 0 < length v.release → 0 < length w.release
         → version_cmp v w ≡ Equal → trimmed_parts v ≡ trimmed_parts w }
 {}
 
-/// Where the bounds of a set are without zeros at the end of their releases, this is so of both
-/// bounds of each interval that `iter` gives: dropping the zeros changes nothing.
+/// If the bounds of a set have no zeros at the end of their releases, neither have the bounds of
+/// the intervals that `iter` returns.
 pub fn trimmed_bounds_have_no_zeros(set: &Ranges<Version>)
     requires { HasTrimmedBounds set.now }
     ensures intervals { list_all (passes_at_both is_trimmed) (intervals_of set.now) ≡ true }
@@ -59,7 +59,7 @@ pub fn trimmed_bounds_have_no_zeros(set: &Ranges<Version>)
     set.iter();
 }
 
-/// Specifiers that are equal stand for one set, and so do their comparisons of `python_version`.
+/// Equal specifiers have the same set, and so do their comparisons of `python_version`.
 pub fn equal_specifiers_stand_for_one_set()
     ensures release { (s t : Specifier) → specifier_cmp s t ≡ Equal → StandAlike is_in s t }
     ensures python_version { (s t : Specifier) → specifier_cmp s t ≡ Equal
@@ -67,23 +67,22 @@ pub fn equal_specifiers_stand_for_one_set()
         → StandAlike python_is_in s t }
 {}
 
-/// The specifiers of a range raise nothing past 64 bits: where a star stands for two bounds, the
-/// number above its last one is that of the upper bound.
+/// The specifiers of a range have no bound above 2^64 - 1: the upper bound of a star is the end of
+/// the range.
 pub fn range_specifiers_raise_nothing()
     ensures { (lower upper : Bound (Bor Parts)) → IsAtValid upper
         → AllByRecursion (λ s. ¬ Overflows s.operator s.version.release)
         (bound_specifiers lower upper) }
 {}
 
-/// A version that is equal to a release is a release: it has release numbers alone, as the test
-/// says.
+/// A version that is equal to a release has only release numbers.
 pub fn versions_tied_with_releases_are_releases()
     ensures tied { (v w : Parts) → version_cmp v w ≡ Equal → IsRelease v → IsRelease w }
     ensures test { (v : Parts) → (is_release v ≡ true) ↔ IsRelease v }
 {}
 
-/// What the set of a specifier answers at a point changes only at its ends, which stand at
-/// releases: two points that stand before the same of them are both in the set, or neither is.
+/// Membership in the set of a specifier changes only at its ends, which are at releases: of two
+/// points that are before the same ends, both are in the set or neither is.
 pub fn sets_change_at_their_ends()
     ensures release { ChangesAtEnds is_in ends_of }
     ensures python_version { ChangesAtEnds python_is_in python_ends_of }

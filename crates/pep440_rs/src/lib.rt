@@ -1,5 +1,16 @@
 //! The part of PEP 440 that dependency specifiers need: versions, version specifiers, and the sets
-//! of versions that comparisons stand for.
+//! of versions that match comparisons.
+//!
+//! ```
+//! let specifier = VersionSpecifier::parse(alloc, "~= 2.8")?;
+//! let versions = release_specifier_to_range(alloc, &specifier)?;
+//! let version = Version::parse(alloc, "2.31.0")?;
+//! let found = versions.contains(&version);
+//! ```
+//!
+//! Calls that allocate return `AllocError` or `OutOfMemory` when memory runs out. Only the
+//! functions that return a set of a specifier or of a list of `python_version` return
+//! `SegmentAtEnd`.
 #![tactic(auto)]
 
 mod intervals;

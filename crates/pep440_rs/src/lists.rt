@@ -1,4 +1,4 @@
-//! The sets of versions that `in` and `not in` a list of versions stand for.
+//! The sets of versions of `in` and `not in` with a list of versions.
 
 ghost use Rattle.std.specs.Prelude.{◌≡◌, ◌||◌, false, map, true, IfErr, IfOk, OnOk};
 ghost use Rattle.std.specs.List.{list_all, list_any};
@@ -17,7 +17,7 @@ use std::alloc::{AllocError, Global};
 use std::convert::Infallible;
 use version_ranges::Ranges;
 
-// The versions without the zeros at the end of their releases, as they stand at bounds.
+// The versions without the zeros at the end of their releases, as at bounds.
 fn trimmed_versions(alloc: Global, versions: &[Version]) -> Result<Vec<Version>, AllocError>
     ensures value { IfOk result (λ r. r.items ≡ map trimmed_parts versions.now) }
     ensures same { IfOk result (λ r. (p : Point Parts)
@@ -31,11 +31,8 @@ fn trimmed_versions(alloc: Global, versions: &[Version]) -> Result<Vec<Version>,
     Ok(trimmed)
 }
 
-/// The listed versions, with all their parts, or the versions that are not listed where it is
-/// negated. The empty list is none. The bounds are written without zeros at the end of their
-/// releases.
-///
-/// It is refused for want of memory alone.
+/// Returns the set of the listed versions, with all their parts, or if negated of all other
+/// versions. The bounds have no zeros at the end of their releases.
 pub fn version_list_to_range(
     alloc: Global,
     versions: &[Version],
@@ -69,7 +66,7 @@ fn has_long(versions: &[Version]) -> bool
     versions.iter().any(|version| has_more(version.release()))
 }
 
-// The points of either set.
+// The union of two sets.
 fn either(
     alloc: Global,
     left: &Ranges<Version>,
@@ -84,8 +81,9 @@ fn either(
     left.union(alloc, right)
 }
 
-// The full versions whose `python_version` begins one of the releases. Halves are united, so that
-// each point is swept over a number of times that is the logarithm of their count.
+// The full versions whose `python_version` is the first two numbers of a release in the list. The
+// list is halved, so that each point is visited a number of times that is the logarithm of its
+// length.
 fn minors_to_range(
     alloc: Global,
     versions: &[Version],
@@ -123,15 +121,17 @@ fn listed_minors(
     minors_to_range(alloc, versions)
 }
 
-/// The full versions of Python, as `python_full_version` has them, whose `python_version` is
-/// listed, or is not listed where it is negated. The empty list is none.
+/// Returns the full versions of Python (`python_full_version`) whose `python_version` is in the
+/// list, or if negated is not in it.
 ///
-/// The entries' releases alone count, as they are written: `3.9a1` is as `3.9`, and where an entry
-/// has more than two numbers, as `3.9.0` has, the list is none as a whole. The bounds are written
-/// without zeros at the end of their releases.
+/// Only the releases of the entries count, as they are written: `3.9a1` is the same as `3.9`. If an
+/// entry has more than two numbers, such as `3.9.0`, no version is in the list. The bounds have no
+/// zeros at the end of their releases.
 ///
-/// It is refused as `SegmentAtEnd` where 18446744073709551615 is the second number of an entry, and
-/// none has more than two, also where it is negated. Else it is refused for want of memory alone.
+/// # Errors
+/// - [`Refusal::SegmentAtEnd`] if the second number of an entry is 2^64 - 1 and no entry has more
+///   than two numbers, negated or not.
+/// - [`Refusal::OutOfMemory`] when memory runs out.
 pub fn python_version_list_to_range(
     alloc: Global,
     versions: &[Version],

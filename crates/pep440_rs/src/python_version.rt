@@ -1,4 +1,4 @@
-//! The sets of full versions of Python that comparisons of `python_version` stand for.
+//! The sets of full versions of Python that match comparisons of `python_version`.
 
 ghost use Rattle.std.specs.Prelude.{◌≡◌, ◌<◌, ◌≤◌, ◌&&◌, ℕ, None, get_or, length, not, IfErr, IfOk};
 ghost use Rattle.std.specs.declared.ops.Bound.TheVariants.{Excluded, Included, Unbounded};
@@ -16,7 +16,7 @@ use std::convert::Infallible;
 use std::ops::Bound;
 use version_ranges::Ranges;
 
-// The number at an index, 0 where there is none.
+// The number at an index, 0 if there is none.
 fn number_at(release: &[u64], index: usize) -> u64
     ensures { result ≡ get_or release.now index 0 }
 {
@@ -92,8 +92,8 @@ fn same_minor_to_range(
     minor_to_range(alloc, release)
 }
 
-// The set of a comparison as written, which is none where the release has more numbers than
-// `python_version` has.
+// The set of a comparison with a release as written. It is empty if the release has more numbers
+// than `python_version`.
 fn written_to_range(
     alloc: Global,
     operator: Operator,
@@ -163,17 +163,19 @@ fn python_to_range(
     }
 }
 
-/// The full versions of Python, as `python_full_version` has them, whose `python_version` a
-/// specifier stands for.
+/// Returns the full versions of Python (`python_full_version`) whose `python_version` matches a
+/// specifier.
 ///
-/// The release of the specifier alone counts, as for `release_specifier_to_range`. But for stars
-/// and `~=` it is taken without the zeros at its end, and `3` counts as `3.0`. `== 3.9` is from 3.9
-/// up to 3.10, without its end; no version has a `python_version` of three numbers, so `== 3.9.1`
-/// is none and `< 3.9.1` is below 3.10. The bounds are written without zeros at the end of their
-/// releases.
+/// Only the release of the specifier counts, as for
+/// [`release_specifier_to_range`](crate::release_specifier_to_range). Except for stars and `~=` it
+/// is taken without the zeros at its end, and `3` counts as `3.0`. `== 3.9` is from 3.9 up to 3.10,
+/// without the upper end. No `python_version` has three numbers, so `== 3.9.1` matches nothing and
+/// `< 3.9.1` is below 3.10. The bounds have no zeros at the end of their releases.
 ///
-/// It is refused as `SegmentAtEnd` where 18446744073709551615 would be raised for an end, which
-/// `!=` asks for as `==` does, and else for want of memory alone.
+/// # Errors
+/// - [`Refusal::SegmentAtEnd`] if an end would be above 2^64 - 1, also of the set that `!=` leaves
+///   out.
+/// - [`Refusal::OutOfMemory`] when memory runs out.
 pub fn python_version_specifier_to_range(
     alloc: Global,
     specifier: &VersionSpecifier,

@@ -26,7 +26,7 @@ or_true : (a : Bool) → (a || true) ≡ true
 or_true true = refl
 or_true false = refl
 
--- what is wrong with a star operator and a version is wrong with the operator in front of `.*`
+-- what is wrong with a star operator and a version is wrong with the operator before `.*`
 pub fault_starred : (f : SpecifierFault) (a b : Operator) (v : Parts) → starred a ≡ Some b → IsFault f b v false → IsFault f a v true
 fault_starred fault.Operator a b v e h = absurd h
 fault_starred (fault.Version expected) a b v e h = absurd h

@@ -15,7 +15,7 @@ use Rattle.pep440_specifier.specs.Operator.{is_star, operator_text}
 abbrev run_len : List ℕ → ℕ
 run_len t = prefix_len is_operator_byte t
 
--- ---- the text may be cut behind the run
+-- ---- the text may be cut after the run
 
 operator_byte-ascii : (b : ℕ) → is_operator_byte b ≡ true → b < 128
 operator_byte-ascii b h = grind (arith, nat_tests)
@@ -79,7 +79,7 @@ before_run t operator rest h =
     let run = run_operator operator rest h.longest in
     (rw (h.joined, run) (take_front (operator_text operator) rest), rw (h.joined, run) (drop_front (operator_text operator) rest))
 
--- the run is an operator at the front where it is one at all
+-- the run is an operator at the front if it is one at all
 pub run_before : (t : List ℕ) (operator : Operator) → take (run_len t) t ≡ operator_text operator → is_star operator ≡ false → IsOperatorBefore t operator (drop (run_len t) t)
 run_before t operator e written = record {
   joined = sym (take_drop (run_len t) t) ∙ ap (λ (z : List ℕ). z ++ drop (run_len t) t) e;
@@ -89,7 +89,7 @@ run_before t operator e written = record {
 
 -- ---- no two operators are written alike
 
--- the first byte and the length tell the written operators apart
+-- the first byte and the length distinguish the operators
 abbrev key : List ℕ → ℕ
 key t = get_or t 0 0 * 10 + length t
 
@@ -126,5 +126,5 @@ only_run t a e h b rest before =
     let run = before_run t b rest before in
     (written_alike a b h before.written (sym e ∙ run.0), run.1)
 
--- what tells the operator at the front of a text, and that there is no other
+-- which operator is at the front of a text, and that there is no other
 pub ruleset operator_at_front = (run_boundary, run_before, only_run, before_run)

@@ -1,4 +1,4 @@
--- The text of a specifier is read back as that specifier.
+-- The text of a specifier parses back to that specifier.
 use Rattle.std.proofs.Common.{◌≡◌, ◌==◌, ◌||◌, ℕ, ◌<◌, Bool, true, false, Some, List, [], ◌∷◌, ◌++◌, length, refl, sym, ap, ◌∙◌, subst, append-nil, arith}
 use Rattle.std.specs.Prelude.{codes, if◌then◌else◌}
 use Rattle.std.specs.Char.{is_ascii_digit}
@@ -145,7 +145,7 @@ text-is_plain s h =
     both (operator_text s.operator) (back_text s) (written_as s.operator).text
     (both (version_text s.version) (star_text (is_star s.operator)) (version-bytes (version_text s.version) (text-plain s.version h.valid)) (star-plain (is_star s.operator)))
 
--- a version, or a release with `.*` behind it
+-- a version, or a release and `.*`
 back-pattern : (v : Parts) (star : Bool) → (star ≡ true → IsReleaseAlone v) → IsValid v → IsPattern (version_text v ++ star_text star) v star
 back-pattern v true alone valid =
     let e : v ≡ starred_parts v.epoch v.release = alone refl in

@@ -1,4 +1,4 @@
--- Where the order of specifiers ties: each part's tie is asked on its own.
+-- When specifiers are equal in the order: each part is compared on its own.
 use Rattle.std.proofs.Common.{◌≡◌, ◌==◌, ℕ, true, refl, sym, ap, ◌∙◌, arith}
 use Rattle.std.specs.Prelude.{if◌then◌else◌}
 use Rattle.std.specs.FinMap.{nat_cmp-IsAntisymmetric}

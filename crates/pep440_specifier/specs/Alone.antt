@@ -1,4 +1,4 @@
--- Whether nothing stands behind the release of a version, as a test.
+-- Whether a version has only an epoch and a release, as a test.
 use Rattle.std.specs.Prelude.{◌&&◌, Bool, true, false, List, [], ◌∷◌, Option, None, Some}
 use Rattle.pep440_version.specs.Parts.{Parts}
 

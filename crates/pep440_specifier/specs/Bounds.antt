@@ -28,7 +28,7 @@ two_numbers (major ∷ []) = Some (major, 0)
 two_numbers (major ∷ minor ∷ []) = Some (major, minor)
 two_numbers (major ∷ minor ∷ micro ∷ others) = None
 
--- those of a version that is release numbers alone
+-- those of a version with only release numbers
 abbrev pub minor_of : Parts → Option (ℕ × ℕ)
 minor_of v = if v.epoch == 0 && is_alone v then two_numbers v.release else None
 
@@ -38,15 +38,15 @@ next_minor (Some a) (Some b) = if (a.0 == b.0) && (a.1 + 1 == b.1) then Some a e
 next_minor (Some a) None = None
 next_minor None b = None
 
--- M.m, where the versions are M.m and M.(m+1)
+-- M.m, if the versions are M.m and M.(m+1)
 abbrev pub star_between : Parts → Parts → Option (ℕ × ℕ)
 star_between v w = next_minor (minor_of v) (minor_of w)
 
 abbrev pub specifier_of_parts : Operator → Parts → Specifier
 specifier_of_parts operator v = record { operator = operator; version = v }
 
--- a version that bounds a half line: a local part, which no half line takes, leaves the release
--- alone
+-- the version in the specifier of one bound: without its local part, which such a specifier does
+-- not accept, only the release is left
 abbrev pub bounding : Parts → Parts
 bounding v = if is_empty v.locals then v else release_only v.release
 
@@ -60,8 +60,8 @@ upper_terms (Included v) = specifier_of_parts LessThanEqual (bounding v.now) ∷
 upper_terms (Excluded v) = specifier_of_parts LessThan (bounding v.now) ∷ []
 upper_terms Unbounded = []
 
--- the one specifier that means the range: `==` where both bounds are included and tie, and a star
--- for M.m up to M.(m+1)
+-- the one specifier of the range: `==` if both bounds are included and equal, and a star for M.m up
+-- to M.(m+1)
 abbrev pub star_term : Option (ℕ × ℕ) → Option Specifier
 star_term None = None
 star_term (Some m) = Some (specifier_of_parts EqualStar (release_only (m.0 ∷ m.1 ∷ [])))

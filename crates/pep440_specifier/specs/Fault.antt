@@ -13,7 +13,7 @@ use Rattle.pep440_specifier.specs.declared.error.VersionSpecifierError.{VersionS
 use Rattle.pep440_specifier.specs.Operator.{is_star, operator_text, starred, takes_local}
 use Rattle.pep440_specifier.specs.Specifier.{IsReleaseAlone}
 
--- the text of a fault; what a version lacks is told in the words of versions
+-- the text of a fault; what a version lacks is worded as for versions
 abbrev pub fault_text : SpecifierFault → List ℕ
 fault_text fault.Operator = codes "Expected one of `==`, `!=`, `<`, `<=`, `>`, `>=`, `~=` and `===`"
 fault_text (fault.Version expected) = codes "Expected " ++ expected_text expected

@@ -7,7 +7,7 @@ use Rattle.pep440_specifier.specs.declared.operator.Operator.{Operator}
 use Rattle.pep440_specifier.specs.Operator.{is_star, operator_text}
 use Rattle.pep440_specifier.specs.Specifier.{Makes, Specifier}
 
--- `<`, `=`, `>`, `!` or `~`, of which operators are made
+-- `<`, `=`, `>`, `!` or `~`, the characters of operators
 abbrev pub is_operator_byte : ℕ → Bool
 is_operator_byte b = b == 60 || (b == 61 || (b == 62 || (b == 33 || b == 126)))
 
@@ -15,7 +15,7 @@ abbrev pub begins_operator : List ℕ → Bool
 begins_operator [] = false
 begins_operator (b ∷ rest) = is_operator_byte b
 
--- an operator that is written so, with nothing behind it that would make it longer
+-- an operator, followed by nothing that would make it longer
 pub record IsOperatorBefore (text : List ℕ) (operator : Operator) (rest : List ℕ) : Type 0 where
   pub joined : text ≡ operator_text operator ++ rest
   pub written : is_star operator ≡ false

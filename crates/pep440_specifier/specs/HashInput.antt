@@ -1,5 +1,5 @@
--- What the hash of a specifier is made of: what the order looks at, so that specifiers that tie
--- have one hash.
+-- What the hash of a specifier is made of: what the order compares, so that equal specifiers have
+-- one hash.
 use Rattle.std.specs.Prelude.{◌++◌, pos}
 use Rattle.std.specs.Hash as fed
 use Rattle.std.specs.Hash.{HashWrites}

@@ -16,13 +16,13 @@ takes_local NotEqual = true
 takes_local ExactEqual = true
 takes_local operator = false
 
--- the operator in front of `.*`, where one may stand there
+-- the operator before `.*`, if it accepts that
 abbrev pub starred : Operator → Option Operator
 starred Equal = Some EqualStar
 starred NotEqual = Some NotEqualStar
 starred operator = None
 
--- the operator in front of a pattern: a plain one leaves it as it is
+-- the operator before a pattern: a pattern without a star does not change it
 abbrev pub before_pattern : Operator → Bool → Option Operator
 before_pattern operator true = starred operator
 before_pattern operator false = Some operator
@@ -40,7 +40,7 @@ rank LessThanEqual = 7
 rank GreaterThan = 8
 rank GreaterThanEqual = 9
 
--- the operator that takes the versions which another does not; `~=` has none
+-- the operator that matches the versions that another does not match; `~=` has none
 abbrev pub negated : Operator → Option Operator
 negated Equal = Some NotEqual
 negated EqualStar = Some NotEqualStar
@@ -53,7 +53,7 @@ negated LessThanEqual = Some GreaterThan
 negated GreaterThan = Some LessThanEqual
 negated GreaterThanEqual = Some LessThan
 
--- what stands before the version
+-- the text before the version
 abbrev pub operator_text : Operator → List ℕ
 operator_text Equal = codes "=="
 operator_text EqualStar = codes "=="

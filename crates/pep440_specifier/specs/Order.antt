@@ -8,8 +8,7 @@ use Rattle.pep440_specifier.specs.declared.operator.Operator.TheVariants.{EqualS
 use Rattle.pep440_specifier.specs.Operator.{rank}
 use Rattle.pep440_specifier.specs.Specifier.{Specifier}
 
--- how many release numbers there are, where the last of them tells what is taken: for a star and
--- `~=`
+-- how many release numbers there are, if their number matters: for a star and `~=`
 abbrev pub counted_of : Operator → ℕ → ℕ
 counted_of EqualStar n = n
 counted_of NotEqualStar n = n

@@ -6,23 +6,23 @@ use Rattle.pep440_specifier.specs.declared.operator.Operator.{Operator}
 use Rattle.pep440_specifier.specs.declared.operator.Operator.TheVariants.{TildeEqual}
 use Rattle.pep440_specifier.specs.Operator.{is_star, takes_local, before_pattern}
 
--- what a contract sees of a specifier; the version is the release before `.*` where the operator is
--- a star
+-- what a contract sees of a specifier; the version is the release before `.*` if the operator is a
+-- star
 pub record Specifier : Type 0 where
   pub operator : Operator
   pub version : Parts
 
--- a version with nothing behind its release
+-- a version with only an epoch and a release
 abbrev pub IsReleaseAlone : Parts → Type 0
 IsReleaseAlone v = v ≡ record (release_only v.release) { epoch = v.epoch }
 
 -- the operator and the version go together
 pub record IsAllowed (s : Specifier) : Type 0 where
-  -- a star stands behind epoch and release alone
+  -- a star follows only an epoch and a release
   pub star : is_star s.operator ≡ true → IsReleaseAlone s.version
   -- a compatible release has a number to raise and one to leave open
   pub compatible : s.operator ≡ TildeEqual → 2 ≤ length s.version.release
-  -- a local part stands with equality alone
+  -- only equality has a local part
   pub local : takes_local s.operator ≡ false → s.version.locals ≡ []
 
 -- an operator and a pattern, that is a version and whether `.*` follows it, make this specifier

@@ -1,4 +1,4 @@
-//! Ranges of releases as specifiers.
+//! Specifiers of a range of releases.
 
 ghost use Rattle.std.specs.Prelude.{◌≡◌, IfOk};
 ghost use Rattle.std.specs.Iterator.{YieldsFirstBy, item_count};
@@ -10,7 +10,8 @@ use pep440_version::Version;
 use std::alloc::{AllocError, Global};
 use std::ops::Bound;
 
-/// The specifiers of a range, at most two, as `from_release_only_bounds` gives them.
+/// The specifiers of a range, at most two, returned by
+/// [`VersionSpecifier::from_release_only_bounds`].
 #[derive(Debug, Drop)]
 pub struct BoundSpecifiers {
     first: Option<VersionSpecifier>,
@@ -18,12 +19,11 @@ pub struct BoundSpecifiers {
 }
 
 impl VersionSpecifier {
-    /// The specifiers whose conjunction means the range between two bounds that are releases.
+    /// Returns the specifiers whose conjunction is the range between two bounds that are releases.
     ///
-    /// Two included bounds that are equal give `==`. From M.m up to M.(m+1) it is `==M.m.*`, where
-    /// the bounds are at most two release numbers alone, `3` counting as `3.0`. Else each bound
-    /// gives a specifier of its own; one with a local part, which these do not take, counts as its
-    /// release. It is refused for want of memory alone.
+    /// Two equal included bounds give `==`. A range from M.m up to M.(m+1) gives `==M.m.*` if each
+    /// bound has at most two release numbers; `3` counts as `3.0`. Otherwise each bound gives one
+    /// specifier; a bound with a local part, which these do not accept, counts as its release.
     pub fn from_release_only_bounds(
         alloc: Global,
         bounds: (Bound<&Version>, Bound<&Version>),
@@ -73,7 +73,7 @@ fn minor_of(version: &Version) -> Option<(u64, u64)>
     }
 }
 
-// M.m of a range from M.m up to M.(m+1).
+// M.m, if the range is from M.m up to M.(m+1).
 fn star_between(lower: &Version, upper: &Version) -> Option<(u64, u64)>
     ensures { result ≡ star_between lower.now upper.now }
 {
@@ -86,7 +86,7 @@ fn star_between(lower: &Version, upper: &Version) -> Option<(u64, u64)>
     }
 }
 
-// The one specifier that means the range.
+// The one specifier of the range.
 fn single(
     alloc: Global,
     lower: Bound<&Version>,
@@ -115,7 +115,7 @@ fn single(
     }
 }
 
-// The version that stands for a bound of a half line.
+// The version in the specifier of one bound.
 fn bound_version(alloc: Global, version: &Version) -> Result<Version, AllocError>
     ensures { IfOk result (λ bound. bound ≡ bounding version.now) }
 {

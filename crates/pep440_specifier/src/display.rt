@@ -6,7 +6,7 @@ ghost use Rattle.pep440_specifier.specs.Text.{specifier_text};
 use crate::specifier::VersionSpecifier;
 use std::fmt;
 
-/// Writes the operator, the version as its normal text, and `.*` for a star, as `==3.9.*`.
+/// Writes the operator, the normal text of the version, and `.*` for a star: `==3.9.*`.
 impl fmt::Display for VersionSpecifier {
     ghost output = { λ s. Some (specifier_text s) };
 

@@ -1,4 +1,4 @@
-//! Why an operator and a version, or a text, are no specifier, told in one line.
+//! The error of an invalid specifier, a message of one line.
 
 ghost use Rattle.std.specs.Prelude.{◌≡◌, IfOk, IfSome, MatchOption, None, Some};
 ghost use Rattle.pep440_specifier.specs.Fault.{IsAt, IsBetweenCharacters, IsToldOf, error_text, fault_text, offset_of};
@@ -10,20 +10,20 @@ use std::alloc::{AllocError, Global};
 use std::error::Error;
 use std::fmt;
 
-/// What a specifier lacks.
+/// What an invalid specifier lacks.
 #[derive(Clone, Copy, Debug, PartialEq, Eq)]
 pub enum SpecifierFault {
-    /// One of the eight operators, `=>` for one being none.
+    /// One of the eight operators; `=>` is not one.
     Operator,
     /// A version, or a release with `.*` after it.
     Version(Expected),
-    /// A version in place of a release with `.*` after it: that goes with `==` and `!=` alone.
+    /// A version without `.*`: only `==` and `!=` accept one with it.
     NoStar(Operator),
-    /// A release without anything more before `.*`, an epoch apart.
+    /// A release without anything but an epoch, before `.*`.
     ReleaseAlone,
-    /// A second release number after `~=`, as the `2` of `~=1.2`.
+    /// A second release number after `~=`, such as the `2` of `~=1.2`.
     SecondNumber,
-    /// A version without a local part: that goes with `==`, `!=` and `===` alone.
+    /// A version without a local part: only `==`, `!=` and `===` accept one with it.
     NoLocal(Operator),
 }
 
@@ -55,8 +55,8 @@ impl fmt::Display for SpecifierFault {
     }
 }
 
-/// Why an operator and a version are no specifier, or why a text is none: what was expected, and
-/// for a text at which byte of it.
+/// Why an operator and a version, or a text, are an invalid specifier: what was expected, and for a
+/// text at which byte.
 #[derive(Debug, Drop, PartialEq, Eq)]
 pub struct VersionSpecifierError {
     pub(crate) fault: SpecifierFault,
@@ -64,14 +64,14 @@ pub struct VersionSpecifierError {
 }
 
 impl VersionSpecifierError {
-    // The fault of an operator and a version that were not read from a text.
+    // The fault of an operator and a version that were not parsed from a text.
     pub(crate) fn without_text(fault: SpecifierFault) -> VersionSpecifierError
         ensures { result.fault ≡ fault }
     {
         VersionSpecifierError { fault, place: None }
     }
 
-    // A fault with so many bytes from it to the end of the text, white space at the end apart.
+    // A fault `rest` bytes before the end of the text, not counting the white space there.
     pub(crate) fn before_rest(
         alloc: Global,
         text: &str,
@@ -89,14 +89,14 @@ impl VersionSpecifierError {
         })
     }
 
-    /// What was expected.
+    /// Returns what was expected.
     pub fn fault(&self) -> SpecifierFault
         ensures { result ≡ self.now.fault }
     {
         self.fault
     }
 
-    /// The text that was read, with the white space around it, None where no text was read.
+    /// Returns the parsed text, with the white space around it. `None` if no text was parsed.
     pub fn text(&self) -> Option<&str>
         ensures { MatchOption result (self.now.place ≡ None)
             (λ text. IsAt self.now.place text.now) }
@@ -107,8 +107,8 @@ impl VersionSpecifierError {
         }
     }
 
-    /// How many bytes of the text stand before the fault, None where no text was read. There a
-    /// character begins, or the text ends.
+    /// Returns the offset of the fault in bytes. A character begins there, or the text ends. `None`
+    /// if no text was parsed.
     pub fn offset(&self) -> Option<usize>
         ensures value { result ≡ offset_of self.now.place }
         ensures boundary { IfSome result (λ offset. IsBetweenCharacters self.now.place offset) }

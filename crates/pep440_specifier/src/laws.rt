@@ -1,4 +1,4 @@
-//! Laws of specifiers. A call of one does nothing: what it promises is its contract.
+//! Laws of specifiers. Each is a function that does nothing, whose contract is the law.
 
 ghost use Rattle.std.specs.Prelude.{◌≡◌, ◌↔◌, ℕ, List, true};
 ghost use Rattle.std.specs.Cmp.{IsTotalOrder};
@@ -21,39 +21,38 @@ pub fn order_is_total()
     ensures { IsTotalOrder specifier_cmp }
 {}
 
-/// The order tells two specifiers apart but where they are the same: where operator and version
-/// are, and for a star and `~=` the number of release numbers.
+/// Two specifiers are equal in the order exactly if their operators and versions are, and for a
+/// star and `~=` the number of release numbers.
 pub fn order_ties_the_same_specifier()
     ensures { (s t : Specifier) → specifier_cmp s t ≡ Equal ↔ IsSameSpecifier s t }
 {}
 
-/// Specifiers that are equal are hashed alike.
+/// Equal specifiers have the same hash.
 pub fn equal_specifiers_hash_alike()
     ensures { Alike (eq_by_cmp specifier_cmp) specifier_writes }
 {}
 
-/// A text says at most one specifier.
+/// A text denotes at most one specifier.
 pub fn text_says_one_specifier()
     ensures { (text : List ℕ) (s t : Specifier)
         → IsSpecifierText text s → IsSpecifierText text t → s ≡ t }
 {}
 
-/// The operator and the version of each specifier go together, and the parts of its version are
-/// valid.
+/// The operator of each specifier accepts its version, whose parts are valid.
 pub fn specifiers_are_well_formed(specifier: &VersionSpecifier)
     ensures { IsWellFormed specifier.now }
 {
     normal_text_reads_back(specifier.version());
 }
 
-/// The text of a specifier is read back as that specifier, with as many release numbers, stars and
-/// `~=` included.
+/// The text of a specifier parses back to that specifier, with as many release numbers, including
+/// stars and `~=`.
 pub fn specifier_text_reads_back()
     ensures { (s : Specifier) → IsWellFormed s → IsSpecifierText (specifier_text s) s }
 {}
 
-/// The text of a specifier has the characters of versions and of operators, and `*`, alone: no
-/// white space, no capital, no comma, no semicolon and no quote.
+/// The text of a specifier has only the characters of versions and operators, and `*`: no white
+/// space, capital, comma, semicolon or quote.
 pub fn specifier_text_is_plain()
     ensures bytes { (s : Specifier) → IsWellFormed s
         → list_all is_specifier_byte (specifier_text s) ≡ true }

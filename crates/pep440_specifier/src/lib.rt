@@ -1,4 +1,7 @@
-//! Version specifiers of PEP 440, such as `>=3.8`: their operators, their texts and their order.
+//! Version specifiers (PEP 440) such as `>=3.8`: operators, parsing, printing and order.
+//!
+//! Calls that allocate return `AllocError` or `OutOfMemory` when memory runs out. No call returns
+//! `SegmentAtEnd`. Comparing and hashing allocate nothing.
 #![tactic(auto)]
 
 mod bounds;

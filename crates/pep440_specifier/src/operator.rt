@@ -5,7 +5,7 @@ ghost use Rattle.pep440_specifier.specs.Operator.{is_star, negated, operator_tex
 
 use std::fmt;
 
-/// How a version is compared by a specifier (PEP 440, "Version specifiers").
+/// How a specifier compares versions (PEP 440, "Version specifiers").
 #[derive(Clone, Copy, Debug, PartialEq, Eq, PartialOrd, Ord, Hash)]
 pub enum Operator {
     /// `==`
@@ -31,15 +31,15 @@ pub enum Operator {
 }
 
 impl Operator {
-    /// Whether `.*` follows the version, as in `== 3.9.*`.
+    /// Returns whether `.*` follows the version, as in `== 3.9.*`.
     pub fn is_star(self) -> bool
         ensures { result ≡ is_star self }
     {
         matches!(self, Operator::EqualStar | Operator::NotEqualStar)
     }
 
-    /// The operator that takes the versions which this one does not, and `!=` for `===`. `~=` has
-    /// none.
+    /// Returns the operator that matches the versions that this one does not match; for `===` it is
+    /// `!=`. `None` for `~=`.
     pub fn negate(self) -> Option<Operator>
         ensures { result ≡ negated self }
     {
@@ -58,7 +58,8 @@ impl Operator {
     }
 }
 
-/// Writes the operator as it stands before a version; what it says of a star stands behind that.
+/// Writes the operator as before a version, without the `.*` of a star, which comes after the
+/// version.
 impl fmt::Display for Operator {
     ghost output = { λ operator. Some (operator_text operator) };
 

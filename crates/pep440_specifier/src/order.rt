@@ -1,5 +1,4 @@
-//! The order, the equality and the hash of specifiers. Each looks at each part once, and allocates
-//! nothing.
+//! The order, equality and hash of specifiers. Each visits each part once and allocates nothing.
 
 ghost use Rattle.std.specs.Prelude.{◌≡◌, Some, refl};
 ghost use Rattle.std.specs.Cmp.{eq_by_cmp_equiv, partial_equiv_from_equiv, po};
@@ -14,7 +13,7 @@ use crate::specifier::VersionSpecifier;
 use std::cmp::Ordering;
 use std::hash::{Hash, Hasher};
 
-// The number of release numbers, where it tells one specifier from another.
+// The number of release numbers, if specifiers may differ in it.
 fn number_count(specifier: &VersionSpecifier) -> usize
     ensures { result ≡ number_count specifier.now }
 {

@@ -1,4 +1,4 @@
-//! `VersionSpecifier::parse`.
+//! Parsing specifiers.
 
 ghost use Rattle.std.specs.Prelude.{◌≡◌, ◌≢◌, ◌≤◌, IfErr, IfNone, IfOk, IfSome, List, ℕ, false, length};
 ghost use Rattle.std.specs.List.{prefix_len};
@@ -17,19 +17,21 @@ use pep440_version::{Refusal, VersionParseError, VersionPattern};
 use std::alloc::{AllocError, Global};
 
 impl VersionSpecifier {
-    /// Reads an operator and a version, or an operator and a release with `.*` after it, as `>=3.8`
-    /// and `== 3.9.*` (PEP 440, "Version specifiers").
+    /// Parses an operator and a version, or an operator and a release with `.*` after it, such as
+    /// `>=3.8` and `== 3.9.*` (PEP 440, "Version specifiers"). White space around the operator and
+    /// the version is ignored.
     ///
-    /// White space may stand around the operator and the version. A text that is no specifier is a
-    /// `Fault`, which says what was expected at which byte. `SegmentAtEnd` never comes.
+    /// # Errors
+    /// - [`Refusal::Fault`] if the text is an invalid specifier: what was expected at which byte.
+    /// - [`Refusal::OutOfMemory`] when memory runs out.
     pub fn parse(
         alloc: Global,
         text: &str,
     ) -> Result<VersionSpecifier, Refusal<VersionSpecifierError>>
-        // What is read is what the text says.
+        // What is returned is what the text denotes.
         ensures found { IfOk result (λ s. IsSpecifierText text.now s) }
 
-        // What the text says is read, unless memory runs out.
+        // A valid text is parsed, unless memory runs out.
         ensures only { (s : Specifier) → IsSpecifierText text.now s → IsGivenUnlessMemory result s }
         ensures at_end { IfErr result (λ e. e ≢ SegmentAtEnd) }
         ensures fault { IfErr result (λ e. IfFault e (λ error. IsToldOf error text.now)) }
@@ -50,7 +52,7 @@ impl VersionSpecifier {
     }
 }
 
-// How many characters of operators stand at the front.
+// How many characters of operators are at the front.
 fn run_len(text: &[u8]) -> usize
     ensures value { result ≡ prefix_len is_operator_byte text.now }
     ensures fits { result ≤ length text.now }
@@ -60,7 +62,7 @@ fn run_len(text: &[u8]) -> usize
         .count()
 }
 
-// The operator that is written so.
+// The operator with this text.
 fn operator_of(run: &str) -> Option<Operator>
     ensures found { IfSome result (λ operator. run.now ≡ operator_text operator) }
     ensures written { IfSome result (λ operator. is_star operator ≡ false) }
@@ -79,7 +81,7 @@ fn operator_of(run: &str) -> Option<Operator>
     }
 }
 
-// The operator at the front, and what follows it.
+// The operator at the front, and the rest.
 #[tactic(auto, using(crate::proofs::Operators::operator_at_front))]
 fn operator_before(text: &str) -> Option<(Operator, &str)>
     ensures found { IfSome result (λ x. IsOperatorBefore text.now x.0 x.1.now) }
@@ -93,7 +95,7 @@ fn operator_before(text: &str) -> Option<(Operator, &str)>
     Some((operator, rest))
 }
 
-// The refusal for a fault so many bytes before the end, white space there apart.
+// The refusal for a fault `rest` bytes before the end, not counting the white space there.
 fn refusal_before(
     alloc: Global,
     text: &str,
@@ -109,7 +111,7 @@ fn refusal_before(
     }
 }
 
-// The refusal for what follows an operator and is no pattern.
+// The refusal for an invalid pattern after an operator.
 fn of_pattern(
     alloc: Global,
     text: &str,
@@ -128,7 +130,7 @@ fn of_pattern(
     )
 }
 
-// The refusal for an operator and a pattern that do not go together.
+// The refusal for an operator that does not accept the pattern.
 fn of_combination(
     alloc: Global,
     text: &str,

@@ -6,7 +6,7 @@ ghost use Rattle.pep440_version.specs.Message.{found_in, place_text};
 
 use std::fmt;
 
-// A text, and a character's start in it.
+// A text, and the start of a character in it.
 #[derive(Debug, Drop, PartialEq, Eq)]
 pub(crate) struct Place {
     pub(crate) text: String,
@@ -15,7 +15,7 @@ pub(crate) struct Place {
 }
 
 impl Place {
-    // What stands there, None where nothing but white space follows.
+    // The character there, or `None` if only white space follows.
     fn character(&self) -> Option<char>
         ensures { result ≡ found_in (drop self.now.offset (string_bytes self.now.text)) }
     {

@@ -14,8 +14,8 @@ use std::marker::Model;
 
 /// An operator with a version, such as `>= 3.8` or `== 3.9.*`.
 ///
-/// Only what PEP 440 allows is one: a star stands behind a release alone, `~=` has two release
-/// numbers at least, and a local part stands with `==`, `!=` and `===` alone.
+/// Every value is allowed by PEP 440: only a release has a star, `~=` has at least two release
+/// numbers, and only `==`, `!=` and `===` have a local part.
 ///
 /// ```
 /// let specifier = VersionSpecifier::parse(alloc, "~= 2.8")?;
@@ -42,11 +42,12 @@ impl Model for VersionSpecifier {
 }
 
 impl VersionSpecifier {
-    /// A specifier of an operator and a pattern; `==` and `!=` before a release with `.*` after it
-    /// are `EqualStar` and `NotEqualStar`.
+    /// Returns the specifier of an operator and a pattern. `==` and `!=` with a star are
+    /// `EqualStar` and `NotEqualStar`.
     ///
-    /// It is refused where `.*` stands behind another operator than `==` and `!=`, and where
-    /// `from_version` refuses. The error tells which.
+    /// # Errors
+    /// - What is missing, if an operator other than `==` and `!=` has a star.
+    /// - The errors of [`VersionSpecifier::from_version`].
     pub fn from_pattern(
         operator: Operator,
         pattern: VersionPattern,
@@ -67,11 +68,12 @@ impl VersionSpecifier {
         }
     }
 
-    /// A specifier of an operator and a version.
+    /// Returns the specifier of an operator and a version.
     ///
-    /// It is refused where more than an epoch and a release stands behind a star operator, where
-    /// one release number alone stands behind `~=`, and where a local part stands behind another
-    /// operator than `==`, `!=` and `===`. The error tells which.
+    /// # Errors
+    /// - What is missing, if the operator does not accept the version: a star operator has more
+    ///   than an epoch and a release, `~=` has only one release number, or an operator other than
+    ///   `==`, `!=` and `===` has a local part.
     pub fn from_version(
         operator: Operator,
         version: Version,
@@ -86,7 +88,7 @@ impl VersionSpecifier {
         }
     }
 
-    /// The operator and the version.
+    /// Returns the operator and the version.
     pub fn into_parts(self) -> (Operator, Version)
         ensures { result ≡ (self.operator, self.version) }
     {
@@ -94,14 +96,14 @@ impl VersionSpecifier {
         (operator, version)
     }
 
-    /// How the version is compared.
+    /// Returns the operator.
     pub fn operator(&self) -> Operator
         ensures { result ≡ self.now.operator }
     {
         self.operator
     }
 
-    /// The version, or the release before `.*`.
+    /// Returns the version, or the release before `.*`.
     pub fn version(&self) -> &Version
         ensures value { result.now ≡ self.now.version }
         ensures allowed { IsAllowed self.now }
@@ -110,7 +112,7 @@ impl VersionSpecifier {
     }
 }
 
-// The operator in front of `.*`.
+// The operator with a star.
 fn with_star(operator: Operator) -> Option<Operator>
     ensures { result ≡ starred operator }
 {
@@ -130,7 +132,7 @@ fn takes_local(operator: Operator) -> bool
     )
 }
 
-// Whether nothing stands behind the release.
+// Whether the version has nothing but an epoch and a release.
 pub(crate) fn is_alone(version: &Version) -> bool
     ensures { result ≡ is_alone version.now }
 {
@@ -140,7 +142,7 @@ pub(crate) fn is_alone(version: &Version) -> bool
         && version.local().is_empty()
 }
 
-// Why the operator and the version do not go together.
+// Why the operator does not accept the version.
 fn fault_between(operator: Operator, version: &Version) -> Option<SpecifierFault>
     ensures allowed { IfNone result
         (IsAllowed (record { operator = operator; version = version.now })) }
@@ -160,8 +162,8 @@ fn fault_between(operator: Operator, version: &Version) -> Option<SpecifierFault
     None
 }
 
-/// A clone is written as its source is. It is refused for want of memory, and never where the
-/// version has at most four release numbers and no local part.
+/// A clone is written like its source. At most four release numbers without a local part need no
+/// allocation.
 impl Clone for VersionSpecifier {
     ghost is_clone = { λ s copy. copy ≡ s };
 

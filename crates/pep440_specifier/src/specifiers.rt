@@ -23,7 +23,7 @@ use std::fmt;
 use std::hash::{Hash, Hasher};
 use std::marker::Model;
 
-/// Specifiers that all have to hold, as `>=3.8, <4`, in the order of their versions.
+/// Specifiers that must all match, such as `>=3.8, <4`, in the order of their versions.
 ///
 /// ```
 /// let below = VersionSpecifier::parse(alloc, "< 3")?;
@@ -51,9 +51,7 @@ impl Model for VersionSpecifiers {
 }
 
 impl VersionSpecifiers {
-    /// These specifiers, sorted by version; those of one version stay in their order.
-    ///
-    /// It is refused for want of memory alone.
+    /// Returns the specifiers sorted by version; those of the same version keep their order.
     pub fn from_list(specifiers: Vec<VersionSpecifier>) -> Result<VersionSpecifiers, AllocError>
         ensures same { IfOk result (λ set. IsPermutation specifiers.items set) }
         ensures sorted { IfOk result (λ set. IsSortedBy is_lower set) }
@@ -65,7 +63,7 @@ impl VersionSpecifiers {
         Ok(VersionSpecifiers { specifiers })
     }
 
-    /// The specifiers in the order of their versions.
+    /// Returns the specifiers in the order of their versions.
     pub fn as_slice(&self) -> &[VersionSpecifier]
         ensures value { result.now ≡ self.now }
         ensures set { IsSet self.now }
@@ -74,7 +72,7 @@ impl VersionSpecifiers {
     }
 }
 
-// What each specifier keeps by its type, a look at each shows of all. Nothing is done.
+// Reading each specifier shows the invariant of all. Does nothing.
 fn each_is_well_formed(specifiers: &[VersionSpecifier])
     ensures { All IsWellFormed specifiers.now }
 {
@@ -103,8 +101,7 @@ fn write_later<W: fmt::Write>(
     Ok(())
 }
 
-/// Writes the specifiers with a comma and a space between each two, and nothing where there is
-/// none.
+/// Writes the specifiers separated by a comma and a space, and nothing for an empty set.
 impl fmt::Display for VersionSpecifiers {
     ghost output = { λ set. Some (set_text set) };
 
@@ -133,7 +130,7 @@ impl Eq for VersionSpecifiers {
     ghost laws = { lists_equiv (eq_by_cmp_equiv specifier_total) };
 }
 
-/// The order of the first specifiers that differ; a proper front comes before what extends it.
+/// Compares the first specifiers that differ; a set comes before one that it is the front of.
 impl PartialOrd for VersionSpecifiers {
     ghost partial_cmp = { λ a b. Some (slice_cmp specifier_cmp a b) };
 
@@ -168,7 +165,7 @@ impl Hash for VersionSpecifiers {
     }
 }
 
-/// A clone has the same specifiers, written as they are. It is refused for want of memory.
+/// A clone has the same specifiers, written like the source's.
 impl Clone for VersionSpecifiers {
     ghost is_clone = { λ set copy. copy ≡ set };
 

@@ -17,7 +17,7 @@ digit-lower b = grind (arith, nat_tests)
 digit-same : (b : ℕ) → is_ascii_digit b ≡ true → to_ascii_lowercase b ≡ b
 digit-same b h = grind (arith, nat_tests)
 
--- a byte that is no letter
+-- a byte that is not a letter
 sign-lower : (b c : ℕ) → c < 65 → (to_ascii_lowercase b == c) ≡ (b == c)
 sign-lower b c h = grind (arith, nat_tests)
 

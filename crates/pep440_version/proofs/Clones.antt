@@ -1,4 +1,4 @@
--- Clones of local segments stand for the same segments.
+-- Clones of local segments are the same segments.
 use Rattle.std.proofs.Common.{rules, string_bytes, ◌≡◌, List, [], ◌∷◌, map, refl, ap, Result, Ok, Err, IfOk}
 use Rattle.std.specs.List.{AllZip}
 use Rattle.std.specs.Result.{MatchResult}

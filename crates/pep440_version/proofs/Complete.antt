@@ -68,14 +68,14 @@ numbered-again t n b rest (written {s} {ds} sep num) next quiet =
     let digit = starts-number ds rest num.digits num.some in
     rw (append_assoc, after_separator-again s (ds ++ rest) sep (after_separator-digit (ds ++ rest) digit), number-again ds rest n num next) refl
 
--- ---- what stands after a part
+-- ---- the text after a part
 
--- the byte is none that makes a word longer, and no `!`
+-- the byte does not make a word longer, and is not `!`
 abbrev opens : List ℕ → Bool
 opens [] = false
 opens (b ∷ t) = (b == 99 || b == 101) || (b == 108 || b == 118 || b == 33)
 
--- no part that may stand before begins or goes on here
+-- no part that may come before begins or continues here
 record Quiet (t : List ℕ) : Type 0 where
   digit : starts_digit t ≡ false
   release : number_after 46 t ≡ None
@@ -173,7 +173,7 @@ post_word-again w x word_rev h = refl
 post_word-again w [] word_r h = refl
 post_word-again w (b ∷ x) word_r h = rw (not_e b x h) refl
 
--- a word of a post release is none of a pre-release
+-- a word of a post release is not one of a pre-release
 post_word-no_pre : (w x : List ℕ) → IsPostWord w → opens x ≡ false → pre_word_at (w ++ x) ≡ None
 unfolding pre_word_at strip
 post_word-no_pre w x word_post h = refl
@@ -279,7 +279,7 @@ pre-again p o b rest (pre {s = s} {w = w} {t = t} {kind = kind} {n = n} sep is_w
     let skip = after_separator-word s (w ++ (t ++ rest)) sep (pre_word-front w kind (t ++ rest) is_word) in
     rw (regroup s w t rest, skip, pre_word-again w kind (t ++ rest) is_word opened, numbered-again t n b rest num c.0.digit c.1) refl
 
--- what stands after a release
+-- the text after a release
 pub record AfterRelease (t : List ℕ) : Type 0 where
   pub digit : starts_digit t ≡ false
   pub release : number_after 46 t ≡ None
@@ -359,7 +359,7 @@ mark-again m t mark h = refl
 
 -- ---- local segments
 
--- no letter or digit goes on here
+-- no letter or digit continues here
 abbrev stops : List ℕ → Bool
 stops [] = true
 stops (b ∷ t) = not (is_word_byte b)
@@ -443,7 +443,7 @@ locals-again : (l : List ℕ) (ss : List Segment) → IsLocal l ss → locals_at
 locals-again l ss no_local = refl
 locals-again l ss (plus {t = t} h) = segments-again t ss h (length t) (omega arith)
 
--- what stands after a release of a version
+-- the text after a release of a version
 pub after-version : (p q d l : List ℕ) (after : Bool) (v : Parts) → IsPre p v.pre after → IsPost after q v.post → IsDev d v.dev → IsLocal l v.locals → AfterRelease (p ++ (q ++ (d ++ l)))
 after-version p q d l after v is_p is_q is_d is_l =
     pre-tail p v.pre after (q ++ (d ++ l)) is_p (post-tail after q v.post (d ++ l) is_q (calm-dev d v.dev l is_d (calm-local l v.locals is_l).0))

@@ -1,4 +1,4 @@
--- An epoch and a release, from the number that stands first.
+-- An epoch and a release, from the first number on.
 use Rattle.std.proofs.Common.{◌≡◌, ◌==◌, ℕ, arith, Option, Some, None, List, [], ◌∷◌, length, refl, sym, ap, inl, inr}
 use Rattle.std.specs.Prelude.{codes}
 use Rattle.std.proofs.lemmas.Bool.{cases_Bool}

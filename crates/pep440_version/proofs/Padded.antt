@@ -41,7 +41,7 @@ unfolding significant
 significant-push [] y h = rw h refl
 significant-push (x ∷ xs) y h = ap (keep x) (significant-push xs y h) ∙ cons-keep x y xs
 
--- ---- what a test of an answer says
+-- ---- what a test of a result means
 
 pub then_other : (r s : Ordering) → true ≡ not (ordering_index r == 1) → ordering_then r s ≡ r
 then_other Less s h = refl

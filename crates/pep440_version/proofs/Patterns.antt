@@ -12,7 +12,7 @@ use Rattle.pep440_version.specs.Reading.{after_mark, epoch_at, is_asterisk, is_e
 use Rattle.pep440_version.proofs.Complete.{AfterRelease, after-version, epoch-again, epoch-digit, mark-again, regroup, release-again, release-digit, version-again}
 use Rattle.pep440_version.proofs.Sound.{epoch-sound, mark-sound, or-cases, release-sound, some-value, version-sound}
 
--- ---- what stands after a release begins no star
+-- ---- the text after a release does not begin with a star
 
 star-separated : (s x : List ℕ) → IsSeparator s → is_star x ≡ false → is_asterisk x ≡ false → is_star (s ++ x) ≡ false
 star-separated s x left_out h k = h
@@ -123,7 +123,7 @@ star-again m e r n ns is_m is_e is_r =
     let start = epoch-digit e n (r ++ codes ".*") is_e (release-digit r ns (codes ".*") is_r) in
     rw (mark-again m (e ++ (r ++ codes ".*")) is_m start, epoch-again e n r ns (codes ".*") is_e is_r star-after, release-again r ns (codes ".*") is_r star-after) refl
 
--- a version is no release with a star
+-- a version is not a release with a star
 no_star : (t : List ℕ) (v : Parts) → IsVersion t v → star_at t ≡ None
 unfolding star_at
 no_star t v (version {m = m} {e = e} {r = r} {p = p} {q = q} {d = d} {l = l} {after = after} is_m is_e is_r is_p is_q is_d is_l) =
@@ -154,7 +154,7 @@ one_pattern t v w b d h k =
     let same = some-value _ _ (sym (pattern-again t v b h) ∙ pattern-again t w d k) in
     (ap (λ (p : Parts × Bool). p.0) same, ap (λ (p : Parts × Bool). p.1) same)
 
--- ---- what a text says is read, and nothing else
+-- ---- a text is parsed as exactly what it denotes
 
 -- t is the text without the white space around it
 

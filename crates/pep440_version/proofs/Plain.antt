@@ -1,4 +1,4 @@
--- The normal text of a version has lower-case letters, digits, `!`, `+` and `.` alone.
+-- The normal text of a version has only lower-case letters, digits, `!`, `+` and `.`.
 use Rattle.std.proofs.Common.{◌≡◌, ◌==◌, ◌++◌, ℕ, Bool, true, Option, Some, None, List, [], ◌∷◌, refl, inl, inr, arith}
 use Rattle.std.proofs.lemmas.Bool.{and_from, and_parts, cases_Bool}
 use Rattle.std.proofs.lemmas.Bool.Decides.{nat_tests}

@@ -1,4 +1,4 @@
--- A text of the grammar has no white space and no capital, so that it is read as it stands.
+-- A text of the grammar has no white space and no capital, so it is parsed as it is.
 use Rattle.std.proofs.Common.{◌≡◌, ◌==◌, ◌<◌, ◌++◌, ℕ, zero, suc, Bool, true, false, not, ◌&&◌, nat_lt, Option, List, [], ◌∷◌, map, refl, sym, ap, ◌∙◌, arith, inl, inr, subst}
 use Rattle.std.proofs.lemmas.Bool.{cases_Bool, eqb-true}
 use Rattle.std.proofs.lemmas.Bool.Decides.{nat_tests}
@@ -158,7 +158,7 @@ plain-trim t h =
     let bytes = encodes-IsAscii t ascii in
     rw (chars, plain-start t h, bytes, chars, plain-end t h, bytes) refl
 
--- what is in the grammar is read as it stands
+-- a text of the grammar is parsed as it is
 pub version-text : (t : List ℕ) (v : Parts) → IsVersion t v → IsVersionText t v
 version-text t v h =
     let plain = version-plain t v h in

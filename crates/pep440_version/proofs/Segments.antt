@@ -1,4 +1,4 @@
--- The derived order and hash of local segments are those of what the segments stand for.
+-- The derived order and hash of local segments are those of their values.
 use Rattle.std.proofs.Common.{◌≡◌, ◌++◌, List, [], ◌∷◌, map, length, refl}
 use Rattle.std.specs.List.{flat_map}
 use Rattle.std.specs.Ordering.{ordering_then}

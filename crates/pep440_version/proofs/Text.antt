@@ -79,7 +79,7 @@ valid-text v h =
     (sym (append_assoc (pre_text v.pre) (post_text v.post ++ dev_text v.dev) (local_text v.locals) ∙ ap (λ (z : List ℕ). pre_text v.pre ++ z) (append_assoc (post_text v.post) (dev_text v.dev) (local_text v.locals)))) in
     subst (λ (z : List ℕ). IsVersion z v) same whole
 
--- the normal text of a release, with `.*` behind it, derives that release with a star
+-- the normal text of a release, followed by `.*`, derives that release with a star
 pub star-text : (e : ℕ) (ns : List ℕ) → IsValid (starred_parts e ns) → IsPattern (version_text (starred_parts e ns) ++ codes ".*") (starred_parts e ns) true
 unfolding version_text
 star-text e ns h =

@@ -11,7 +11,7 @@ use Rattle.pep440_version.specs.declared.version.PrereleaseKind.TheVariants.{Alp
 use Rattle.pep440_version.specs.Parts.{Parts, Segment, word, number}
 use Rattle.pep440_version.specs.Valid.{Fits, IsWord}
 
--- the number that digits stand for, after some of this value; `0` is byte 48
+-- the value of digits, after those of a value so far; `0` is byte 48
 abbrev pub value_from : ℕ → List ℕ → ℕ
 value_from v [] = v
 value_from v (b ∷ ds) = value_from (v * 10 + (b - 48)) ds
@@ -89,7 +89,7 @@ pub data IsDev : List ℕ → Option ℕ → Type 0 where
   dev : {s t : List ℕ} {n : ℕ} {b : Bool} → IsSeparator s → IsNumbering t n b
       → IsDev (s ++ (codes "dev" ++ t)) (Some n)
 
--- a segment of the local part: digits alone are a number
+-- a segment of the local part: only digits are a number
 pub data IsSegment : List ℕ → Segment → Type 0 where
   numeric : {ds : List ℕ} {n : ℕ} → IsNumber ds n → IsSegment ds (number n)
   textual : {t : List ℕ} → IsWord t → IsSegment t (word t)
@@ -117,7 +117,7 @@ pub data IsVersion : List ℕ → Parts → Type 0 where
 abbrev pub IsVersionText : List ℕ → Parts → Type 0
 IsVersionText text v = IsVersion (map to_ascii_lowercase (trim text)) v
 
--- an epoch and a release alone
+-- only an epoch and a release
 abbrev pub starred_parts : ℕ → List ℕ → Parts
 starred_parts n ns =
     record { epoch = n; release = ns; pre = None; post = None; dev = None; locals = [] }

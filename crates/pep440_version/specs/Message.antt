@@ -13,24 +13,24 @@ expected_text Suffix = codes "a pre-release, a post release or a development rel
 expected_text LocalSegment = codes "letters or digits of the local version"
 expected_text End = codes "the end of the version"
 
--- the first character, where there is one
+-- the first character, if there is one
 abbrev pub first_of : List ℕ → Option ℕ
 first_of [] = None
 first_of (c ∷ cs) = Some c
 
--- what stands at the front of the rest of a text; white space alone is as nothing
+-- the character at the front of the rest of a text; only white space counts as nothing
 abbrev pub found_in : List ℕ → Option ℕ
 found_in rest = if length (trim rest) == 0 then None else first_of (chars rest)
 
--- what was found in a text, and at which byte. A text and a character are quoted as `{:?}` quotes
--- them, of which only ASCII is known here
+-- what was found in a text, and at which byte. A text and a character are quoted as by `{:?}`,
+-- which is specified only for ASCII here
 abbrev pub found_text : List ℕ → ℕ → Option ℕ → Option (List ℕ)
 found_text text offset None = Some (codes "the end of ") ++? debug_str text
 found_text text offset (Some found) =
     debug_char found ++? Some (codes " at byte " ++ (decimal offset ++ codes " of "))
     ++? debug_str text
 
--- what stands in a text at a byte, and which byte that is
+-- the character at a byte of a text, and which byte that is
 abbrev pub place_text : List ℕ → ℕ → Option (List ℕ)
 place_text text offset = found_text text offset (found_in (drop offset text))
 

@@ -76,7 +76,7 @@ version_cmp =
     (then_cmp (on dev_key ranked_cmp)
     (on (λ (v : Parts). v.locals) (slice_cmp segment_cmp))))))
 
--- the same version: the same release but for zeros at its end, and each other part the same
+-- the same version: the same release except for zeros at its end, and the same other parts
 pub record IsSameVersion (v w : Parts) : Type 0 where
   pub release : padded_cmp v.release w.release ≡ Equal
   pub pre : v.pre ≡ w.pre

@@ -130,7 +130,7 @@ padded-tie xs ys e =
     slice_cmp-IsAntisymmetric nat_cmp-IsAntisymmetric (significant xs) (significant ys)
     (sym (padded-significant xs ys) ∙ e)
 
--- ---- the order ties the same version alone
+-- ---- only the same version is equal in the order
 
 kind_rank-injective : (j k : PrereleaseKind) → kind_rank j ≡ kind_rank k → j ≡ k
 kind_rank-injective Alpha Alpha e = refl
@@ -143,7 +143,7 @@ kind_rank-injective Rc Alpha e = absurd (omega arith)
 kind_rank-injective Rc Beta e = absurd (omega arith)
 kind_rank-injective Rc Rc e = refl
 
--- the rank of no pre-release is no kind's
+-- the rank of no pre-release is not that of a kind
 no_kind : (k : PrereleaseKind) (post dev : Option ℕ)
     → kind_rank k ≡ (pre_key_of None post dev).0 → ⊥
 no_kind Alpha None None e = omega arith

@@ -7,7 +7,7 @@ pub data Segment : Type 0 where
   word : List ℕ → Segment
   number : ℕ → Segment
 
--- what a contract sees of a version; two versions are `≡` where they are written alike
+-- what a contract sees of a version; two versions are `≡` if they are written alike
 pub record Parts : Type 0 where
   pub epoch : ℕ
   pub release : List ℕ
@@ -16,7 +16,7 @@ pub record Parts : Type 0 where
   pub dev : Option ℕ
   pub locals : List Segment
 
--- a version of release numbers alone
+-- a version with only release numbers
 abbrev pub release_only : List ℕ → Parts
 release_only numbers =
     record { epoch = 0; release = numbers; pre = None; post = None; dev = None; locals = [] }

@@ -6,8 +6,7 @@ use Rattle.std.specs.Char.{is_ascii_digit, is_ascii_lowercase, is_ascii_uppercas
 abbrev pub is_version_byte : ℕ → Bool
 is_version_byte b = is_ascii_lowercase b || is_ascii_digit b || b == 33 || b == 43 || b == 46
 
--- a character of ASCII that is no white space, no capital, and none of `"` (34), `'` (39), `,` (44)
--- and `;` (59)
+-- an ASCII character other than white space, capitals, `"` (34), `'` (39), `,` (44) and `;` (59)
 pub record IsPlainByte (b : ℕ) : Type 0 where
   pub ascii : b < 128
   pub no_space : is_whitespace b ≡ false

@@ -158,7 +158,7 @@ abbrev pub whole_number : Option (ℕ × List ℕ) → Option Segment
 whole_number None = None
 whole_number (Some x) = Some (number x.0)
 
--- what a run of letters and digits stands for
+-- the segment of a run of letters and digits
 unfoldable pub segment_of_run : List ℕ → Option Segment
 segment_of_run run =
     if length run == 0 then None

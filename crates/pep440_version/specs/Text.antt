@@ -62,6 +62,6 @@ unfoldable pub version_text : Parts → List ℕ
 version_text v = epoch_text v.epoch ++ (release_text v.release ++
     (suffix_text v.pre v.post v.dev ++ local_text v.locals))
 
--- the normal text of an epoch and a release with `.*` behind it
+-- the normal text of an epoch and a release, and `.*`
 abbrev pub starred_text : ℕ → List ℕ → List ℕ
 starred_text epoch release = version_text (starred_parts epoch release) ++ codes ".*"

@@ -21,7 +21,7 @@ PrereleaseFits (Some p) = Fits p.number
 abbrev pub is_word_byte : ℕ → Bool
 is_word_byte b = is_ascii_lowercase b || is_ascii_digit b
 
--- letters and digits, not digits alone
+-- letters and digits, not only digits
 abbrev pub IsWord : List ℕ → Type 0
 IsWord t = (list_all is_word_byte t ≡ true) × (list_all is_ascii_digit t ≡ false)
 

@@ -1,4 +1,4 @@
-//! What is wrong with a text that is no version, told in one line.
+//! The error of an invalid version, a message of one line.
 
 ghost use Rattle.std.specs.Prelude.{◌≡◌, IfOk, Some, drop, string_bytes};
 ghost use Rattle.std.specs.Str.{IsCharBoundary};
@@ -8,16 +8,16 @@ use std::alloc::{AllocError, Global};
 use std::error::Error;
 use std::fmt;
 
-/// What a text that is no version lacks at the place of its fault.
+/// What is missing at the place of the fault in an invalid version.
 #[derive(Clone, Copy, Debug, PartialEq, Eq)]
 pub enum Expected {
-    /// A number of the release, as the `9` of `3.9`.
+    /// A number of the release, such as the `9` of `3.9`.
     ReleaseNumber,
     /// A number of at most 18446744073709551615.
     SmallerNumber,
-    /// What may follow a release and a `-` or a `_`.
+    /// What may follow a release and a `-` or `_`.
     Suffix,
-    /// A segment of the local part, as the `ubuntu` of `1.0+ubuntu.7`.
+    /// A segment of the local part, such as the `ubuntu` of `1.0+ubuntu.7`.
     LocalSegment,
     /// Nothing more.
     End,
@@ -37,8 +37,7 @@ impl fmt::Display for Expected {
     }
 }
 
-/// Why a text is no version, or no pattern of versions: what was expected, and at which byte of the
-/// text.
+/// Why a text is an invalid version or pattern: what was expected, and at which byte.
 #[derive(Debug, Drop, PartialEq, Eq)]
 pub struct VersionParseError {
     text: String,
@@ -48,7 +47,7 @@ pub struct VersionParseError {
 }
 
 impl VersionParseError {
-    // The fault of a text at a character's start.
+    // The fault of a text at the start of a character.
     pub(crate) fn new(
         alloc: Global,
         text: &str,
@@ -65,15 +64,14 @@ impl VersionParseError {
         })
     }
 
-    /// The text that was read, with the white space around it.
+    /// Returns the parsed text, with the white space around it.
     pub fn text(&self) -> &str
         ensures { result.now ≡ string_bytes self.now.text }
     {
         self.text.as_str()
     }
 
-    /// How many bytes of the text stand before the fault. There a character begins, or the text
-    /// ends.
+    /// Returns the offset of the fault in bytes. A character begins there, or the text ends.
     pub fn offset(&self) -> usize
         ensures value { result ≡ self.now.offset }
         ensures boundary { IsCharBoundary (string_bytes self.now.text) result }
@@ -81,14 +79,14 @@ impl VersionParseError {
         self.offset
     }
 
-    /// What was expected there.
+    /// Returns what was expected there.
     pub fn expectation(&self) -> Expected
         ensures { result ≡ self.now.expected }
     {
         self.expected
     }
 
-    // What stands at the fault, None where nothing but white space follows.
+    // The character at the fault, or `None` if only white space follows.
     fn character(&self) -> Option<char>
         ensures { result ≡ found_in (drop self.now.offset (string_bytes self.now.text)) }
     {

@@ -1,4 +1,4 @@
-//! The cause and the place of the fault in a text that is no version.
+//! The cause and the place of the fault in an invalid version.
 
 ghost use Rattle.std.specs.Prelude.{◌≡◌, IfOk, string_bytes};
 
@@ -6,7 +6,7 @@ use crate::error::{Expected, VersionParseError};
 use crate::read;
 use std::alloc::{AllocError, Global};
 
-// What is wrong with a text that is no version.
+// The fault of an invalid version.
 pub(crate) fn of_version(alloc: Global, text: &str) -> Result<VersionParseError, AllocError>
     ensures { IfOk result (λ fault. string_bytes fault.text ≡ text.now) }
 {
@@ -15,7 +15,7 @@ pub(crate) fn of_version(alloc: Global, text: &str) -> Result<VersionParseError,
     before_rest(alloc, text, rest.len(), expected)
 }
 
-// What is wrong with a text that is no pattern of versions.
+// The fault of an invalid pattern of versions.
 pub(crate) fn of_pattern(alloc: Global, text: &str) -> Result<VersionParseError, AllocError>
     ensures { IfOk result (λ fault. string_bytes fault.text ≡ text.now) }
 {
@@ -24,8 +24,8 @@ pub(crate) fn of_pattern(alloc: Global, text: &str) -> Result<VersionParseError,
     before_rest(alloc, text, rest.len(), expected)
 }
 
-// A fault with so many bytes from it to the end of the text, white space at the end apart. What was
-// read before it is ASCII, so that a character begins there.
+// A fault `rest` bytes before the end of the text, not counting the white space there. The text
+// before it is ASCII, so a character begins there.
 fn before_rest(
     alloc: Global,
     text: &str,
@@ -39,8 +39,8 @@ fn before_rest(
     VersionParseError::new(alloc, text, offset, expected)
 }
 
-// The functions below take a text in lower case. Each gives what was expected, and the rest of the
-// text from there.
+// The functions below take a text in lower case. Each returns what was expected, and the rest of
+// the text from there.
 
 // The text from its release on.
 fn release_of(text: &[u8]) -> &[u8] {
@@ -75,7 +75,7 @@ fn pattern_fault(text: &[u8]) -> (Expected, &[u8]) {
     }
 }
 
-// Where no number that fits 64 bits stands at the front.
+// The fault of a text that does not begin with a number below 2^64.
 fn number_fault(text: &[u8]) -> Expected {
     if read::starts_digit(text) {
         Expected::SmallerNumber
@@ -106,7 +106,7 @@ fn after_release(text: &[u8]) -> (Option<Expected>, &[u8]) {
     (Some(Expected::ReleaseNumber), rest)
 }
 
-// Where neither a suffix nor a local part stands at the front.
+// The fault of a text that begins with neither a suffix nor a local part.
 fn suffix_fault(text: &[u8], follows_release: bool) -> (Expected, &[u8]) {
     let after = read::after_separator(text);
     if read::starts_digit(after) && read::number(after).is_none() {

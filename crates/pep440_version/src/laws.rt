@@ -1,4 +1,4 @@
-//! Laws of versions. A call of one does nothing: what it promises is its contract.
+//! Laws of versions. Each is a function that does nothing, whose contract is the law.
 
 ghost use Rattle.std.specs.Prelude.{◌≡◌, ◌↔◌, ℕ, Bool, List, true};
 ghost use Rattle.std.specs.Cmp.{IsTotalOrder};
@@ -21,46 +21,46 @@ pub fn order_is_total()
     ensures { IsTotalOrder version_cmp }
 {}
 
-/// The order tells two versions apart but where they are the same: where their releases differ in
-/// zeros at the end alone, and every other part is the same.
+/// Two versions are equal in the order exactly if they differ only in zeros at the end of their
+/// releases.
 pub fn order_ties_the_same_version()
     ensures { (v w : Parts) → version_cmp v w ≡ Equal ↔ IsSameVersion v w }
 {}
 
-/// Versions that are equal are hashed alike.
+/// Equal versions have the same hash.
 pub fn equal_versions_hash_alike()
     ensures { Alike (eq_by_cmp version_cmp) version_writes }
 {}
 
-/// A text says at most one version.
+/// A text denotes at most one version.
 pub fn text_says_one_version()
     ensures { (text : List ℕ) (v w : Parts) → IsVersionText text v → IsVersionText text w → v ≡ w }
 {}
 
-/// A text says at most one pattern: no version ends in `.*`.
+/// A text denotes at most one pattern: no version ends in `.*`.
 pub fn text_says_one_pattern()
     ensures { (text : List ℕ) (v w : Parts) (star end : Bool)
         → IsPatternText text v star → IsPatternText text w end → (v ≡ w) × (star ≡ end) }
 {}
 
-/// The parts of a version are valid, and its normal text is read back as that version, with as many
+/// The parts of a version are valid, and its normal text parses back to that version, with as many
 /// release numbers.
 pub fn normal_text_reads_back(version: &Version)
     ensures valid { IsValid version.now }
     ensures reads_back { IsVersionText (version_text version.now) version.now }
 {
-    // A look at a part shows what every version keeps.
+    // Reading a part shows the invariant of versions.
     let _ = &version.epoch;
 }
 
-/// The normal text of a version has lower-case letters, digits, `!`, `+` and `.` alone: no white
-/// space, no capital, no comma, no semicolon and no quote.
+/// The normal text of a version has only lower-case letters, digits, `!`, `+` and `.`: no white
+/// space, capital, comma, semicolon or quote.
 pub fn normal_text_is_plain()
     ensures bytes { (v : Parts) → IsValid v → list_all is_version_byte (version_text v) ≡ true }
     ensures plain { (b : ℕ) → is_version_byte b ≡ true → IsPlainByte b }
 {}
 
-/// The normal text of a release, with an epoch or without, and `.*` behind it is read back as that
+/// The normal text of a release, with or without an epoch, followed by `.*` parses back to that
 /// release with a star.
 pub fn starred_text_reads_back()
     ensures { (epoch : ℕ) (release : List ℕ) → IsValid (starred_parts epoch release)

@@ -1,5 +1,7 @@
-//! Versions of PEP 440 and the patterns of version specifiers: their texts, their order and their
-//! normal form.
+//! Versions and the patterns of version specifiers (PEP 440): parsing, order and normal form.
+//!
+//! Calls that allocate return `AllocError` or `OutOfMemory` when memory runs out. No call returns
+//! `SegmentAtEnd`. Comparing and hashing allocate nothing.
 #![tactic(auto)]
 
 mod display;

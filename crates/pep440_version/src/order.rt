@@ -1,5 +1,4 @@
-//! The order, the equality and the hash of versions. Each looks at each part once, and allocates
-//! nothing.
+//! The order, equality and hash of versions. Each visits each part once and allocates nothing.
 
 ghost use Rattle.std.specs.Prelude.{◌↔◌, IsTrue, ◌≡◌, ◌≤◌, ◌<◌, Some, fold, length, map, refl, take};
 ghost use Rattle.std.specs.Hash as fed;
@@ -96,7 +95,7 @@ fn has_same_locals(a: &[LocalSegment], b: &[LocalSegment]) -> bool
     cmp_locals(a, b).is_eq()
 }
 
-// The parts in which versions mostly differ come first.
+// Compares the parts first in which versions mostly differ.
 fn is_same_version(a: &Version, b: &Version) -> bool
     ensures { IsTrue result ↔ IsSameVersion a.now b.now }
 {

@@ -1,4 +1,4 @@
-//! Versions read from texts.
+//! Parsing versions.
 
 ghost use Rattle.std.specs.Prelude.{◌≡◌, ◌≢◌, IfErr, IfNone, IfOk, IfSome, string_bytes};
 ghost use Rattle.refusal.specs.declared.Refusal.TheVariants.{SegmentAtEnd};
@@ -14,7 +14,8 @@ use refusal::Refusal;
 use std::alloc::{AllocError, Global};
 
 impl Version {
-    /// Parses a version as `parse` does, and returns `None` for an invalid one, with no error made.
+    /// Parses a version as [`Version::parse`] does, and returns `None` for an invalid one, without
+    /// making an error.
     pub fn read(alloc: Global, text: &str) -> Result<Option<Version>, AllocError>
         ensures found { IfOk result (λ found. IfSome found (IsVersionText text.now)) }
         ensures none { IfOk result (λ found. IfNone found (
@@ -23,17 +24,18 @@ impl Version {
         read::version(alloc, text.trim().as_bytes())
     }
 
-    /// Reads a version: `v`, an epoch, a release, a pre-release, a post release, a development
-    /// release and a local part, of which the release alone must stand (PEP 440, appendix B).
+    /// Parses a version: `v`, an epoch, a release, a pre-release, a post release, a development
+    /// release and a local part, of which only the release is required (PEP 440, appendix B).
+    /// Letters may have any ASCII case, and white space around the version is ignored.
     ///
-    /// Letters may be in any ASCII case, and white space around the version is dropped. A text that
-    /// is no version is a `Fault`, which says what was expected at which byte. `SegmentAtEnd` never
-    /// comes.
+    /// # Errors
+    /// - [`Refusal::Fault`] if the text is an invalid version: what was expected at which byte.
+    /// - [`Refusal::OutOfMemory`] when memory runs out.
     pub fn parse(alloc: Global, text: &str) -> Result<Version, Refusal<VersionParseError>>
-        // What is read is what the text says.
+        // What is returned is what the text denotes.
         ensures found { IfOk result (λ v. IsVersionText text.now v) }
 
-        // What the text says is read, unless memory runs out.
+        // A valid text is parsed, unless memory runs out.
         ensures only { (v : Parts) → IsVersionText text.now v → IsGivenUnlessMemory result v }
         ensures at_end { IfErr result (λ e. e ≢ SegmentAtEnd) }
         ensures fault { IfErr result (λ e. IfFault e

@@ -9,7 +9,7 @@ use crate::{fault, read};
 use refusal::Refusal;
 use std::alloc::{AllocError, Global};
 
-/// What a version specifier compares with: a version, or a release with `.*` after it, as `3.9.*`.
+/// The version of a specifier: a version, or a release with `.*` after it, such as `3.9.*`.
 #[derive(Debug, Drop)]
 pub struct VersionPattern {
     pub(crate) version: Version,
@@ -22,7 +22,8 @@ impl VersionPattern {
     ghost use Rattle.pep440_version.specs.Parse.{IsPatternGivenUnlessMemory};
     ghost use Rattle.pep440_version.specs.Parts.{Parts};
 
-    /// Parses a pattern as `parse` does, and returns `None` for an invalid one, with no error made.
+    /// Parses a pattern as [`VersionPattern::parse`] does, and returns `None` for an invalid one,
+    /// without making an error.
     pub fn read(alloc: Global, text: &str) -> Result<Option<VersionPattern>, AllocError>
         ensures found { IfOk result (λ found. IfSome found (λ p.
             IsPatternText text.now p.version p.wildcard)) }
@@ -32,17 +33,17 @@ impl VersionPattern {
         read::pattern(alloc, text.trim().as_bytes())
     }
 
-    /// Reads a version, or an optional `v`, an optional epoch and a release that `.*` follows
-    /// directly.
+    /// Parses a version, or an optional `v`, an optional epoch and a release directly followed by
+    /// `.*`. Letters may have any ASCII case, and white space around the pattern is ignored.
     ///
-    /// Letters may be in any ASCII case, and white space around the pattern is dropped. A text that
-    /// is no pattern is a `Fault`, which says what was expected at which byte. `SegmentAtEnd` never
-    /// comes.
+    /// # Errors
+    /// - [`Refusal::Fault`] if the text is an invalid pattern: what was expected at which byte.
+    /// - [`Refusal::OutOfMemory`] when memory runs out.
     pub fn parse(alloc: Global, text: &str) -> Result<VersionPattern, Refusal<VersionParseError>>
-        // What is read is what the text says.
+        // What is returned is what the text denotes.
         ensures found { IfOk result (λ p. IsPatternText text.now p.version p.wildcard) }
 
-        // What the text says is read, unless memory runs out.
+        // A valid text is parsed, unless memory runs out.
         ensures only { (v : Parts) (star : Bool) → IsPatternText text.now v star
             → IsPatternGivenUnlessMemory result v star }
         ensures at_end { IfErr result (λ e. e ≢ SegmentAtEnd) }
@@ -55,21 +56,21 @@ impl VersionPattern {
         }
     }
 
-    /// The version, or the release before `.*`.
+    /// Returns the version, or the release before `.*`.
     pub fn version(&self) -> &Version
         ensures { result.now ≡ self.now.version }
     {
         &self.version
     }
 
-    /// Whether `.*` follows the release.
+    /// Returns whether `.*` follows the release.
     pub fn is_wildcard(&self) -> bool
         ensures { result ≡ self.now.wildcard }
     {
         self.wildcard
     }
 
-    /// The version, and whether `.*` follows it.
+    /// Returns the version, and whether `.*` follows it.
     pub fn into_parts(self) -> (Version, bool)
         ensures { result ≡ (self.version, self.wildcard) }
     {

@@ -1,5 +1,5 @@
-//! Readers of the parts of a version. Each reads the front of a slice of bytes, and gives what it
-//! read and the rest. Those of suffixes read lower case.
+//! Parsers of the parts of a version. Each parses the front of a slice of bytes and returns the
+//! result and the rest. Those of suffixes expect lower case.
 
 ghost use Rattle.std.specs.Prelude.{◌≡◌, ◌≤◌, ◌<◌, ◌+◌, ◌-◌, ◌*◌, ◌^◌, ◌++◌, length, IfNone, IfSome, IfOk, OnOk, IsAscii, Some, take};
 ghost use Rattle.std.specs.Char.{is_ascii_digit, is_ascii_uppercase};
@@ -220,7 +220,7 @@ fn head(alloc: Global, text: &[u8]) -> Result<Option<(u64, SmallVec<u64, 4>, &[u
     Ok(Some((front, release, rest)))
 }
 
-// How many letters and digits stand at the front.
+// How many letters and digits are at the front.
 pub(crate) fn run_len(text: &[u8]) -> usize
     ensures value { result ≡ Spec.run_len text.now }
     ensures fits { result ≤ length text.now }
@@ -376,7 +376,7 @@ pub(crate) fn version_from(
     with_suffixes(alloc, epoch, release, text)
 }
 
-// The version that a whole text is.
+// The version of a whole text.
 pub(crate) fn version(alloc: Global, text: &[u8]) -> Result<Option<Version>, AllocError>
     ensures { IfOk result (λ found. found ≡ Spec.version_at (Spec.lower text.now)) }
 {
@@ -392,7 +392,7 @@ fn is_star(text: &[u8]) -> bool
     matches!(text, [b'.', b'*'])
 }
 
-// The pattern that a whole text is.
+// The pattern of a whole text.
 pub(crate) fn pattern(alloc: Global, text: &[u8]) -> Result<Option<VersionPattern>, AllocError>
     ensures { IfOk result (λ found.
         Spec.pattern_view found ≡ Spec.pattern_at (Spec.lower text.now)) }

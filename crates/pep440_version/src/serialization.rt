@@ -1,4 +1,4 @@
-//! Versions in `serde`'s formats: the text of a version, which `parse` reads back.
+//! Versions in `serde`'s formats: the normal text, which `parse` parses back.
 
 ghost use Rattle.std.specs.Prelude.{List, ℕ, IfOk, OnOk};
 ghost use Rattle.serde.specs.Event.{Logs, text};
@@ -17,7 +17,7 @@ impl Described for Version {
     ghost writes = { λ v old new. Logs old new (text (version_text v)) };
 }
 
-/// Writes the normal text. The error tells want of memory, or what the format's own was.
+/// Writes the normal text. The error is an allocation failure or the format's own.
 impl Serialize for Version {
     fn serialize<S: Serializer>(&self, out: &mut S) -> Result<(), S::Error> {
         match self.to_string(*self.local.allocator()) {
@@ -27,8 +27,8 @@ impl Serialize for Version {
     }
 }
 
-/// Reads a text that is a version, as `Version::parse` does. The error tells want of memory, or
-/// what was expected and where.
+/// Parses a text as [`Version::parse`] does. The error is an allocation failure, or what was
+/// expected and where.
 impl DeserializeOwned for Version {
     fn deserialize_owned<F: Format>(
         alloc: Global,

@@ -1,4 +1,4 @@
-//! Versions of PEP 440, and the parts that they are made of.
+//! Versions (PEP 440) and their parts.
 
 ghost use Rattle.std.specs.Prelude.{◌≡◌, ◌<◌, ◌≤◌, [], length, map, IfOk, IsOk};
 ghost use Rattle.pep440_version.specs.View.{segment_of};
@@ -20,22 +20,22 @@ pub enum PrereleaseKind {
     Rc,
 }
 
-/// A pre-release, as `a1`.
+/// A pre-release, such as `a1`.
 #[derive(Clone, Copy, Debug, PartialEq, Eq, PartialOrd, Ord, Hash)]
 pub struct Prerelease {
-    /// Whether it is an alpha, a beta or a release candidate.
+    /// Alpha, beta or release candidate.
     pub kind: PrereleaseKind,
-    /// Its number, 0 where the text has none.
+    /// Its number; 0 if the text has none.
     pub number: u64,
 }
 
-/// A segment of the local part of a version, as `ubuntu` and `7` of `1.0+ubuntu.7`. A text comes
-/// before a number.
+/// A segment of the local part of a version, such as `ubuntu` and `7` of `1.0+ubuntu.7`. Texts come
+/// before numbers.
 #[derive(Clone, Debug, Drop, PartialEq, Eq, PartialOrd, Ord, Hash)]
 pub enum LocalSegment {
-    /// Lower-case ASCII letters and digits, not digits alone.
+    /// Lower-case ASCII letters and digits, not only digits.
     String(String),
-    /// Digits alone.
+    /// Only digits.
     Number(u64),
 }
 
@@ -74,9 +74,7 @@ impl Version {
     ghost use Rattle.pep440_version.specs.Order.{IsSameVersion, trimmed, trimmed_parts};
     ghost use Rattle.pep440_version.specs.Parts.{release_only};
 
-    /// The version that is these release numbers alone, as many as there are.
-    ///
-    /// It is refused for want of memory alone, and never for at most four numbers.
+    /// Returns the version with only these release numbers. At most four need no allocation.
     pub fn new(alloc: Global, release: &[u64]) -> Result<Version, AllocError>
         requires { 0 < length release.now }
         ensures value { IfOk result (λ version. version ≡ release_only release.now) }
@@ -92,10 +90,8 @@ impl Version {
         })
     }
 
-    /// The version that is these release numbers alone, without the zeros at their end, down to one
-    /// number.
-    ///
-    /// It is refused for want of memory alone, and never where at most four numbers are left.
+    /// Returns the version with only these release numbers, without zeros at their end, down to one
+    /// number. If at most four are left, nothing is allocated.
     pub fn new_trimmed(alloc: Global, release: &[u64]) -> Result<Version, AllocError>
         requires { 0 < length release.now }
         ensures value { IfOk result (λ version.
@@ -107,14 +103,14 @@ impl Version {
         Version::new(alloc, trimmed(release))
     }
 
-    /// The epoch, 0 where the text has none.
+    /// Returns the epoch; 0 if the text has none.
     pub fn epoch(&self) -> u64
         ensures { result ≡ self.now.epoch }
     {
         self.epoch
     }
 
-    /// The release numbers as they were written, at least one.
+    /// Returns the release numbers as they were written, at least one.
     pub fn release(&self) -> &[u64]
         ensures numbers { result.now ≡ self.now.release }
         ensures nonempty { 0 < length result.now }
@@ -122,7 +118,7 @@ impl Version {
         &self.release
     }
 
-    /// The release numbers without the zeros at their end, down to one number.
+    /// Returns the release numbers without the zeros at their end, down to one number.
     pub fn trimmed_release(&self) -> &[u64]
         ensures numbers { result.now ≡ trimmed self.now.release }
         ensures nonempty { 0 < length result.now }
@@ -130,10 +126,8 @@ impl Version {
         trimmed(&self.release)
     }
 
-    /// The same version without the zeros at the end of its release, down to one number.
-    ///
-    /// It is refused for want of memory alone, and never where at most four numbers and no local
-    /// part are left.
+    /// Returns the version without the zeros at the end of its release, down to one number. If at
+    /// most four numbers and no local part are left, nothing is allocated.
     pub fn without_trailing_zeros(&self) -> Result<Version, AllocError>
         ensures value { IfOk result (λ version. version ≡ trimmed_parts self.now) }
         ensures same { IfOk result (λ version. IsSameVersion version self.now) }
@@ -150,28 +144,28 @@ impl Version {
         })
     }
 
-    /// The pre-release, as `a1`.
+    /// Returns the pre-release, such as `a1`.
     pub fn pre(&self) -> Option<Prerelease>
         ensures { result ≡ self.now.pre }
     {
         self.pre
     }
 
-    /// The number of the post release.
+    /// Returns the number of the post release.
     pub fn post(&self) -> Option<u64>
         ensures { result ≡ self.now.post }
     {
         self.post
     }
 
-    /// The number of the development release.
+    /// Returns the number of the development release.
     pub fn dev(&self) -> Option<u64>
         ensures { result ≡ self.now.dev }
     {
         self.dev
     }
 
-    /// The segments of the local part, none where the version has no such part.
+    /// Returns the segments of the local part, an empty slice without one.
     pub fn local(&self) -> &[LocalSegment]
         ensures { map segment_of result.now ≡ self.now.locals }
     {
@@ -179,7 +173,7 @@ impl Version {
     }
 }
 
-// A list without segments needs no memory.
+// An empty list needs no allocation.
 fn clone_locals(locals: &Vec<LocalSegment>) -> Result<Vec<LocalSegment>, AllocError>
     ensures value { IfOk result (λ copy.
         map segment_of copy.items ≡ map segment_of locals.now.items) }
@@ -191,8 +185,8 @@ fn clone_locals(locals: &Vec<LocalSegment>) -> Result<Vec<LocalSegment>, AllocEr
     locals.clone()
 }
 
-/// A clone is written as its source is. It is refused for want of memory, and never where the
-/// version has at most four release numbers and no local part.
+/// A clone is written like its source. At most four release numbers without a local part need no
+/// allocation.
 impl Clone for Version {
     ghost is_clone = { λ v copy. copy ≡ v };
 

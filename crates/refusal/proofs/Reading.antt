@@ -1,4 +1,4 @@
--- What is known of a reading, by what `unless_fault` answers of it.
+-- What the result of `unless_fault` shows about a parser's result.
 use Rattle.std.proofs.Common.{◌≡◌, Option, Some, None}
 use Rattle.std.specs.Prelude.{Result, Ok, Err, IfOk, IfSome, IfNone}
 use Rattle.std.proofs.lemmas.Result.{IfOk-at_ok}
@@ -12,7 +12,7 @@ module _ {T E A : Type 0} (answer : Result T (Refusal E)) where
   read_holds (Ok None) P known same = tt
   read_holds (Err e) P known same = tt
 
-  -- what holds where there is a fault
+  -- what is true if there is a fault
   pub fault_holds : (found : Result (Option T) A) (Q : Type 0) → ((fault : E) → answer ≡ Err (Fault fault) → Q) → IfOk found (λ read. IfNone read ((fault : E) × (answer ≡ Err (Fault fault)))) → IfOk found (λ read. IfNone read Q)
   fault_holds (Ok (Some x)) Q then same = tt
   fault_holds (Ok None) Q then same = then same.0 same.1

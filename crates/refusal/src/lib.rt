@@ -1,4 +1,4 @@
-//! Why a call is refused: the one type that all crates of this repository answer with.
+//! `Refusal`, the error type of all crates of this repository.
 #![tactic(auto)]
 
 ghost use Rattle.std.specs.Prelude.{◌≡◌, ◌≢◌, IfErr, IfNone, IfOk, IfSome, OnErr};
@@ -8,20 +8,21 @@ use std::alloc::{AllocError, AllocFailed};
 use std::fmt::{Debug, Display};
 use thiserror::Error;
 
-/// Why a call was refused. The call says when each refusal comes, and what it leaves of what the
-/// call was lent.
+/// Why a call was refused. Each call documents when it returns which refusal, and in what state it
+/// leaves its arguments.
 #[derive(Clone, Copy, Debug, Drop, PartialEq, Eq, Error)]
 #[error_bound(E: Display)]
 pub enum Refusal<E> {
-    /// There is no memory for the answer.
+    /// Memory ran out.
     #[error("Out of memory")]
     OutOfMemory,
 
-    /// The rule that was asked for raises 18446744073709551615, the largest number of a version.
+    /// A bound of a set of versions would be above 18446744073709551615, the largest number of a
+    /// version.
     #[error("18446744073709551615 is the largest number of a version, and cannot be raised")]
     SegmentAtEnd,
 
-    /// What the call was given is at fault.
+    /// The input is invalid.
     #[error("{0}")]
     Fault(E),
 }
@@ -42,8 +43,8 @@ impl<T: Drop, E> From<AllocFailed<T>> for Refusal<E> {
     }
 }
 
-/// What a reader read, or nothing where what it was given is at fault. Any other refusal of it is
-/// want of memory, since it raises no number, and that alone is refused here too.
+/// Returns the value of a parser, or `None` if its input is invalid. For parsers that never return
+/// `SegmentAtEnd`, so that every other refusal is an allocation failure.
 pub fn unless_fault<T, E: Drop>(answer: Result<T, Refusal<E>>) -> Result<Option<T>, AllocError>
     requires { IfErr answer (λ refusal. refusal ≢ SegmentAtEnd) }
     ensures read { IfOk result (λ read. IfSome read (λ value. answer ≡ Ok value)) }

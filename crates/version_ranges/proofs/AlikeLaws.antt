@@ -1,4 +1,5 @@
--- A place right before another one, as far as finitely many places can tell, in any total order.
+-- A point right before another one, as far as finitely many points can distinguish, in any total
+-- order.
 use Rattle.std.proofs.Common.{◌≡◌, ◌≢◌, true, false, List, [], ◌∷◌, refl, sym, ap, ◌∙◌}
 use Rattle.std.specs.Bool.{⊤}
 use Rattle.std.specs.Ordering.{is_lt, is_gt, ordering_reverse}
@@ -34,7 +35,7 @@ module _ {P : Type 0} (cmp : P → P → Ordering) where
   StandAlike p q (k ∷ ks) = (is_lt (cmp p k) ≡ is_lt (cmp q k)) × StandAlike p q ks
 
 module _ {P : Type 0} {cmp : P → P → Ordering} (o : IsTotalOrder cmp) where
-  -- p is no earlier than low and before c, and stands before no other of the points than c does
+  -- p is not before low and is before c, and before exactly the other points that c is before
   pub record IsNear (low c : P) (ks : List P) (p : P) : Type 0 where
     pub from : is_gt (cmp low p) ≡ false
     pub until : cmp p c ≡ Less
@@ -51,7 +52,7 @@ module _ {P : Type 0} {cmp : P → P → Ordering} (o : IsTotalOrder cmp) where
   turned : (x y : P) → cmp x y ≡ Less → cmp y x ≡ Greater
   turned x y h = o.antisymm y x ∙ ap ordering_reverse h
 
-  -- a later point that is still before c stands before the same ones as c, if the earlier one does
+  -- a later point that is still before c is before the same ones as c, if the earlier one is
   later_alike : (p q c : P) (ks : List P) → cmp p q ≡ Less → cmp q c ≡ Less → StandAlike cmp p c ks → StandAlike cmp q c ks
   later_alike p q c [] h k a = tt
   later_alike p q c (x ∷ ks) h k a = (by_order (cmp c x) refl, later_alike p q c ks h k a.1)

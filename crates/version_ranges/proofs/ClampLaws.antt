@@ -19,7 +19,7 @@ use Rattle.version_ranges.proofs.PartLaws.{is_not}
 use Rattle.version_ranges.proofs.SpotLaws.{low_cut, high_cut}
 
 module _ {C : Type 0} (cmp : C → C → Ordering) where
-  -- whether a place stands before an end; without an end each does
+  -- whether a place is before an end; without an end each is
   abbrev pub is_short : Option C → Option C → Bool
   is_short None p = true
   is_short (Some c) p = is_before cmp p c
@@ -52,7 +52,7 @@ module _ {C : Type 0} {cmp : C → C → Ordering} (o : IsTotalOrder cmp) where
       by_order Equal g = ap is_lt (o.congr q b c g) ∙ e
       by_order Greater g = not_true (is_lt (cmp q c)) (is_lt (cmp b c)) (λ h. ap is_lt (o.trans b q c (o.antisymm b q ∙ ap ordering_reverse g) (lt_less (cmp q c) h))) e
 
-  -- a place that is short of an end stands before each cut that is not
+  -- a place that is short of an end is before each cut that is not
   short_before : (high : Option C) (c : C) (p : Option C) → is_short cmp high p ≡ true → is_short cmp high (Some c) ≡ false → is_before cmp p c ≡ true
   short_before None c p h e = absurd (true≢false e)
   short_before (Some d) c None h e = refl
@@ -83,7 +83,7 @@ module _ {C : Type 0} {cmp : C → C → Ordering} (o : IsTotalOrder cmp) where
         by_test true e tail m n = m ∙ value_from_low o v xs low (ascends_lower o low x.0 xs e tail)
         by_test false e tail m n = n
 
-    -- where the low place stands before all cuts, nothing has passed
+    -- if the low place is before all cuts, nothing has passed
     started_low : (v : V) (xs : List (C × V)) → ascends cmp low xs ≡ true → started cmp low v xs ≡ v
     started_low v xs a = started_is v xs low a ∙ value_from_low o v xs low a
 
@@ -95,7 +95,7 @@ module _ {C : Type 0} {cmp : C → C → Ordering} (o : IsTotalOrder cmp) where
         by_test true h m = and_from _ _ h m
         by_test false h m = ascends_lower o l x.0 (kept cmp low high xs) h m
 
-    -- the cuts that are kept stand after the low place
+    -- the cuts that are kept are after the low place
     kept_after : (l : Option C) (xs : List (C × V)) → ascends cmp l xs ≡ true → ascends cmp low (kept cmp low high xs) ≡ true
     kept_after l [] a = refl
     kept_after l (x ∷ xs) a =
@@ -187,7 +187,7 @@ module _ {T : Type 0} (cmp : T → T → Ordering) where
   until_cut : (upper : Bound T) (c : Cut T) → is_until cmp upper (cut_point (λ v. v) c) ≡ is_short (cut_cmp cmp) (end_place upper) (Some c)
   until_cut upper c = until_place upper (cut_point (λ v. v) c) ∙ ap (is_short (cut_cmp cmp) (end_place upper)) (place_point (Some c))
 
-  -- what the code tells of a cut, in places
+  -- what the code says of a cut, in places
   pub end_test : (upper : Bound T) (c : Cut T) (d : Bool) → d ≡ is_until cmp upper (cut_point (λ v. v) c) → d ≡ is_short (cut_cmp cmp) (end_place upper) (Some c)
   end_test upper c d e = e ∙ until_cut upper c
 
@@ -246,7 +246,7 @@ module _ {T : Type 0} (cmp : T → T → Ordering) where
     pub point_found : (lower upper : Bound T) → is_until cmp upper (begin_point lower) ≡ true → (p : Point T) × IsBetween cmp lower upper p
     point_found lower upper h = (begin_point lower, and_from _ _ (begin_from lower) h)
 
-    -- where some point lies between the bounds, the first one does
+    -- if some point is between the bounds, the first one is
     pub begin_until : (lower upper : Bound T) (p : Point T) → IsBetween cmp lower upper p → is_until cmp upper (begin_point lower) ≡ true
     begin_until lower upper p h = by_test (is_until cmp upper (begin_point lower)) refl
       where

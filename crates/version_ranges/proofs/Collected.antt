@@ -53,7 +53,7 @@ module _ {T V : Type 0} {a : _} {b : _} {c : _} (cmp : T → T → Ordering) (sa
             placed (cut_total o) s (λ q. q.0.now) (λ q. q.1.cuts.first) (λ q. q.1.cuts.rest.items) v (take i items) x (w, none) old mid k.1 value_is first_is rest_is
             (joined ∙ ap (λ u. cond (list_any (λ q. same u q.0.now) old) old (old ++ (w, none) ∷ [])) value_is)
 
-        -- where the value before stands once the next one has joined
+        -- the place of the value before, once the next one has joined
         pub kept_place : IsPlace same (λ q. q.0.now) mid current (last_value v (take i items))
         kept_place = (k.2.0, stays (list_any (λ q. same w.now q.0.now) old) old mid (w, none) joined current k.2.0 k.2.1, k.2.2)
 

@@ -1,4 +1,4 @@
--- Two sets taken together: a cut is kept only where what is taken changes.
+-- Set operations on two sets: a cut is kept only if what is taken changes there.
 use Rattle.std.proofs.Common.{◌≡◌, Bool, true, false, cond, List, [], ◌∷◌, ◌++◌, map, Option, None, Some, refl, sym, ap, ◌∙◌, subst, append-nil}
 use mathlib.Core.Bool.{beq}
 use Rattle.std.specs.declared.cmp.Ordering.{Ordering}
@@ -34,7 +34,7 @@ module _ {C : Type 0} {cmp : C → C → Ordering} (o : IsTotalOrder cmp) (g : B
   trans : (a b c : Bool) → SameFlag a b → SameFlag b c → SameFlag a c
   trans a b c e f = flags_equal.congr a b c e ∙ f
 
-  -- where what is taken changes, the cut is kept
+  -- if what is taken changes, the cut is kept
   pub combine_keep : (first last : Bool) (out new : List (C × Bool)) (c d : C) (x : Bool × Bool) (v : Bool) (more rest all : List (C × (Bool × Bool))) →
       Combined first last out more all → more ≡ (d, x) ∷ rest → v ≡ g x → beq v last ≡ false → new ≡ out ++ (c, v) ∷ [] → cmp c d ≡ Equal → Combined first v new rest all
   combine_keep first last out new c d x v more rest all a e f h k m =

@@ -1,5 +1,6 @@
--- Induction over the pieces of a function: what holds of each piece's value holds of the value at each point, and the other
--- way round. A clause ranges over tests alone; these lemmas are over any property, for the proofs of the crates above.
+-- Induction over the pieces of a function: what is true of each piece's value is true of the value
+-- at each point, and the other way round. A clause ranges only over tests; these lemmas are over
+-- any property, for the proofs of the crates above.
 use Rattle.std.proofs.Common.{◌≡◌, ℕ, Bool, true, false, refl, sym, ap, ◌∙◌, subst, Some}
 use Rattle.std.specs.Prelude.{slice_get}
 use Rattle.std.specs.declared.cmp.Ordering.{Ordering}

@@ -1,6 +1,6 @@
--- For `names_have_the_values_of_points`: what holds at every point over the values of an order holds
--- at every point over other names of these values, since a function with finitely many cuts cannot
--- tell such a point from some point of the order.
+-- For `names_have_the_values_of_points`: what is true at every point over the values of an order is
+-- true at every point over other names of these values, because a function with finitely many cuts
+-- cannot distinguish such a point from some point of the order.
 use Rattle.std.proofs.Common.{◌≡◌, ℕ, suc, Bool, true, false, cond, List, [], ◌∷◌, ◌++◌, map, Option, Some, None, refl, sym, ap, ◌∙◌, subst}
 use Rattle.std.specs.Ordering.{is_lt, ordering_then, ordering_reverse}
 use Rattle.std.specs.declared.cmp.Ordering.{Ordering}
@@ -22,7 +22,7 @@ use Rattle.std.specs.Option.{option_cmp}
 use Rattle.version_ranges.proofs.PartLaws.{point_total, place_cmp}
 
 module _ {C : Type 0} (cmp : C → C → Ordering) where
-  -- a test of cuts that a point could give: it holds upward, and does not tell cuts apart that tie
+  -- a test of cuts that a point could give: it is true upward, and the same for equal cuts
   pub record IsStanding (t : C → Bool) : Type 0 where
     pub upward : (c d : C) → t c ≡ true → cmp c d ≡ Less → t d ≡ true
     pub alike : (c d : C) → cmp c d ≡ Equal → t c ≡ t d
@@ -136,7 +136,7 @@ module _ {T K : Type 0} (f : T → K) (cmp : T → T → Ordering) (cmp' : K →
     pub piece_by_name : (p : Point T) → piece_by f cmp' cuts (point_map f p) ≡ piece_of cmp cuts p
     piece_by_name p = piece_at_same _ _ (named_before p) cuts.rest.items
 
-  -- the same of a function that is lent
+  -- the same of a borrowed function
   pub lent_by_name : {V : Type 0} {a : _} {b : _} {c : _} (l : CutsRef T V a b c) (p : Point T) → lent.value_by f cmp' l (point_map f p) ≡ lent.value_of cmp l p
   lent_by_name l p = value_at_same _ _ (named_before p) l.first.now l.rest.now
 

@@ -85,7 +85,7 @@ module _ {C V : Type 0} (same : V → V → Bool) where
       by_test true e = refl
       by_test false e = absurd (omega arith)
 
-  -- so values of neighboring pieces differ, where those of neighboring cuts do
+  -- so values of neighboring pieces differ, if those of neighboring cuts do
   values_differ : (p q : C → Bool) (v : V) (xs : List (C × V)) → is_merged same v xs ≡ true → piece_at q xs ≡ piece_at p xs + 1 → same (value_at p v xs) (value_at q v xs) ≡ false
   values_differ p q v [] m e = absurd (omega arith)
   values_differ p q v (s ∷ xs) m e = by_test (p s.0) (q s.0) e (values_differ p q s.1 xs merged.1)
@@ -99,7 +99,7 @@ module _ {C V : Type 0} (same : V → V → Bool) where
       by_test true false e next = ap (same v) (first_value q s.1 xs (omega arith)) ∙ is_not (same v s.1) merged.0
       by_test false false e next = next (omega arith)
 
--- where neighbors differ, points of neighboring pieces have values that differ
+-- if neighbors differ, points of neighboring pieces have different values
 pub neighbors_have_other_values : {T K V : Type 0} (f : T → K) (cmp : K → K → Ordering) (same : V → V → Bool) {a : _} {b : _} {c : _} (cuts : Cuts T V a b c) → neighbors_differ same cuts ≡ true → (p q : Point K) →
     piece_by f cmp cuts q ≡ piece_by f cmp cuts p + 1 → same (value_by f cmp cuts p) (value_by f cmp cuts q) ≡ false
 neighbors_have_other_values f cmp same cuts m p q e = values_differ same (stands_before f cmp p) (stands_before f cmp q) cuts.first cuts.rest.items m e
@@ -144,13 +144,13 @@ module _ {T K V : Type 0} (f : T → K) (cmp' : K → K → Ordering) {same : V 
 
 -- ---- beside a value
 
--- how a point stands beside a value, by whether it stands before the value and before what is above it
+-- the order of a point to a value, by whether it is before the value and before the point above it
 abbrev beside_by : Bool → Bool → Ordering
 beside_by true b = Less
 beside_by false true = Equal
 beside_by false false = Greater
 
--- whether a point stands before a value and before what is above it tells how it stands beside the value
+-- whether a point is before a value and before the point above it determines its order to the value
 beside_is : {T : Type 0} (cmp : T → T → Ordering) (p : Point T) (v : T) → point_cmp cmp p (at v) ≡ beside_by (point_lt cmp p (at v)) (point_lt cmp p (above v))
 beside_is cmp bottom v = refl
 beside_is cmp (at w) v = by_order (cmp w v)
@@ -167,7 +167,7 @@ beside_is cmp (above w) v = by_order (cmp w v)
     by_order Greater = refl
 
 module _ {T K V : Type 0} (f : T → K) (cmp : T → T → Ordering) (cmp' : K → K → Ordering) (o : IsTotalOrder cmp) (o' : IsTotalOrder cmp') (named : (x y : T) → cmp x y ≡ cmp' (f x) (f y)) where
-  -- a function of how a point stands beside a value is that function by other names too
+  -- a function of the order of a point to a value is that function by other names too
   pub beside_by_name : {a : _} {b : _} {c : _} (cuts : Cuts T V a b c) (holds : Ordering → V) (v : T) → ((p : Point T) → value_of cmp cuts p ≡ holds (point_cmp cmp p (at v))) →
       (q : Point K) → value_by f cmp' cuts q ≡ holds (point_cmp cmp' q (at (f v)))
   beside_by_name cuts holds v h q =

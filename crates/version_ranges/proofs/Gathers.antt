@@ -14,7 +14,7 @@ module _ {C : Type 0} where
   last_by : (xs : List (C × Bool)) (v w : Bool) → v ≡ w → last_value v xs ≡ last_value w xs
   last_by xs v w e = ap (λ u. last_value u xs) e
 
-  -- a step that changes nothing is left out, and any other one goes last
+  -- a step that changes nothing is left out, and any other one comes last
   pub merge_more : (v : Bool) (xs : List (C × Bool)) (x : C × Bool) → merge_steps beq v (xs ++ x ∷ []) ≡ cond (beq (last_value v xs) x.1) (merge_steps beq v xs) (merge_steps beq v xs ++ x ∷ [])
   merge_more v [] x = refl
   merge_more v (s ∷ xs) x = by_test (beq v s.1) refl (merge_more v xs x) (merge_more s.1 xs x)
@@ -60,7 +60,7 @@ module _ {C : Type 0} where
     past_append true ys zs us s = refl
     past_append false ys zs us s = refl
 
-    -- a cut after all steps stands after those that are kept
+    -- a cut after all steps is after those that are kept
     pub merge_past : (low : Option C) (v : Bool) (xs : List (C × Bool)) (c : C) (a b : Bool) → ascends cmp low (xs ++ (c, a) ∷ []) ≡ true → ascends cmp low (merge_steps beq v xs ++ (c, b) ∷ []) ≡ true
     merge_past low v [] c a b h = h
     merge_past low v (s ∷ xs) c a b h =

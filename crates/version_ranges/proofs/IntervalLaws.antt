@@ -42,7 +42,7 @@ module _ {T : Type 0} {cmp : T → T → Ordering} (o : IsTotalOrder cmp) where
   any_cond t true i is = refl
   any_cond t false i is = refl
 
-  -- a point is in the set where it is in an interval
+  -- a point is in the set if it is in an interval
   held_covers : (p : Point T) (low : Option (Cut T)) (lower : Bound T) (v : Bool) (xs : List (Cut T × Bool)) → ascends (cut_cmp cmp) low xs ≡ true → is_from cmp lower p ≡ true →
       value_at (stands_before (λ v. v) cmp p) v xs ≡ list_any (λ i. is_within cmp i p) (intervals_among (parts_from lower v xs))
   held_covers p low lower true [] a e = ap (λ b. (b && true) || false) (sym e)
@@ -61,7 +61,7 @@ module _ {T : Type 0} {cmp : T → T → Ordering} (o : IsTotalOrder cmp) where
       by_test true g = absurd (false≢true (sym f ∙ before_later cmp o q c d g e))
       by_test false g = refl
 
-  -- the points of an interval that ends at a cut stand before those of all intervals from it on
+  -- the points of an interval that ends at a cut are before those of all intervals from it on
   stands_cond : (i j : Bound T × Bound T) (v : Bool) (js : List (Bound T × Bound T)) → ((p q : Point T) → is_within cmp i p ≡ true → is_within cmp j q ≡ true → point_cmp cmp p q ≡ Less) → StandsBefore cmp i js → StandsBefore cmp i (cond v (j ∷ js) js)
   stands_cond i j true js h k = (h, k)
   stands_cond i j false js h k = k

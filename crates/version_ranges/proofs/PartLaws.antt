@@ -25,7 +25,7 @@ use Rattle.version_ranges.proofs.PointLaws.{cut_total, place, point_of, place_be
 use Rattle.version_ranges.proofs.PieceLaws.{piece_point, none_some, same_some}
 
 module _ {C V : Type 0} (t : C → Bool) where
-  -- where each earlier cut is passed and no later one is, that many pieces are passed
+  -- if each earlier cut is passed and no later one is, that many pieces are passed
   pub partition_piece : (xs : List (C × V)) (i : ℕ) → i ≤ length xs → ((k : ℕ) (d : C × V) → k < i → not (t (get_or xs k d).0) ≡ true) →
       ((k : ℕ) (d : C × V) → i ≤ k → k < length xs → not (t (get_or xs k d).0) ≡ false) → piece_at t xs ≡ i
   partition_piece [] i h f g = omega arith
@@ -58,7 +58,7 @@ is_not true e = absurd (false≢true e)
 is_not false e = refl
 
 module _ {C V : Type 0} (cmp : C → C → Ordering) (t : C → Bool) (upward : (c d : C) → t c ≡ true → cmp c d ≡ Less → t d ≡ true) where
-  -- where the test holds of a cut, it holds of each later one
+  -- if the test is true of a cut, it is true of each later one
   later_holds : (c : C) (xs : List (C × V)) (j : ℕ) (d : C × V) → ascends cmp (Some c) xs ≡ true → j < length xs → t c ≡ true → t (get_or xs j d).0 ≡ true
   later_holds c [] j d a h k = absurd (omega (arith, h))
   later_holds c (x ∷ xs) zero d a h k = upward c x.0 k (lt_less _ ((and_parts _ _ a).0))
@@ -66,7 +66,7 @@ module _ {C V : Type 0} (cmp : C → C → Ordering) (t : C → Bool) (upward : 
       let q = and_parts _ _ a in
       later_holds x.0 xs j d q.1 (omega (arith, h)) (upward c x.0 k (lt_less _ q.0))
 
-  -- the cuts of which the test does not hold stand before the others
+  -- the cuts of which the test is not true are before the others
   pub parted_by : (low : Option C) (xs : List (C × V)) → ascends cmp low xs ≡ true → IsPartitionedBy (λ y. not (t y.0)) xs
   parted_by low [] a i j d h k e = absurd (omega (arith, k))
   parted_by low (x ∷ xs) a zero zero d h k e = e
@@ -165,7 +165,7 @@ module _ {T : Type 0} (cmp : T → T → Ordering) where
     less_by p q r h k Equal e = absurd (false≢true (sym k ∙ ap is_lt (sym (point_total.congr p q r e) ∙ h)))
     less_by p q r h k Greater e = absurd (false≢true (sym k ∙ ap is_lt (point_total.trans q p r (point_total.antisymm q p ∙ ap ordering_reverse e) h)))
 
-    -- a point before a cut stands before a point that has passed it
+    -- a point before a cut is before a point that has passed it
     pub parted_less : (p q : Point T) (c : Cut T) → stands_before (λ v. v) cmp p c ≡ true → stands_before (λ v. v) cmp q c ≡ false → point_cmp cmp p q ≡ Less
     parted_less p q c h k = less_by p q (cut_point (λ v. v) c) (lt_less _ h) k (point_cmp cmp p q) refl
 
@@ -191,7 +191,7 @@ module _ {T : Type 0} (cmp : T → T → Ordering) where
         ascending = λ p q h. let c = between (stands_before (λ v. v) cmp p) (stands_before (λ v. v) cmp q) cuts.rest.items h in parted_less p q c.0 c.1 c.2;
       }
 
--- what `partition_point` answers is the piece
+-- the result of `partition_point` is the piece
 pub parted_piece : {C V : Type 0} (t : C → Bool) (xs ys : List (C × V)) (i : ℕ) → ys ≡ xs → i ≤ length ys → IsPartitionPoint (λ y. not (t y.0) ≡ true) (λ y. not (t y.0) ≡ false) ys i → piece_at t xs ≡ i
 parted_piece t xs ys i e h p =
     let q : IsPartitionPoint (λ y. not (t y.0) ≡ true) (λ y. not (t y.0) ≡ false) xs i = subst (λ l. IsPartitionPoint (λ y. not (t y.0) ≡ true) (λ y. not (t y.0) ≡ false) l i) e p in

@@ -1,5 +1,4 @@
--- For `Cuts::from_ranges`: one of two values by the answer at each piece of a set, as its loop picks
--- them.
+-- For `Cuts::from_ranges`: one of two values for each piece of a set, as its loop picks them.
 use Rattle.std.proofs.Common.{◌≡◌, ℕ, ◌≤◌, Bool, true, false, not, cond, ◌&&◌, List, [], ◌∷◌, ◌++◌, map, drop, length, Option, Some, None, refl, sym, ap, ◌∙◌, append-nil, subst}
 use mathlib.Core.Bool.{beq}
 use Rattle.std.specs.declared.cmp.Ordering.{Ordering}
@@ -13,7 +12,7 @@ use Rattle.std.proofs.lemmas.Cmp.{tied_itself}
 use Rattle.version_ranges.proofs.StepLaws.{value_from, Alike, alike_itself, alike_moved, alike_value, alike_ascends}
 use Rattle.version_ranges.proofs.PointLaws.{cut_total, place, value_at_place}
 
--- the value for an answer
+-- the value for a piece in the set or outside
 abbrev pub pick : {V : Type 0} → V → V → Bool → V
 pick inside outside b = cond b inside outside
 
@@ -24,7 +23,7 @@ module _ {V : Type 0} {same : V → V → Bool} (s : IsEquivalence same) (inside
   pick_same e false true = s.symm outside inside ∙ e
   pick_same e false false = s.refl outside
 
-  -- where both values are equal, either one is either
+  -- if both values are equal, either one is either
   pub pick_either : same inside outside ≡ true → (b : Bool) → same outside (pick inside outside b) ≡ true
   pick_either e true = s.symm outside inside ∙ e
   pick_either e false = s.refl outside

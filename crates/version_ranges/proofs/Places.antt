@@ -1,5 +1,5 @@
 -- For `Cuts::gather`: after each step its list has the values seen so far, each with the set of the
--- points that have it; and where a value stands in that list.
+-- points that have it; and the place of a value in that list.
 use Rattle.std.proofs.Common.{◌≡◌, ℕ, zero, suc, Bool, true, false, not, cond, ◌||◌, List, [], ◌∷◌, ◌++◌, map, length, Some, None, refl, sym, ap, ◌∙◌, subst, slice_get, eqb, pred, inl, inr, ◌⊎◌}
 use mathlib.Core.Bool.{beq}
 use Rattle.std.specs.Ordering.{ordering_reverse}
@@ -29,7 +29,7 @@ module _ {V Q : Type 0} (key : Q → V) where
   all_at same v (x ∷ qs) zero q a e = ap (λ y. same v (key y)) (sym (same_some x q e)) ∙ a.0
   all_at same v (x ∷ qs) (suc i) q a e = all_at same v qs i q a.1 e
 
-  -- places are equal where their keys are
+  -- places are equal if their keys are
   module _ {same : V → V → Bool} (s : IsEquivalence same) where
     pub places_apart : (qs : List Q) (i j : ℕ) (q r : Q) → AreApart same (map key qs) → slice_get qs i ≡ Some q → slice_get qs j ≡ Some r → eqb i j ≡ same (key q) (key r)
     places_apart [] i j q r a e f = none_some q e
@@ -39,7 +39,7 @@ module _ {V Q : Type 0} (key : Q → V) where
         eqb-suc-zero i ∙ sym (s.symm (key q) (key r) ∙ ap (λ y. same (key y) (key q)) (sym (same_some x r f)) ∙ all_at same (key x) qs i q a.0 e)
     places_apart (x ∷ qs) (suc i) (suc j) q r a e f = eqb-suc-suc i j ∙ places_apart qs i j q r a.1 e f
 
-  -- the keys stay where each one stays
+  -- the keys stay if each one stays
   pub keys_kept : (old new : List Q) → length new ≡ length old → ((i : ℕ) (q r : Q) → slice_get old i ≡ Some q → slice_get new i ≡ Some r → key r ≡ key q) → map key new ≡ map key old
   keys_kept [] [] e h = refl
   keys_kept [] (r ∷ new) e h = absurd (suc-ne-zero _ e)
@@ -94,7 +94,7 @@ module _ {C : Type 0} {cmp : C → C → Ordering} (o : IsTotalOrder cmp) where
         by_place (inl a) = g.sets i q a
         by_place (inr a) = subst (λ y. (first y ≡ same (key y) v) × Alike cmp (λ a b. a ≡ b) (rest y) (sees same (key y) v xs)) (sym a) for_new
 
-    -- a value joins the list where it is not there yet
+    -- a value joins the list if it is new
     pub placed : (v : V) (xs : List (C × V)) (x : C × V) (q : Q) (old new : List Q) → Gathers cmp same key first rest (v ∷ map (λ y. y.1) xs) v xs old → key q ≡ x.1 → first q ≡ false → rest q ≡ [] →
         new ≡ cond (list_any (λ r. same x.1 (key r)) old) old (old ++ q ∷ []) → Gathers cmp same key first rest (v ∷ map (λ y. y.1) (xs ++ x ∷ [])) v xs new
     placed v xs x q old new g key_is first_is rest_is e = by_test (list_any (λ r. same x.1 (key r)) old) refl
@@ -129,7 +129,7 @@ module _ {C : Type 0} {cmp : C → C → Ordering} (o : IsTotalOrder cmp) where
               sets = λ i r f. added seen v xs x.1 q old g none p.0 p.1 key_is first_is rest_is i r (ap (λ l. slice_get l i) (sym n) ∙ f);
             }
 
-    -- a later cut stands after all cuts of each set
+    -- a later cut is after all cuts of each set
     pub all_past : (seen : List V) (v : V) (xs : List (C × V)) (x : C × V) (pairs : List Q) → Gathers cmp same key first rest seen v xs pairs → ascends cmp None (xs ++ x ∷ []) ≡ true →
         (i : ℕ) (q : Q) → slice_get pairs i ≡ Some q → ascends cmp None (rest q ++ (x.0, true) ∷ []) ≡ true
     all_past seen v xs x pairs g h i q e =

@@ -1,4 +1,4 @@
--- Points, and the places of cuts that stand for them in the laws of steps.
+-- Points, and the places of cuts in the laws of steps.
 use Rattle.std.proofs.Common.{◌≡◌, suc, Bool, true, false, cond, List, [], ◌∷◌, Option, Some, None, refl, sym, ap, ◌∙◌}
 use Rattle.std.specs.Ordering.{is_lt, is_eq, ordering_then, ordering_reverse, bool_cmp}
 use Rattle.std.specs.declared.cmp.Ordering.{Ordering}
@@ -14,7 +14,7 @@ use Rattle.version_ranges.proofs.StepLaws.{is_equal}
 pub cut_total : {T : Type 0} {cmp : T → T → Ordering} → IsTotalOrder cmp → IsTotalOrder (cut_cmp cmp)
 cut_total o = then_total (on_total (λ c. c.value) o) (on_total (λ c. c.above) bool_cmp_total)
 
--- a clone of a cut stands at the same place
+-- a clone of a cut has the same place
 pub clone_tied : {T : Type 0} {cmp : T → T → Ordering} → IsTotalOrder cmp → (eq : T → T → Bool) → ((x y : T) → eq x y ≡ is_eq (cmp x y)) → (c d : Cut T) →
     eq c.value d.value ≡ true → d.above ≡ c.above → cut_cmp cmp d c ≡ Equal
 clone_tied {cmp = cmp} o eq ties c d e f =
@@ -63,19 +63,19 @@ module _ {T : Type 0} where
       at_equal Greater = refl
   above_before cmp v w false = refl
 
-  -- the point below all values stands before each cut
+  -- the point below all values is before each cut
   pub bottom_before : (cmp : T → T → Ordering) (w : T) (b : Bool) → point_lt cmp bottom (cond b (above w) (at w)) ≡ true
   bottom_before cmp w true = refl
   bottom_before cmp w false = refl
 
-  -- a point stands before a cut where its place does
+  -- a point is before a cut if its place is
   pub place_before : (cmp : T → T → Ordering) (p : Point T) (c : Cut T) → stands_before (λ v. v) cmp p c ≡ is_before (cut_cmp cmp) (place p) c
   place_before cmp bottom c = bottom_before cmp c.value c.above
   place_before cmp (at v) c = at_before cmp v c.value c.above
   place_before cmp (above v) c = above_before cmp v c.value c.above
 
 module _ {C V : Type 0} where
-  -- points that stand before the same cuts have the same value, and lie in the same piece
+  -- points that are before the same cuts have the same value, and are in the same piece
   pub value_at_same : (t u : C → Bool) → ((c : C) → t c ≡ u c) → (v : V) (xs : List (C × V)) → value_at t v xs ≡ value_at u v xs
   value_at_same t u e v [] = refl
   value_at_same t u e v (x ∷ xs) = ap (λ b. cond b v (value_at t x.1 xs)) (e x.0) ∙ ap (λ w. cond (u x.0) v w) (value_at_same t u e x.1 xs)

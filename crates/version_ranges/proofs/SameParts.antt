@@ -1,4 +1,5 @@
--- Equal lists of cuts have equal pieces and equal intervals, and where the pieces are equal the cuts are.
+-- Equal lists of cuts have equal pieces and equal intervals, and if the pieces are equal the cuts
+-- are.
 use Rattle.std.proofs.Common.{◌≡◌, Bool, true, false, cond, ◌&&◌, List, [], ◌∷◌, refl}
 use mathlib.Core.Bool.{beq}
 use Rattle.std.proofs.lemmas.Bool.{and_parts, and_from, false≢true}

@@ -19,7 +19,7 @@ module _ {T : Type 0} {cmp : T → T → Ordering} (o : IsTotalOrder cmp) (eq : 
   tied : (v w : T) → eq v w ≡ true → cmp v w ≡ Equal
   tied v w e = is_equal _ (sym (ties v w) ∙ e)
 
-  -- points that tie stand behind the same points
+  -- equal points are after the same points
   before_tied : (p q r : Point T) → point_cmp cmp q r ≡ Equal → point_lt cmp p q ≡ point_lt cmp p r
   before_tied p q r e = ap is_lt (alike_right (point_total cmp o) q r p e)
 

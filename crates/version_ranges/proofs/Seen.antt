@@ -1,5 +1,5 @@
--- For `Cuts::gather`: the values of a list, each where it stands first (`first_seen`), and what one
--- value more adds to them.
+-- For `Cuts::gather`: the values of a list, each at its first place (`first_seen`), and what one
+-- more value adds to them.
 use Rattle.std.proofs.Common.{◌≡◌, ℕ, suc, Bool, true, false, not, cond, ◌||◌, List, [], ◌∷◌, ◌++◌, filter, Some, refl, sym, ap, ◌∙◌, append-nil, slice_get}
 use Rattle.std.specs.List.{list_any}
 use Rattle.std.specs.Cmp.{IsEquivalence}
@@ -9,7 +9,7 @@ use Rattle.std.proofs.lemmas.Map.Views.{any-filter_same}
 use Rattle.version_ranges.specs.Gather.{first_seen}
 
 module _ {V : Type 0} {same : V → V → Bool} (s : IsEquivalence same) where
-  -- a value that differs from another one is found where the other one is left out
+  -- a value that differs from another one is found if the other one is left out
   found_beside : (w x : V) (vs : List V) → same w x ≡ false → list_any (same x) (filter (λ k. not (same w k)) vs) ≡ list_any (same x) vs
   found_beside w x vs e =
       any-filter_same (same x) (λ k. not (same w k)) true (λ k f. ap not (s.symm w k ∙ sym (s.congr x k w f) ∙ s.symm x w ∙ e)) vs
@@ -42,7 +42,7 @@ module _ {V : Type 0} {same : V → V → Bool} (s : IsEquivalence same) where
   seen_more x [] = refl
   seen_more x (w ∷ vs) = ap (λ l. w ∷ filter (λ k. not (same w k)) l) (seen_more x vs) ∙ more_by w x (first_seen same vs) (list_any (same x) (first_seen same vs)) refl (same x w) refl
 
--- a value that is found stands at a place
+-- a value that is found has a place
 pub found_place : {X : Type 0} (test : X → Bool) (xs : List X) → list_any test xs ≡ true → (i : ℕ) × (x : X) × (slice_get xs i ≡ Some x) × (test x ≡ true)
 found_place test [] e = absurd (false≢true e)
 found_place {X = X} test (x ∷ xs) e = by_test (test x) refl (λ h. found_place test xs h)

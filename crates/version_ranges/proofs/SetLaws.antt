@@ -1,4 +1,4 @@
--- Sets: where they are empty.
+-- Sets: when they are empty.
 use Rattle.std.proofs.Common.{◌≡◌, ℕ, Bool, true, false, not, List, [], ◌∷◌, length, eqb, eqb-true, eq-eqb, Some, None, refl, sym, ap, ◌∙◌, ◌↔◌}
 use mathlib.Core.Bool.{beq}
 use Rattle.std.specs.declared.cmp.Ordering.{Ordering}

@@ -53,7 +53,7 @@ module _ {T : Type 0} {cmp : T → T → Ordering} (o : IsTotalOrder cmp) (eq : 
   pub only_two : (v : T) → IsOnly v → length xs ≡ 2
   only_two v h = two_of xs v ((and_parts (beq first false) _ (shape v h)).1)
 
-  -- whether two cuts stand around one value
+  -- whether two cuts are around one value
   abbrev pub is_around : Bool → Cut T → Cut T → Bool
   is_around b c d = not b && (not c.above && (d.above && eq c.value d.value))
 

@@ -21,7 +21,7 @@ use Rattle.version_ranges.proofs.PointLaws.{cut_total, place, value_at_place}
 use Rattle.version_ranges.proofs.PartLaws.{before_later, point_total}
 
 module _ {T : Type 0} where
-  -- a value stands from the cut at it to the cut above it
+  -- a value extends from the cut at it to the cut above it
   abbrev pub low_cut : T → Cut T
   low_cut v = record { value = v; above = false }
 
@@ -59,7 +59,7 @@ module _ {T : Type 0} {cmp : T → T → Ordering} (o : IsTotalOrder cmp) where
   spot_by false true more f g = refl
   spot_by false false more f g = refl
 
-  -- a point is in the set where it is at a value
+  -- a point is in the set if it is at a value
   pub spots_value : (low : Option (Cut T)) (vs : List T) (p : Point T) → ascends (cut_cmp cmp) low (spots vs) ≡ true → value_at (stands_before (λ v. v) cmp p) false (spots vs) ≡ list_any (is_at p) vs
   spots_value low [] p a = refl
   spots_value low (v ∷ vs) p a =
@@ -95,7 +95,7 @@ module _ {T : Type 0} {cmp : T → T → Ordering} (o : IsTotalOrder cmp) where
     any_dedup p [] = refl
     any_dedup p (x ∷ xs) = any_from p x xs
 
-    -- no value stands before the one before it
+    -- no value is less than the one before it
     abbrev pub Rises : T → List T → Type 0
     Rises k [] = Unit {0}
     Rises k (x ∷ xs) = (is_lt (cmp x k) ≡ false) × Rises x xs

@@ -33,7 +33,7 @@ not_true true c f e = absurd (true≢false (sym (f refl) ∙ e))
 not_true false c f e = refl
 
 module _ {C V : Type 0} (cmp : C → C → Ordering) (R : V → V → Type 0) where
-  -- the same steps, at cuts that the order does not tell apart, and with values that R does not tell apart
+  -- the same steps, at equal cuts, and with values that are equal by R
   abbrev pub Alike : List (C × V) → List (C × V) → Type 0
   Alike [] [] = Unit {0}
   Alike [] (y ∷ ys) = ⊥

@@ -20,7 +20,7 @@ pub either_list : {X : Type 0} (P : List X → Type 0) (b : Bool) (new xs ys : L
 either_list P true new xs ys e h k = subst P (sym e) k
 either_list P false new xs ys e h k = subst P (sym e) h
 
--- a clone of a cut stands where the cut does
+-- a clone of a cut has the place of the cut
 pub past_clone : {C : Type 0} {cmp : C → C → Ordering} → IsTotalOrder cmp → (xs : List (C × Bool)) (c d : C) → cmp d c ≡ Equal → ascends cmp None (xs ++ (c, true) ∷ []) ≡ true → ascends cmp None (xs ++ (d, true) ∷ []) ≡ true
 past_clone {cmp = cmp} o xs c d e h =
     alike_ascends o (λ a b. a ≡ b) (xs ++ (d, true) ∷ []) (xs ++ (c, true) ∷ []) None (alike_more cmp xs xs ((d, true) ∷ []) ((c, true) ∷ []) (alike_itself o (λ a b. a ≡ b) (λ b. refl) xs) (e, (refl, tt))) ∙ h
@@ -74,7 +74,7 @@ module _ {Q : Type 0} where
   get_front (x ∷ xs) ys zero q e = e
   get_front (x ∷ xs) ys (suc i) q e = get_front xs ys i q e
 
-  -- what stands at a place stays there when the list grows
+  -- an element keeps its place when the list grows
   pub stays : (b : Bool) (xs new : List Q) (x : Q) → new ≡ cond b xs (xs ++ x ∷ []) → (i : ℕ) (q : Q) → slice_get xs i ≡ Some q → slice_get new i ≡ Some q
   stays true xs new x e i q h = ap (λ l. slice_get l i) e ∙ h
   stays false xs new x e i q h = ap (λ l. slice_get l i) e ∙ get_front xs (x ∷ []) i q h

@@ -1,5 +1,5 @@
--- Points that stand alike to some points: what compares a point with these alone tells no two such
--- points apart.
+-- Points with the same order to some points: what compares a point only with these does not
+-- distinguish two such points.
 use Rattle.std.specs.Prelude.{◌≡◌, ◌≢◌, ⊤, true, false, List, [], ◌∷◌}
 use Rattle.std.specs.declared.cmp.Ordering.{Ordering}
 use Rattle.std.specs.declared.cmp.Ordering.TheVariants.{Equal}
@@ -11,12 +11,12 @@ module _ {T : Type 0} (cmp : T → T → Ordering) where
   TiesWithNone p [] = ⊤
   TiesWithNone p (end ∷ ends) = (point_cmp cmp end p ≢ Equal) × TiesWithNone p ends
 
-  -- two points stand before the same of these
+  -- two points are before the same of these
   abbrev pub AreAlike : Point T → Point T → List (Point T) → Type 0
   AreAlike p q [] = ⊤
   AreAlike p q (end ∷ ends) = (point_lt cmp p end ≡ point_lt cmp q end) × AreAlike p q ends
 
-  -- there is a point before another one, and not before a lower one, that stands before the same of
+  -- there is a point before another one, and not before a lower one, that is before the same of
   -- these
   abbrev pub HasPointAlike : Point T → Point T → List (Point T) → Type 0
   HasPointAlike low p ends = (q : Point T)

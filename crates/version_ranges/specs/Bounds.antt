@@ -7,11 +7,11 @@ use Rattle.version_ranges.specs.declared.cuts.Cuts.{Cuts}
 use Rattle.version_ranges.specs.declared.ranges.Ranges.{Ranges}
 
 module _ {T : Type 0} where
-  -- where a value passes a test, its clones pass it too
+  -- if a value passes a test, its clones pass it too
   abbrev pub IsKeptByClones : (T → T → Type 0) → (T → Bool) → Type 0
   IsKeptByClones C test = (x y : T) → C x y → test x ≡ true → test y ≡ true
 
-  -- the values of y are values of x, as far as tests can tell, where `all` and `each` say whether
+  -- the values of y are values of x, as far as tests can distinguish; `all` and `each` say whether
   -- all values of x and of y pass one
   abbrev pub HasValuesOf : {X Y : Type 0}
       → ((T → Bool) → X → Bool) → X → ((T → Bool) → Y → Bool) → Y → Type 0
@@ -51,16 +51,17 @@ module _ {T : Type 0} where
     abbrev pub all_sets : {X : Type 0} → (T → Bool) → List (X × Ranges T a b c) → Bool
     all_sets test pairs = list_all (λ q. all_bounds test q.1) pairs
 
-    -- each bound of a set is at a value, as far as tests can tell
+    -- each bound of a set is at a value, as far as tests can distinguish
     abbrev pub IsBoundedBy : T → Ranges T a b c → Type 0
     IsBoundedBy v ranges = (test : T → Bool) → test v ≡ true → all_bounds test ranges ≡ true
 
-    -- each bound of a set is at the value of one of two bounds, as far as tests can tell
+    -- each bound of a set is at the value of one of two bounds, as far as tests can distinguish
     abbrev pub IsBoundedAt : Bound T → Bound T → Ranges T a b c → Type 0
     IsBoundedAt lower upper ranges = (test : T → Bool)
         → passes_at test lower ≡ true → passes_at test upper ≡ true → all_bounds test ranges ≡ true
 
-    -- each cut of a function is at a clone of a value of another one's, as far as tests can tell
+    -- each cut of a function is at a clone of a value of another one's, as far as tests can
+    -- distinguish
     abbrev pub KeepsCuts : {V W : Type 0}
         → (T → T → Type 0) → Cuts T V a b c → Cuts T W a b c → Type 0
     KeepsCuts C old new = (test : T → Bool) → IsKeptByClones C test
@@ -72,7 +73,8 @@ module _ {T : Type 0} where
     KeepsCutsOfBoth C left right new = (test : T → Bool) → IsKeptByClones C test
         → all_cuts test left ≡ true → all_cuts test right ≡ true → all_cuts test new ≡ true
 
-    -- each bound of a set is at a clone of a value of another one's, as far as tests can tell
+    -- each bound of a set is at a clone of a value of another one's, as far as tests can
+    -- distinguish
     abbrev pub KeepsBounds : (T → T → Type 0) → Ranges T a b c → Ranges T a b c → Type 0
     KeepsBounds C old new = (test : T → Bool) → IsKeptByClones C test
         → all_bounds test old ≡ true → all_bounds test new ≡ true

@@ -37,7 +37,7 @@ module _ {T : Type 0} where
           (q : Point T) × IsBetween q ×
           ((r : Point T) → IsBetween r → point_lt cmp r q ≡ false → same (new p) (old r) ≡ true)
 
--- one function is another one, whose points are moved between two bounds that are lent
+-- one function is another one, whose points are moved between two borrowed bounds
 abbrev pub IsMovedInto : {T V : Type 0} {a : _} {b : _} {c : _} → (T → T → Ordering)
     → (V → V → Bool) → Bound (Bor T) → Bound (Bor T) → Cuts T V a b c → Cuts T V a b c → Type 0
 IsMovedInto cmp same lower upper old new =

@@ -1,4 +1,4 @@
--- Cuts of an ordered set: where a piece begins.
+-- Cuts of an ordered set, at which pieces begin.
 use Rattle.std.specs.Prelude.{Bool, ◌&&◌, not, if◌then◌else◌}
 use Rattle.std.specs.Ordering.{then_cmp, on, bool_cmp}
 use Rattle.std.specs.declared.cmp.Ordering.{Ordering}
@@ -11,21 +11,20 @@ use Rattle.version_ranges.specs.Point.{Point, at, above, point_lt}
 abbrev pub cut_cmp : {T : Type 0} → (T → T → Ordering) → Cut T → Cut T → Ordering
 cut_cmp cmp = then_cmp (on (λ c. c.value) cmp) (on (λ c. c.above) bool_cmp)
 
--- the first point of the piece that begins at a cut, where the values go by the names that f gives
--- them
+-- the first point of the piece that begins at a cut, if the values have the names that f gives them
 abbrev pub cut_point : {T K : Type 0} → (T → K) → Cut T → Point K
 cut_point f c = if c.above then above (f c.value) else at (f c.value)
 
--- whether a point stands before a cut
+-- whether a point is before a cut
 abbrev pub stands_before : {T K : Type 0} → (T → K) → (K → K → Ordering) → Point K → Cut T → Bool
 stands_before f cmp p c = point_lt cmp p (cut_point f c)
 
 module _ {T : Type 0} (cmp : T → T → Ordering) where
-  -- whether a point is one of those before a cut, or of the others where `first` is false
+  -- whether a point is one of those before a cut, or if `first` is false one of the others
   abbrev pub is_in_half : Bool → Cut T → Point T → Bool
   is_in_half first c p = if stands_before (λ v. v) cmp p c then first else not first
 
-  -- whether a point stands from a cut on, and before another
+  -- whether a point is at or after a cut, and before another
   abbrev pub is_in_span : Cut T → Cut T → Point T → Bool
   is_in_span begin end p =
       not (stands_before (λ v. v) cmp p begin) && stands_before (λ v. v) cmp p end

@@ -10,8 +10,8 @@ use Rattle.version_ranges.specs.Steps.{value_at, piece_at, is_merged}
 
 module _ {T V : Type 0} {a : _} {b : _} {c : _} where
   module _ {K : Type 0} (f : T → K) (cmp : K → K → Ordering) where
-    -- the value at a point, where the values of the order go by the names that f gives them, which
-    -- cmp orders
+    -- the value at a point, if the values of the order have the names that f gives them, which cmp
+    -- orders
     abbrev pub value_by : Cuts T V a b c → Point K → V
     value_by cuts p = value_at (stands_before f cmp p) cuts.first cuts.rest.items
 
@@ -76,7 +76,7 @@ abbrev pub IsOrderOfNames : {T : Type 0} → (T → T → Ordering) → (T → L
 IsOrderOfNames cmp name = (x y : _) → cmp x y ≡ slice_cmp nat_cmp (name x) (name y)
 
 module _ {T V : Type 0} {a : _} {b : _} {c : _} (name : T → List ℕ) where
-  -- the value at a point that goes by a name
+  -- the value at a point of a name
   abbrev pub named_value : Cuts T V a b c → Point (List ℕ) → V
   named_value cuts q = value_by name (slice_cmp nat_cmp) cuts q
 
@@ -91,7 +91,7 @@ module _ {T V W : Type 0} {a : _} {b : _} {c : _} where
   IsNamed cmp name f g p = (named_value name f (point_map name p) ≡ value_of cmp f p)
       × (named_value name g (point_map name p) ≡ value_of cmp g p)
 
-  -- two functions cannot tell a point by a name from some point of the order
+  -- two functions cannot distinguish a point of a name from some point of the order
   abbrev pub FindsPoint : (T → T → Ordering) → (T → List ℕ)
       → Cuts T V a b c → Cuts T W a b c → Point (List ℕ) → Type 0
   FindsPoint cmp name f g q = (p : Point T)

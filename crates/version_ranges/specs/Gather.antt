@@ -16,7 +16,7 @@ use Rattle.version_ranges.specs.Ranges.{contains_point}
 use Rattle.version_ranges.specs.Parts.{parts_of}
 use Rattle.version_ranges.specs.Steps.{ascends, last_value}
 
--- the values of a list, each where it stands first
+-- the values of a list, each at its first place
 abbrev pub first_seen : {V : Type 0} → (V → V → Bool) → List V → List V
 first_seen same [] = []
 first_seen same (v ∷ vs) = v ∷ filter (λ w. not (same v w)) (first_seen same vs)
@@ -26,7 +26,7 @@ module _ {T V : Type 0} {a : _} {b : _} {c : _} {a' : _} {b' : _} {c' : _}
   -- these pairs are the values of a function, each with the set of the points that have it
   pub record IsGathered (cuts : Cuts T V a b c)
       (pairs : List (Bor V × Ranges T a' b' c')) : Type 0 where
-    -- the values of the pieces, in order, each where it stands first
+    -- the values of the pieces, in order, each at its first place
     pub values : map (λ q. q.0.now) pairs ≡
         first_seen same (map (λ part. part.value) (parts_of cuts))
     -- the set of a value has the points at which the function has it
@@ -35,12 +35,12 @@ module _ {T V : Type 0} {a : _} {b : _} {c : _} {a' : _} {b' : _} {c' : _}
     -- the value of each point is in the list
     pub covers : (p : Point T) → (i : ℕ) × (q : Bor V × Ranges T a' b' c') ×
         (slice_get pairs i ≡ Some q) × (same q.0.now (value_of cmp cuts p) ≡ true)
-    -- and no value stands there twice
+    -- and no value is there twice
     pub apart : (i j : ℕ) (q r : Bor V × Ranges T a' b' c') →
         slice_get pairs i ≡ Some q → slice_get pairs j ≡ Some r →
         same q.0.now r.0.now ≡ true → i ≡ j
 
--- a value is at a place of a list, where key reads it
+-- a value is at a place of a list, if key reads it
 abbrev pub IsPlace : {V Q : Type 0} → (V → V → Bool) → (Q → V) → List Q → ℕ → V → Type 0
 IsPlace {Q = Q} same key pairs i v =
     (q : Q) × (slice_get pairs i ≡ Some q) × (same v (key q) ≡ true)
@@ -52,7 +52,7 @@ module _ {T V : Type 0} {a : _} {b : _} {c : _} where
   IsSplitBy cmp same set inside outside f = (p : Point T)
       → same (value_of cmp f p) (if contains_point cmp set p then inside else outside) ≡ true
 
-  -- these pairs, with one more where its value is not there yet
+  -- these pairs, and one more if its value is new
   abbrev pub joined : (V → V → Bool) → List (Bor V × Ranges T a b c)
       → Bor V × Ranges T a b c → List (Bor V × Ranges T a b c)
   joined same pairs p =
@@ -65,7 +65,7 @@ module _ {T : Type 0} {a : _} {b : _} {c : _} where
       (cut, not (last_value set.cuts.first set.cuts.rest.items)) ∷ []
 
 module _ {T : Type 0} {a : _} {b : _} {c : _} (cmp : T → T → Ordering) where
-  -- a cut stands after all cuts of a set
+  -- a cut is after all cuts of a set
   abbrev pub IsPast : Ranges T a b c → Cut T → Type 0
   IsPast set cut = ascends (cut_cmp cmp) None (set.cuts.rest.items ++ (cut, true) ∷ []) ≡ true
 
@@ -74,13 +74,13 @@ module _ {T : Type 0} {a : _} {b : _} {c : _} (cmp : T → T → Ordering) where
   ArePast {V = V} pairs cut =
       (i : ℕ) (q : Bor V × Ranges T a b c) → slice_get pairs i ≡ Some q → IsPast q.1 cut
 
-  -- one set is another one, and ends or begins at a cut too where `turns`
+  -- one set is another one, and if `turns` ends or begins at a cut too
   pub record IsTurned (turns : Bool) (cut : Cut T) (old new : Ranges T a b c) : Type 0 where
     pub first : new.cuts.first ≡ old.cuts.first
     pub rest : (d : Cut T) × (cut_cmp cmp cut d ≡ Equal) ×
         (new.cuts.rest.items ≡ (if turns then with_turn old d else old.cuts.rest.items))
 
-  -- the sets at two places end or begin at a cut, where these are two, and all else stays
+  -- the sets at two places end or begin at a cut if the places differ, and all else stays
   abbrev pub AreTurned : {V : Type 0} → ℕ → ℕ → Cut T
       → List (Bor V × Ranges T a b c) → List (Bor V × Ranges T a b c) → Type 0
   AreTurned {V = V} from to cut old new = (i : ℕ) (q r : Bor V × Ranges T a b c)

@@ -37,7 +37,7 @@ module _ {T : Type 0} where
   same_intervals eq (i ∷ is) [] = false
   same_intervals eq (i ∷ is) (j ∷ js) = same_interval eq i j && same_intervals eq is js
 
-  -- what an item lends
+  -- an item without its references
   abbrev pub interval_of : Bound (Bor T) × Bound (Bor T) → Interval T
   interval_of i = (bound_map (λ v. v.now) i.0, bound_map (λ v. v.now) i.1)
 
@@ -72,23 +72,23 @@ module _ {T : Type 0} where
     abbrev pub is_within : Interval T → Point T → Bool
     is_within i p = is_in_bounds cmp i.0 i.1 p
 
-    -- each point of an interval stands before each point of another
+    -- each point of an interval is before each point of another
     abbrev pub IsBefore : Interval T → Interval T → Type 0
     IsBefore i j = (p q : Point T) →
         is_within i p ≡ true → is_within j q ≡ true → point_cmp cmp p q ≡ Less
 
-    -- each point of an interval stands before each point of these
+    -- each point of an interval is before each point of these
     abbrev pub StandsBefore : Interval T → List (Interval T) → Type 0
     StandsBefore i [] = Unit {0}
     StandsBefore i (j ∷ js) = IsBefore i j × StandsBefore i js
 
-    -- no interval is empty, and each stands before the later ones
+    -- no interval is empty, and each is before the later ones
     abbrev pub AreAscending : List (Interval T) → Type 0
     AreAscending [] = Unit {0}
     AreAscending (i ∷ is) =
         (p : Point T) × (is_within i p ≡ true) × StandsBefore i is × AreAscending is
 
-    -- between an interval and the first of these there is a point, behind the one and before the
+    -- between an interval and the first of these there is a point, after the one and before the
     -- other
     abbrev pub HasGap : Interval T → List (Interval T) → Type 0
     HasGap i [] = Unit {0}

@@ -1,4 +1,4 @@
--- What a function that is lent is as a function of points.
+-- A borrowed function, as a function of points.
 use Rattle.std.specs.Prelude.{◌≡◌, ℕ, ◌+◌, Bool, true, length}
 use Rattle.std.specs.List.{list_all}
 use Rattle.std.specs.declared.cmp.Ordering.{Ordering}
@@ -11,12 +11,12 @@ use Rattle.version_ranges.specs.Point.{Point}
 use Rattle.version_ranges.specs.Steps as steps
 
 module _ {T V : Type 0} {a : _} {b : _} {c : _} where
-  -- the value at a point that is known by a test, which tells before which cuts it stands
+  -- the value at a point that is known by a test, which says before which cuts it is
   abbrev pub value_at : (Cut T → Bool) → CutsRef T V a b c → V
   value_at is_before lent = steps.value_at is_before lent.first.now lent.rest.now
 
-  -- the value at a point, where the values of the order go by the names that f gives them, which
-  -- cmp orders
+  -- the value at a point, if the values of the order have the names that f gives them, which cmp
+  -- orders
   abbrev pub value_by :
       {K : Type 0} → (T → K) → (K → K → Ordering) → CutsRef T V a b c → Point K → V
   value_by f cmp lent p = value_at (stands_before f cmp p) lent
@@ -33,7 +33,7 @@ module _ {T V : Type 0} {a : _} {b : _} {c : _} where
   abbrev pub HasValueEverywhere : V → CutsRef T V a b c → Type 0
   HasValueEverywhere v lent = (is_before : Cut T → Bool) → value_at is_before lent ≡ v
 
-  -- the function that is lent has the values of another one at each point, by whatever names
+  -- the borrowed function has the values of another one at each point, by whatever names
   abbrev pub IsLent : Cuts T V a b c → CutsRef T V a b c → Type 0
   IsLent cuts lent = (is_before : Cut T → Bool)
       → value_at is_before lent ≡ steps.value_at is_before cuts.first cuts.rest.items
@@ -43,8 +43,8 @@ module _ {T V : Type 0} {a : _} {b : _} {c : _} where
   all_lent_cuts test lent = list_all (λ s. test s.0.value) lent.rest.now
 
 module _ {T V W X : Type 0} {a : _} {b : _} {c : _} where
-  -- each cut of a function is at a clone of a value of one of two that are lent, as far as tests
-  -- can tell
+  -- each cut of a function is at a clone of a value of one of two borrowed ones, as far as tests
+  -- can distinguish
   abbrev pub KeepsLentCuts : (T → T → Type 0)
       → CutsRef T V a b c → CutsRef T W a b c → Cuts T X a b c → Type 0
   KeepsLentCuts C left right new = (test : T → Bool) → IsKeptByClones C test

@@ -14,7 +14,7 @@ use Rattle.version_ranges.specs.Lent.{value_of, piece_count}
 use Rattle.version_ranges.specs.Steps.{piece_at}
 use Rattle.version_ranges.specs.Sweep.{overlay, steps_left}
 
--- what an item lends
+-- an item without its references
 abbrev pub pair_of : {V W : Type 0} → Bor V × Bor W → V × W
 pair_of q = (q.0.now, q.1.now)
 
@@ -34,8 +34,8 @@ module _ {T V W : Type 0} (cmp : T → T → Ordering) where
     abbrev pub count_of_both : CutsRef T V a b c → CutsRef T W a' b' c' → ℕ
     count_of_both left right = length (steps_of_both left right) + 1
 
-    -- which of these a point lies in, counted from the first, where the values of the order go by
-    -- the names that f gives them
+    -- which of these a point is in, counted from the first, if the values of the order have the
+    -- names that f gives them
     abbrev pub piece_of_both_by : {K : Type 0} → (T → K) → (K → K → Ordering)
         → CutsRef T V a b c → CutsRef T W a' b' c' → Point K → ℕ
     piece_of_both_by f named left right p =
@@ -71,6 +71,6 @@ module _ {T V W : Type 0} (cmp : T → T → Ordering) where
           slice_get pairs (index p) ≡ Some (value_of cmp left p, value_of cmp right p)
       -- each pair has a point
       pub nonempty : (i : ℕ) → i < length pairs → (p : Point T) × (index p ≡ i)
-      -- the points of a pair stand before those of the next
+      -- the points of a pair are before those of the next
       pub ascending : (p q : Point T) → index p < index q → point_cmp cmp p q ≡ Less
       pub count : length pairs + 1 ≤ piece_count left + piece_count right

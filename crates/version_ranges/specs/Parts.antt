@@ -51,7 +51,7 @@ module _ {T V : Type 0} where
   parts_from low v (s ∷ steps) =
       record { lower = low; upper = upper_of s.0; value = v } ∷ parts_from (lower_of s.0) s.1 steps
 
-  -- what a piece lends
+  -- a piece without its references
   abbrev pub part_of : Piece T V → Part T V
   part_of p = record {
     lower = bound_map (λ v. v.now) p.lower;
@@ -107,6 +107,6 @@ module _ {T V : Type 0} where
       -- each part has a point
       pub nonempty : (i : ℕ) (part : Part T V) →
           slice_get parts i ≡ Some part → (p : Point T) × IsIn cmp part p
-      -- the points of a part stand before those of the next
+      -- the points of a part are before those of the next
       pub ascending : (p q : Point T) →
           piece_of cmp cuts p < piece_of cmp cuts q → point_cmp cmp p q ≡ Less

@@ -13,7 +13,7 @@ pub data Point (T : Type 0) : Type 0 where
   at : T → Point T
   above : T → Point T
 
--- the same place, where the values go by other names
+-- the same point, if the values have other names
 abbrev pub point_map : {T K : Type 0} → (T → K) → Point T → Point K
 point_map f bottom = bottom
 point_map f (at v) = at (f v)
@@ -39,7 +39,7 @@ module _ {T : Type 0} (cmp : T → T → Ordering) where
   point_cmp (above v) (at w) = ordering_then (cmp v w) Greater
   point_cmp (above v) (above w) = cmp v w
 
-  -- whether a point stands before another
+  -- whether a point is before another
   abbrev pub point_lt : Point T → Point T → Bool
   point_lt p q = is_lt (point_cmp p q)
 

@@ -7,7 +7,7 @@ use Rattle.version_ranges.specs.Point.{Point, is_in_bounds}
 use Rattle.version_ranges.specs.Cuts.{value_by}
 
 module _ {T : Type 0} {a : _} {b : _} {c : _} where
-  -- whether a point is in the set, where the values of the order go by the names that f gives them,
+  -- whether a point is in the set, if the values of the order have the names that f gives them,
   -- which cmp orders
   abbrev pub contains_by :
       {K : Type 0} → (T → K) → (K → K → Ordering) → Ranges T a b c → Point K → Bool
@@ -43,6 +43,6 @@ module _ {T : Type 0} {a : _} {b : _} {c : _} where
   abbrev pub HaveSamePoints : (T → T → Ordering) → Ranges T a b c → Ranges T a b c → Type 0
   HaveSamePoints cmp r s = (p : Point T) → contains_point cmp r p ≡ contains_point cmp s p
 
-  -- a point is in one of two sets alone
+  -- a point is in only one of two sets
   abbrev pub DifferInPoint : (T → T → Ordering) → Ranges T a b c → Ranges T a b c → Type 0
   DifferInPoint cmp r s = (p : Point T) × (contains_point cmp r p ≢ contains_point cmp s p)

@@ -1,13 +1,12 @@
 -- Functions of points that are constant between cuts, as lists: the value before all cuts, then
--- each cut with the value after it. A point is known by a test, which tells before which cuts it
--- stands.
+-- each cut with the value after it. A point is known by a test, which says before which cuts it is.
 use Rattle.std.proofs.Common.{suc}
 use Rattle.std.specs.Prelude.{ℕ, Bool, true, not, List, [], ◌∷◌, Option, Some, None, if◌then◌else◌, ◌&&◌}
 use Rattle.std.specs.Ordering.{is_lt}
 use Rattle.std.specs.declared.cmp.Ordering.{Ordering}
 
 module _ {C V : Type 0} where
-  -- the value at a point, where v is the value before all cuts
+  -- the value at a point, if v is the value before all cuts
   abbrev pub value_at : (C → Bool) → V → List (C × V) → V
   value_at is_before v [] = v
   value_at is_before v (s ∷ steps) = if is_before s.0 then v else value_at is_before s.1 steps
@@ -28,7 +27,7 @@ module _ {C : Type 0} (cmp : C → C → Ordering) where
   is_before None c = true
   is_before (Some p) c = is_lt (cmp p c)
 
-  -- the cuts ascend, and stand above the place
+  -- the cuts ascend, and are above the place
   abbrev pub ascends : {V : Type 0} → Option C → List (C × V) → Bool
   ascends low [] = true
   ascends low (s ∷ steps) = is_before low s.0 && ascends (Some s.0) steps

@@ -1,4 +1,4 @@
-//! Functions whose points are moved into a range.
+//! Functions moved into a range.
 ghost use Rattle.std.specs.Prelude.{◌≡◌, IfOk, true, false};
 ghost use Rattle.std.specs.Set.{ClonesAreEqual};
 ghost use Rattle.version_ranges.specs.Bounds.{KeepsCuts};
@@ -14,8 +14,8 @@ use std::alloc::{AllocError, Global};
 use std::cmp::Ordering;
 use std::ops::Bound;
 
-/// Whether there is a point between two bounds: between `Excluded` 1 and `Excluded` 2 there is the
-/// place right above 1, whatever values the order has.
+/// Returns whether there is a point between two bounds. Between `Excluded` 1 and `Excluded` 2 there
+/// is the point right above 1, whatever values the order has.
 pub fn has_point<T: Ord>(lower: Bound<&T>, upper: Bound<&T>) -> bool
     ensures some { result ≡ true → HasPoint T.cmp (bound_of lower.entry) (bound_of upper.entry) }
     ensures none { result ≡ false → IsBare T.cmp (bound_of lower.entry) (bound_of upper.entry) }
@@ -23,7 +23,7 @@ pub fn has_point<T: Ord>(lower: Bound<&T>, upper: Bound<&T>) -> bool
     begins_within(lower, upper)
 }
 
-// Whether the first point from a lower bound on is not past an upper bound.
+// Whether the first point from a lower bound on is not above an upper bound.
 fn begins_within<T: Ord>(lower: Bound<&T>, upper: Bound<&T>) -> bool
     ensures { result ≡ is_until T.cmp (bound_of upper.entry) (begin_point (bound_of lower.entry)) }
 {
@@ -39,7 +39,7 @@ fn begins_within<T: Ord>(lower: Bound<&T>, upper: Bound<&T>) -> bool
 }
 
 impl<T: Ord> Cut<T> {
-    // Whether this cut lies after the first point of a range with this lower bound.
+    // Whether this cut is after the first point of a range with this lower bound.
     fn is_after_begin(&self, lower: Bound<&T>) -> bool
         ensures { result
             ≡ stands_before (λ v. v) T.cmp (begin_point (bound_of lower.entry)) self.now }
@@ -51,7 +51,7 @@ impl<T: Ord> Cut<T> {
         }
     }
 
-    // Whether the point of this cut is not past an upper bound.
+    // Whether the point of this cut is not above an upper bound.
     fn is_before_end(&self, upper: Bound<&T>) -> bool
         ensures { result ≡ is_until T.cmp (bound_of upper.entry) (cut_point (λ v. v) self.now) }
     {
@@ -68,9 +68,8 @@ impl<T: Ord> Cut<T> {
 }
 
 impl<T: Ord + Clone, V: Eq + Clone> Cuts<T, V> {
-    /// The function with its points moved into a range: below the range it has the value of the
-    /// first point, and above it the value that it has at every point of the range from some point
-    /// on. The range has a point. Only memory can run out.
+    /// Returns the function moved into a range that is not empty: below the range it has the value
+    /// of the first point, and above it the value that it has from some point of the range on.
     pub fn clamp(
         &self,
         alloc: Global,
@@ -101,7 +100,7 @@ impl<T: Ord + Clone, V: Eq + Clone> Cuts<T, V> {
 }
 
 impl<T: Ord, V> Piece<'_, T, V> {
-    /// Whether a value lies in the piece. This takes no memory.
+    /// Returns whether a value is in the piece.
     pub fn contains(&self, value: &T) -> bool
         ensures { result ≡ is_in T.cmp (part_of self.now) (at value.now) }
     {

@@ -1,4 +1,4 @@
-//! Two sets taken together.
+//! Set operations on two sets.
 ghost use Rattle.std.specs.Prelude.{◌≡◌};
 ghost use Rattle.version_ranges.specs.Taken.{takes};
 
@@ -7,8 +7,7 @@ use crate::ranges::Ranges;
 use crate::sweep::Sweep;
 use std::alloc::{AllocError, Global};
 
-/// Which points of two sets are taken: those in one set at least, in both sets, or in one set
-/// alone.
+/// Which points of two sets are taken: those in at least one set, in both sets, or in only one set.
 #[derive(Clone, Copy)]
 pub(crate) enum Taken {
     InEither,
@@ -17,7 +16,7 @@ pub(crate) enum Taken {
 }
 
 impl Taken {
-    // Whether a point is taken that is in the left set, in the right set.
+    // Whether a point is taken that is in the left set, or in the right set.
     fn takes(self, left: bool, right: bool) -> bool
         ensures { result ≡ takes self (left, right) }
     {
@@ -36,8 +35,8 @@ impl<T: Ord + Clone> Ranges<T> {
     ghost use Rattle.version_ranges.specs.Ranges.{IsSet};
     ghost use Rattle.version_ranges.specs.Taken.{is_taken};
 
-    // The points of two sets that are taken. A cut is cloned only where the taken points begin or
-    // end.
+    // The points of two sets that are taken. A cut is cloned only if the taken points begin or end
+    // there.
     pub(crate) fn taken_points(
         &self,
         alloc: Global,

@@ -9,7 +9,7 @@ use std::alloc::{AllocError, Global};
 /// A function of the points of an order that is constant between cuts.
 #[derive(PartialEq, Eq, Hash, Drop)]
 pub struct Cuts<T: Ord, V> {
-    // The value before all cuts: there is one value more than cuts.
+    // The value before all cuts: there is one more value than cuts.
     pub(crate) first: V,
     // Each cut with the value from it on.
     pub(crate) rest: Vec<(Cut<T>, V)>,
@@ -22,7 +22,7 @@ impl<T: Ord, V> Cuts<T, V> {
     ghost use Rattle.version_ranges.specs.Point.{Point, at};
     ghost use Rattle.version_ranges.specs.Cuts.{value_of, piece_count, IsValueOfPiece};
 
-    /// The same value at every point.
+    /// Returns the function with the same value at every point.
     pub fn constant(alloc: Global, value: V) -> Self
         ensures value { (p : Point T) → value_of T.cmp result p ≡ value }
         ensures count { piece_count result ≡ 1 }
@@ -34,14 +34,14 @@ impl<T: Ord, V> Cuts<T, V> {
         }
     }
 
-    /// How many pieces there are.
+    /// Returns how many pieces there are.
     pub fn piece_count(&self) -> usize
         ensures { result ≡ piece_count self.now }
     {
         self.rest.len() + 1
     }
 
-    /// The value at the point of a value of the order.
+    /// Returns the value of the function at a value of the order.
     pub fn at(&self, value: &T) -> &V
         ensures { result.now ≡ value_of T.cmp self.now (at value.now) }
     {
@@ -66,7 +66,7 @@ impl<V> Cuts<String, V> {
     ghost use Rattle.version_ranges.specs.Point.{at};
     ghost use Rattle.version_ranges.specs.Cuts.{text_value};
 
-    /// The value at the point of a text, which need be no `String`.
+    /// Returns the value of the function at a text, without a `String`.
     pub fn at_str(&self, text: &str) -> &V
         ensures { result.now ≡ text_value self.now (at text.now) }
     {
@@ -80,8 +80,8 @@ impl<T: Ord + Drop, V: Drop> Cuts<T, V> {
     ghost use Rattle.version_ranges.specs.Bounds.{HasValuesOf, all_cuts};
     ghost use Rattle.version_ranges.specs.Cuts.{piece_count, HasValuesInOrder, IsMerged};
 
-    /// The pieces with these values in order, where neighbors with equal values are joined. There
-    /// is a value for each piece. Only memory can run out.
+    /// Returns the pieces with these values in order, one for each piece. Neighbors with equal
+    /// values are joined.
     #[inline(always)]
     pub fn with_values<W: Eq + Drop>(self, values: Vec<W>) -> Result<Cuts<T, W>, AllocError>
         requires { vec_len values ≡ piece_count self }

@@ -9,14 +9,13 @@ use crate::ranges::Ranges;
 use std::alloc::AllocError;
 
 impl<T: Ord + Clone, V: Eq + Clone> Clone for Cuts<T, V> {
-    // A clone is equal to its source, the same function of points, and its cuts are at clones of
-    // the values.
+    // A clone is equal to its source, means the same function, and its cuts are at clones of the
+    // values.
     ghost is_clone = { λ f g. (⟦<Cuts<T, V> as PartialEq>⟧.eq f g ≡ true)
         × AgreeEverywhere T.cmp V.eq f g
         × KeepsCuts T.is_clone f g };
 
-    // `Clone` has no law that a clone is equal to its source, so this is refused too where it is
-    // not.
+    // `Clone` has no law that a clone is equal to its source, so this fails if it is not.
     fn clone(&self) -> Result<Self, AllocError> {
         let first = self.first.clone()?;
         let rest = self.rest.clone()?;
@@ -43,8 +42,8 @@ impl<T: Ord + Clone> Clone for Ranges<T> {
     }
 }
 
-/// Functions whose neighboring pieces differ, as `with_values` makes them, are equal exactly where
-/// they have equal values at every point. This is a law, and the call does nothing.
+/// A law; the call does nothing. Functions whose neighboring pieces differ, such as those of
+/// `with_values`, are equal exactly if they have equal values at every point.
 pub fn equal_where_same<T: Ord, V: Eq>(left: &Cuts<T, V>, right: &Cuts<T, V>)
     requires left_merged { IsMerged V.eq left.now }
     requires right_merged { IsMerged V.eq right.now }
@@ -54,8 +53,7 @@ pub fn equal_where_same<T: Ord, V: Eq>(left: &Cuts<T, V>, right: &Cuts<T, V>)
         → DifferSomewhere T.cmp V.eq left.now right.now }
 {}
 
-/// Sets are equal exactly where they have the same points. This is a law, and the call does
-/// nothing.
+/// A law; the call does nothing. Sets are equal exactly if they have the same points.
 pub fn equal_where_same_points<T: Ord>(left: &Ranges<T>, right: &Ranges<T>)
     ensures equal { ⟦<Ranges<T> as PartialEq>⟧.eq left.now right.now ≡ true
         → HaveSamePoints T.cmp left.now right.now }

@@ -1,4 +1,4 @@
-//! Functions made of sets of points.
+//! Functions made from sets of points, and sets made from functions.
 ghost use Rattle.std.specs.Prelude.{◌≡◌, ◌<◌, [], map, IfOk, OnOk, vec_len, if◌then◌else◌};
 ghost use Rattle.std.specs.Set.{ClonesAreEqual};
 ghost use Rattle.version_ranges.specs.Bounds.{IsCloned, HasValuesOf, all_bounds, all_cuts, all_sets};
@@ -13,8 +13,8 @@ use std::alloc::{AllocError, Global};
 use std::hash::Hash;
 
 impl<T: Ord + Drop, V: Eq + Clone> Cuts<T, V> {
-    /// One value at the points of a set, and another at all other points. The cuts of the set move
-    /// into the function. Only memory can run out.
+    /// Returns the function with one value at the points of a set, and another at all other points.
+    /// The cuts of the set are moved into the function.
     pub fn from_ranges(ranges: Ranges<T>, inside: V, outside: V) -> Result<Self, AllocError>
         requires value_clones { ClonesAreEqual V.eq V.is_clone }
         ensures value { IfOk result (IsSplitBy T.cmp V.eq ranges inside outside) }
@@ -48,8 +48,8 @@ fn either<'a, V>(flag: bool, inside: &'a V, outside: &'a V) -> &'a V
 }
 
 impl<T: Ord + Clone, V: Eq + Hash> Cuts<T, V> {
-    /// Each value of the function with the set of the points that have it, in the order of their
-    /// first points. The bounds of the sets are those of the function. Only memory can run out.
+    /// Returns each value of the function with the set of the points that have it, in the order of
+    /// their first points. The bounds of the sets are those of the function.
     pub fn gather(&self, alloc: Global) -> Result<Vec<(&V, Ranges<T>)>, AllocError>
         requires clones { ClonesAreEqual T.eq T.is_clone }
         ensures gathered { IfOk result (λ r. IsGathered T.cmp V.eq self.now r.items) }
@@ -77,7 +77,7 @@ impl<T: Ord + Clone, V: Eq + Hash> Cuts<T, V> {
     }
 }
 
-// Where a value stands among the values, which it joins with a set where it is not there yet.
+// The place of a value among the values. A new value is added with a set.
 fn place_of<'a, T: Ord + Drop, V: Eq + Hash>(
     places: &mut IndexSet<&'a V>,
     pairs: &mut Vec<(&'a V, Ranges<T>)>,
@@ -99,7 +99,7 @@ fn place_of<'a, T: Ord + Drop, V: Eq + Hash>(
     Ok(place)
 }
 
-// Ends the set at one place at a cut, and goes on with that at another place.
+// Ends the set at one place at a cut, and continues the one at another place.
 fn pass<T: Ord + Clone, V>(
     pairs: &mut Vec<(&V, Ranges<T>)>,
     from: usize,
@@ -136,7 +136,8 @@ impl<T: Ord + Drop> Ranges<T> {
         }
     }
 
-    // From a cut after all others on, the points that were not in the set.
+    // Adds the points from a cut after all others on that were not in the set, and removes those
+    // that were.
     fn turn(&mut self, cut: Cut<T>) -> Result<(), AllocError>
         requires { IsPast T.cmp self.old cut }
         ensures first { OnOk result (self.new.cuts.first ≡ self.old.cuts.first) }

@@ -1,4 +1,4 @@
-//! The intervals of a set, one after another.
+//! An iterator over the intervals of a set.
 ghost use Rattle.std.specs.Prelude.{◌≡◌};
 
 use crate::pieces::Pieces;
@@ -38,7 +38,7 @@ impl<T: Ord> Ranges<T> {
     ghost use Rattle.version_ranges.specs.Clamp.{bound_of};
     ghost use Rattle.version_ranges.specs.Intervals.{interval_of, intervals_of, intervals_left, lower_from, span_of, upper_after, AreApart, AreIntervals};
 
-    /// The intervals of the set, in ascending order: none is empty, and no two touch.
+    /// Returns the intervals of the set, in ascending order: none is empty, and no two touch.
     pub fn iter(&self) -> Intervals<'_, T>
         ensures items { intervals_left result ≡ intervals_of self.now }
         ensures intervals { AreIntervals T.cmp self.now (intervals_of self.now) }
@@ -50,8 +50,8 @@ impl<T: Ord> Ranges<T> {
         }
     }
 
-    /// The least range that has all points of the set: from the lower bound of its first interval
-    /// to the upper bound of its last one. There is none where the set is empty.
+    /// Returns the smallest range that contains the set: from the lower bound of its first interval
+    /// to the upper bound of its last one. `None` if the set is empty.
     pub fn bounding_range(&self) -> Option<(Bound<&T>, Bound<&T>)>
         ensures span { option_map interval_of result ≡ span_of (intervals_of self.now) }
         ensures intervals { AreIntervals T.cmp self.now (intervals_of self.now) }

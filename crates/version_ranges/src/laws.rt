@@ -1,4 +1,4 @@
-//! Laws of functions and sets. A call of one does nothing: what it promises is its contract.
+//! Laws of functions and sets. Each is a function that does nothing, whose contract is the law.
 ghost use Rattle.std.specs.Prelude.{◌≡◌, ℕ, Bool, List, true};
 ghost use Rattle.std.specs.String.{string_eq};
 ghost use Rattle.std.specs.declared.cmp.Ordering.TheVariants.{Less};
@@ -12,7 +12,7 @@ ghost use Rattle.version_ranges.specs.Intervals.{intervals_of, same_intervals};
 use crate::cuts::Cuts;
 use crate::ranges::Ranges;
 
-/// Functions whose neighboring pieces differ, as `with_values` makes them, are equal by `==` where
+/// Functions whose neighboring pieces differ, such as those of `with_values`, are equal by `==` if
 /// they have equal values at every point. Equal functions have equal pieces: as many, with equal
 /// bounds and equal values. Functions with equal pieces have equal values at every point.
 pub fn same_values_make_same_pieces<T: Ord, V: Eq>(left: &Cuts<T, V>, right: &Cuts<T, V>)
@@ -37,8 +37,8 @@ pub fn same_points_make_same_intervals<T: Ord>(left: &Ranges<T>, right: &Ranges<
         → HaveSamePoints T.cmp left.now right.now }
 {}
 
-/// Each point lies between the bounds of one piece and of no other, and the value at the point is
-/// that of this piece.
+/// Each point is between the bounds of exactly one piece, and the value at the point is that of
+/// this piece.
 pub fn point_lies_in_one_piece<T: Ord, V>(cuts: &Cuts<T, V>)
     ensures found { (p : Point T)
         → (i : ℕ) × (part : Part T V) × IsPiece cuts.now i part × IsIn T.cmp part p }
@@ -48,8 +48,8 @@ pub fn point_lies_in_one_piece<T: Ord, V>(cuts: &Cuts<T, V>)
         → IsPiece cuts.now i part → IsIn T.cmp part p → value_of T.cmp cuts.now p ≡ part.value }
 {}
 
-/// What holds of the value of each piece holds of the value at each point, and the other way round:
-/// each piece has a point.
+/// What is true of the value of each piece is true of the value at each point, and the other way
+/// round: each piece has a point.
 pub fn pieces_have_the_values_of_points<T: Ord, V>(cuts: &Cuts<T, V>)
     ensures points { (t : V → Bool) → HoldsOfPieces t cuts.now → HoldsOfPoints T.cmp t cuts.now }
     ensures pieces { (t : V → Bool) → HoldsOfPoints T.cmp t cuts.now → HoldsOfPieces t cuts.now }
@@ -57,9 +57,9 @@ pub fn pieces_have_the_values_of_points<T: Ord, V>(cuts: &Cuts<T, V>)
         → (p : Point T) × IsIn T.cmp part p × (value_of T.cmp cuts.now p ≡ part.value) }
 {}
 
-/// Where texts name the values of the order, and the order is that of the bytes of the texts, a
-/// point of the order has the same value by its name, and two functions cannot tell a point by any
-/// name, which need be the name of no value, from some point of the order.
+/// Here texts name the values of the order, and the order is that of the bytes of the texts. A
+/// point of the order has the same value by its name. And two functions cannot distinguish a point
+/// of any name, even of a name of no value, from some point of the order.
 pub fn names_have_the_values_of_points<T: Ord, V, W>(left: &Cuts<T, V>, right: &Cuts<T, W>)
     ensures named { (name : T → List ℕ) → IsOrderOfNames T.cmp name
         → (p : Point T) → IsNamed T.cmp name left.now right.now p }
@@ -67,9 +67,9 @@ pub fn names_have_the_values_of_points<T: Ord, V, W>(left: &Cuts<T, V>, right: &
         → (q : Point (List ℕ)) → FindsPoint T.cmp name left.now right.now q }
 {}
 
-/// What these laws say of functions of texts, whose points are known by bytes: two functions with
-/// equal values at each point are equal by `==` and have equal pieces; the value at a point is that
-/// of a piece; and what holds of the value of each piece holds of the value at each point.
+/// The same for functions of texts, whose points are known by bytes: two functions with equal
+/// values at each point are equal by `==` and have equal pieces; the value at a point is that of a
+/// piece; and what is true of the value of each piece is true of the value at each point.
 pub fn functions_of_texts<V: Eq>(left: &Cuts<String, V>, right: &Cuts<String, V>)
     requires left_merged { IsMerged V.eq left.now }
     requires right_merged { IsMerged V.eq right.now }
@@ -88,10 +88,9 @@ pub fn functions_of_texts<V: Eq>(left: &Cuts<String, V>, right: &Cuts<String, V>
     pieces_have_the_values_of_points(left);
 }
 
-/// Where none of some points ties with a point, there is another one right before it, as far as
-/// these can tell: it comes before the point, not before a lower one that is given, and stands
-/// before the same of them. So what compares points with finitely many points alone changes at
-/// these alone.
+/// If none of some points is equal to a point, there is another one right before it, as far as they
+/// can distinguish: it comes before the point, not before a given lower one, and before the same of
+/// them. So what compares points only with finitely many points changes only at these.
 pub fn point_before_is_alike<T: Ord>()
     ensures { (ends : List (Point T)) (low p : Point T) → TiesWithNone T.cmp p ends
         → point_cmp T.cmp low p ≡ Less → HasPointAlike T.cmp low p ends }

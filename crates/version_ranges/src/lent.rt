@@ -1,4 +1,4 @@
-//! Functions that are lent.
+//! Borrowed functions.
 ghost use Rattle.std.specs.Prelude.{◌≡◌, None, true};
 ghost use Rattle.version_ranges.specs.Cut.{cut_cmp};
 ghost use Rattle.version_ranges.specs.Steps.{ascends};
@@ -6,8 +6,9 @@ ghost use Rattle.version_ranges.specs.Steps.{ascends};
 use crate::cut::Cut;
 use crate::cuts::Cuts;
 
-/// A function of the points of an order, lent: that of a `Cuts`, or one with the same value at
-/// every point, which needs no `Cuts`.
+/// A borrowed function of the points of an order: that of a [`Cuts`](crate::Cuts), or one with the
+/// same value at every point, which needs no `Cuts`. It compares two functions of which one may be
+/// constant, without an allocation.
 #[derive(Drop)]
 pub struct CutsRef<'a, T: Ord, V> {
     // The value before all cuts.
@@ -20,7 +21,7 @@ pub struct CutsRef<'a, T: Ord, V> {
 impl<T: Ord, V> Cuts<T, V> {
     ghost use Rattle.version_ranges.specs.Lent.{IsLent};
 
-    /// This function, lent. This takes no memory.
+    /// Borrows the function.
     pub fn lend(&self) -> CutsRef<'_, T, V>
         ensures { IsLent self.now result }
     {
@@ -34,7 +35,7 @@ impl<T: Ord, V> Cuts<T, V> {
 impl<'a, T: Ord, V> CutsRef<'a, T, V> {
     ghost use Rattle.version_ranges.specs.Lent.{HasValueEverywhere};
 
-    /// The same value at every point. This takes no memory.
+    /// Returns the function with the same value at every point.
     pub fn constant(value: &'a V) -> Self
         ensures { HasValueEverywhere value.now result }
     {

@@ -1,10 +1,13 @@
 //! Sets and functions over an order: `Ranges`, a set of points that is a union of intervals, and
 //! `Cuts`, a function of points that is constant between cuts.
 //!
-//! The points of an order are the place below all values, the place at each value and the place
-//! right above it. Nothing lies between two values unless the order has a value there that is asked
-//! for, so two sets are equal by `==` exactly where they have the same points, over every order,
-//! dense or not. Values that the order ties stand at one point.
+//! The points of an order are the one below all values, the one at each value and the one right
+//! above it. Between two values there are no others unless the order has a value there. So two sets
+//! are equal by `==` exactly if they have the same points, over every order, dense or not. Values
+//! that are equal in the order have the same point.
+//!
+//! Calls that allocate return `AllocError` when memory runs out; every existing value keeps its
+//! meaning.
 #![tactic(auto)]
 
 mod clamp;

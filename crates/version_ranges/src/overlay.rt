@@ -9,9 +9,9 @@ impl<T: Ord + Clone, V: Eq + Clone> Cuts<T, V> {
     ghost use Rattle.std.specs.Prelude.{◌+◌, ◌≤◌, IfOk};
     ghost use Rattle.version_ranges.specs.Bounds.{KeepsCutsOfBoth};
 
-    /// Both functions side by side, as one whose value at each point is the pair of theirs, and how
-    /// many pairs of cuts were compared to make it. Of functions of a and b pieces it has at most
-    /// a + b - 1, and at most a + b - 2 pairs were compared. Only memory can run out.
+    /// Returns the function whose value at each point is the pair of the values of both functions,
+    /// and how many pairs of cuts were compared to make it. Of functions of a and b pieces it has
+    /// at most a + b - 1 pieces, after at most a + b - 2 comparisons.
     pub fn overlay<W: Eq + Clone>(
         &self,
         alloc: Global,

@@ -1,4 +1,4 @@
-//! The values of two functions side by side, one pair after another.
+//! An iterator over the values of two functions side by side.
 use crate::cuts::Cuts;
 use crate::lent::CutsRef;
 use crate::sweep::Sweep;
@@ -9,7 +9,7 @@ use std::alloc::{AllocError, Global};
 #[derive(Drop)]
 pub struct Pairs<'a, T, V, W> {
     sweep: Sweep<'a, T, V, W>,
-    // Whether the last pair was given.
+    // Whether the last pair was returned.
     is_done: bool,
 }
 
@@ -36,9 +36,8 @@ impl<'a, T: Ord, V, W> Iterator for Pairs<'a, T, V, W> {
 impl<'a, T: Ord, V> CutsRef<'a, T, V> {
     ghost use Rattle.version_ranges.specs.Pairs.{pairs_left, AreInPieces, ArePairs};
 
-    /// The values of both functions side by side, in ascending order of points: each pair has the
-    /// values at some point, and the pair of each point is given. This takes no memory, and one
-    /// comparison for each pair.
+    /// Returns the values of both functions side by side, in ascending order of points: the pair of
+    /// each point, each taken at some point. This takes one comparison for each pair.
     pub fn pairs<W>(&self, other: &CutsRef<'a, T, W>) -> Pairs<'a, T, V, W>
         ensures pairs { ArePairs T.cmp self.now other.now (pairs_left T.cmp result) }
         ensures pieces { AreInPieces T.cmp self.now other.now (pairs_left T.cmp result) }
@@ -62,9 +61,9 @@ impl<'a, T: Ord + Clone, V> CutsRef<'a, T, V> {
     ghost use Rattle.version_ranges.specs.Cuts.{IsMerged};
     ghost use Rattle.version_ranges.specs.Pairs.{count_of_both, HasValuesOfPairs};
 
-    /// Both functions side by side, with these values in order in place of the pairs that `pairs`
-    /// gives, where neighbors with equal values are joined. There is a value for each pair. A cut
-    /// is cloned only where the values change, and only memory can run out.
+    /// Returns both functions side by side, with these values in order in place of the pairs of
+    /// `pairs`, one for each pair. Neighbors with equal values are joined. A cut is cloned only if
+    /// the values change there.
     pub fn pairs_with_values<W, X: Eq + Copy + Drop>(
         &self,
         alloc: Global,

@@ -1,4 +1,4 @@
-//! The pieces of a function, one after another.
+//! An iterator over the pieces of a function.
 ghost use Rattle.std.specs.Prelude.{◌≡◌};
 ghost use Rattle.version_ranges.specs.Cut.{lower_of, upper_of};
 ghost use Rattle.std.specs.Range.Bound.{bound_map};
@@ -31,8 +31,8 @@ impl<T> Cut<T> {
     }
 }
 
-/// A piece of a function: the points between two bounds, at each of which the function has one
-/// value. A piece is lent, and has a point.
+/// A borrowed piece of a function: the points between two bounds, of which there is at least one,
+/// at which the function has one value.
 #[derive(Clone, Copy)]
 pub struct Piece<'a, T, V> {
     /// Where the piece begins: at a value, right above one, or `Unbounded` for the first piece.
@@ -90,8 +90,8 @@ impl<'a, T, V> Iterator for Pieces<'a, T, V> {
 impl<T: Ord, V> Cuts<T, V> {
     ghost use Rattle.version_ranges.specs.Parts.{parts_of, parts_left, ArePieces};
 
-    /// The pieces, in ascending order: the first begins below all values, each other one where the
-    /// one before it ends, and the last has no end. This takes no memory.
+    /// Returns the pieces, in ascending order: the first begins below all values, each other one
+    /// where the one before it ends, and the last has no end.
     pub fn pieces(&self) -> Pieces<'_, T, V>
         ensures items { parts_left result ≡ parts_of self.now }
         ensures pieces { ArePieces T.cmp self.now (parts_of self.now) }

@@ -13,8 +13,8 @@ use std::ops::Bound;
 
 /// A set of the points of an order that is a union of intervals.
 ///
-/// Equal sets are equal by `==`: intervals that touch are always joined, and no value between two
-/// values of the order is ever asked for.
+/// Sets with the same points are equal by `==`: intervals that touch are always joined, and no
+/// other value of the order is needed to compare them.
 #[derive(PartialEq, Eq, Hash, Drop)]
 pub struct Ranges<T: Ord> {
     pub(crate) cuts: Cuts<T, bool>,
@@ -27,7 +27,7 @@ impl<T: Ord> Ranges<T> {
     ghost use Rattle.version_ranges.specs.Point.{Point, at, is_value};
     ghost use Rattle.version_ranges.specs.Ranges.{contains_point, IsSet};
 
-    /// The set of no point.
+    /// Returns the empty set.
     pub fn empty(alloc: Global) -> Self
         ensures set { (p : Point T) → contains_point T.cmp result p ≡ false }
         ensures bounds { (test : T → Bool) → all_bounds test result ≡ true }
@@ -37,7 +37,7 @@ impl<T: Ord> Ranges<T> {
         }
     }
 
-    /// The set of all points.
+    /// Returns the set of all points.
     pub fn full(alloc: Global) -> Self
         ensures set { (p : Point T) → contains_point T.cmp result p ≡ true }
         ensures bounds { (test : T → Bool) → all_bounds test result ≡ true }
@@ -47,14 +47,14 @@ impl<T: Ord> Ranges<T> {
         }
     }
 
-    /// Whether there is no point in the set.
+    /// Returns whether the set is empty.
     pub fn is_empty(&self) -> bool
         ensures { IsTrue result ↔ ((p : Point T) → contains_point T.cmp self.now p ≡ false) }
     {
         !self.cuts.first && self.cuts.rest.is_empty()
     }
 
-    /// The value of a set that is one value alone. There is none for any other set.
+    /// Returns the value of a set of exactly one value, or `None` for any other set.
     pub fn as_singleton(&self) -> Option<&T>
         ensures single { IfSome result (λ v. IsSet T.cmp self.now (is_value T.cmp v.now)) }
         ensures other { IfNone result ((v : T) → ¬ IsSet T.cmp self.now (is_value T.cmp v)) }
@@ -72,7 +72,7 @@ impl<T: Ord> Ranges<T> {
         }
     }
 
-    /// Whether a value is in the set.
+    /// Returns whether a value is in the set.
     pub fn contains(&self, value: &T) -> bool
         ensures { result ≡ contains_point T.cmp self.now (at value.now) }
     {
@@ -88,8 +88,7 @@ impl<T: Ord + Drop> Ranges<T> {
     ghost use Rattle.version_ranges.specs.Cut.{cut_cmp, is_in_half, is_in_span};
     ghost use Rattle.version_ranges.specs.Ranges.{IsInterval, IsSet};
 
-    /// The set between two bounds, which is empty where they leave no point. Only memory can run
-    /// out.
+    /// Returns the set between two bounds, which may be empty.
     pub fn from_range_bounds(
         alloc: Global,
         bounds: (Bound<T>, Bound<T>),
@@ -112,7 +111,7 @@ impl<T: Ord + Drop> Ranges<T> {
         }
     }
 
-    /// The set of a value and all after it. Only memory can run out.
+    /// Returns the set of a value and all after it.
     pub fn higher_than(alloc: Global, value: T) -> Result<Self, AllocError>
         ensures set { IfOk result (λ r. IsInterval T.cmp (Included value) Unbounded r) }
         ensures bounds { IfOk result (λ r. IsBoundedBy value r) }
@@ -120,7 +119,7 @@ impl<T: Ord + Drop> Ranges<T> {
         Ranges::from_range_bounds(alloc, (Bound::Included(value), Bound::Unbounded))
     }
 
-    /// The set of all after a value. Only memory can run out.
+    /// Returns the set of all after a value.
     pub fn strictly_higher_than(alloc: Global, value: T) -> Result<Self, AllocError>
         ensures set { IfOk result (λ r. IsInterval T.cmp (Excluded value) Unbounded r) }
         ensures bounds { IfOk result (λ r. IsBoundedBy value r) }
@@ -128,7 +127,7 @@ impl<T: Ord + Drop> Ranges<T> {
         Ranges::from_range_bounds(alloc, (Bound::Excluded(value), Bound::Unbounded))
     }
 
-    /// The set of a value and all before it. Only memory can run out.
+    /// Returns the set of a value and all before it.
     pub fn lower_than(alloc: Global, value: T) -> Result<Self, AllocError>
         ensures set { IfOk result (λ r. IsInterval T.cmp Unbounded (Included value) r) }
         ensures bounds { IfOk result (λ r. IsBoundedBy value r) }
@@ -136,7 +135,7 @@ impl<T: Ord + Drop> Ranges<T> {
         Ranges::from_range_bounds(alloc, (Bound::Unbounded, Bound::Included(value)))
     }
 
-    /// The set of all before a value. Only memory can run out.
+    /// Returns the set of all before a value.
     pub fn strictly_lower_than(alloc: Global, value: T) -> Result<Self, AllocError>
         ensures set { IfOk result (λ r. IsInterval T.cmp Unbounded (Excluded value) r) }
         ensures bounds { IfOk result (λ r. IsBoundedBy value r) }
@@ -144,7 +143,7 @@ impl<T: Ord + Drop> Ranges<T> {
         Ranges::from_range_bounds(alloc, (Bound::Unbounded, Bound::Excluded(value)))
     }
 
-    // The points before a cut where `first` is true, and else those from it on.
+    // The points before a cut if `first` is true, otherwise those from it on.
     fn half_line(alloc: Global, first: bool, cut: Cut<T>) -> Result<Self, AllocError>
         ensures set { IfOk result (λ r. IsSet T.cmp r (is_in_half T.cmp first cut)) }
         ensures bounds { IfOk result (λ r. IsBoundedBy cut.value r) }
@@ -179,7 +178,7 @@ impl<T: Ord + Clone> Ranges<T> {
     ghost use Rattle.version_ranges.specs.Point.{is_one_of, is_value};
     ghost use Rattle.version_ranges.specs.Ranges.{IsComplement, IsIntersection, IsSet, IsUnion};
 
-    /// The set of one value, which is cloned for its other bound. Only memory can run out.
+    /// Returns the set of one value, which is cloned for its other bound.
     pub fn singleton(alloc: Global, value: T) -> Result<Self, AllocError>
         requires clones { ClonesAreEqual T.eq T.is_clone }
         ensures set { IfOk result (λ r. IsSet T.cmp r (is_value T.cmp value)) }
@@ -189,8 +188,7 @@ impl<T: Ord + Clone> Ranges<T> {
         Ranges::from_range_bounds(alloc, (Bound::Included(lower), Bound::Included(value)))
     }
 
-    /// The set of these values, which may come in any order and more than once. Only memory can run
-    /// out.
+    /// Returns the set of these values, which may be in any order and repeated.
     pub fn from_points(points: Vec<T>) -> Result<Self, AllocError>
         requires clones { ClonesAreEqual T.eq T.is_clone }
         ensures set { IfOk result (λ r. IsSet T.cmp r (is_one_of T.cmp points.items)) }
@@ -224,7 +222,7 @@ impl<T: Ord + Clone> Ranges<T> {
         })
     }
 
-    /// The points that are in one of two sets or in both. Only memory can run out.
+    /// Returns the points that are in at least one of two sets.
     pub fn union(&self, alloc: Global, other: &Self) -> Result<Self, AllocError>
         requires clones { ClonesAreEqual T.eq T.is_clone }
         ensures set { IfOk result (IsUnion T.cmp self.now other.now) }
@@ -233,7 +231,7 @@ impl<T: Ord + Clone> Ranges<T> {
         self.taken_points(alloc, other, Taken::InEither)
     }
 
-    /// The points that are in both of two sets. Only memory can run out.
+    /// Returns the points that are in both of two sets.
     pub fn intersection(&self, alloc: Global, other: &Self) -> Result<Self, AllocError>
         requires clones { ClonesAreEqual T.eq T.is_clone }
         ensures set { IfOk result (IsIntersection T.cmp self.now other.now) }
@@ -242,7 +240,7 @@ impl<T: Ord + Clone> Ranges<T> {
         self.taken_points(alloc, other, Taken::InBoth)
     }
 
-    /// The points that are not in the set. Only memory can run out.
+    /// Returns the points that are not in the set.
     pub fn complement(&self, alloc: Global) -> Result<Self, AllocError>
         requires clones { ClonesAreEqual T.eq T.is_clone }
         ensures set { IfOk result (λ r. IsComplement T.cmp self.now r) }
