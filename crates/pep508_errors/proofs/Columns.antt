@@ -26,14 +26,15 @@ column_width-le c =
     ⊎_elim (λ ascii. omega (arith, ascii_width c ascii, len_utf8_ascii c ascii))
     (λ wide. omega (arith, width_or_zero-le false c, two_bytes c wide)) (cases_lt c 128)
 
--- a character that ends within the bytes counts, and those behind it count within the bytes that are left
+-- a character that ends within the bytes counts, and those after it count within the bytes that are
+-- left
 counted_one : (n c : ℕ) (cs : List ℕ) → len_utf8 c ≤ n → columns (ending_within n (c ∷ cs)) ≡ column_width c + columns (ending_within (n - len_utf8 c) cs)
 counted_one n c cs fits =
     let test : nat_le (len_utf8 c) n ≡ true = grind (arith, nat_tests) in
     ap columns (cond-true (nat_le (len_utf8 c) n) (c ∷ ending_within (n - len_utf8 c) cs) [] test)
     ∙ sum_by-cons column_width c (ending_within (n - len_utf8 c) cs)
 
--- a character that does not end within the bytes does not count, nor do those behind it
+-- a character that does not end within the bytes does not count, nor do those after it
 counted_none : (n c : ℕ) (cs : List ℕ) → n < len_utf8 c → columns (ending_within n (c ∷ cs)) ≡ 0
 counted_none n c cs long =
     let test : nat_le (len_utf8 c) n ≡ false = grind (arith, nat_tests) in

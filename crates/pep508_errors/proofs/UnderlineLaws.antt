@@ -11,7 +11,8 @@ use Rattle.std.proofs.lemmas.List.Sums.{sum_by-append}
 use Rattle.std.proofs.lemmas.Str.{chars-append, encodes-chars, length-encode, len_utf8_bounds, IsUtf8-take}
 use Rattle.pep508_errors.specs.Underline.{column_width, columns, columns_before, carets, ending_within, underline}
 
--- within the bytes of a front, and some more, end the characters of the front, and those behind it that end within the rest
+-- within the bytes of a front, and some more, end the characters of the front, and those after it
+-- that end within the rest
 front_within : (front back : List ℕ) (more : ℕ) → ending_within (length (encode_utf8_all front) + more) (front ++ back) ≡ front ++ ending_within more back
 front_within [] back more = ap (λ n. ending_within n back) (omega arith)
 front_within (c ∷ cs) back more =
@@ -28,7 +29,7 @@ none_within : (cs : List ℕ) → ending_within 0 cs ≡ []
 none_within [] = refl
 none_within (c ∷ cs) = cond-false (nat_le (len_utf8 c) 0) (c ∷ ending_within (0 - len_utf8 c) cs) [] (lt-leb (len_utf8 c) 0 (omega (arith, len_utf8_bounds c)))
 
--- before a place between two characters stand the characters of the front
+-- the characters before a place between two characters are those of the front
 pub columns_before_boundary : (text : List ℕ) (place : ℕ) → IsUtf8 text → IsCharBoundary text place → columns_before text place ≡ columns (chars (take place text))
 columns_before_boundary text place utf8 boundary =
     let front = take place text in
@@ -41,7 +42,7 @@ columns_before_boundary text place utf8 boundary =
     ∙ ap (λ n. columns (ending_within n (chars front ++ chars back))) bytes
     ∙ ap columns (front_within (chars front) (chars back) 0 ∙ ap (λ ds. chars front ++ ds) (none_within (chars back)) ∙ append-nil (chars front))
 
--- before the end, and before a place past it, stands the whole text
+-- the whole text is before the end, and before a place past it
 pub columns_before_end : (text : List ℕ) (place : ℕ) → IsUtf8 text → length text ≤ place → columns_before text place ≡ columns (chars text)
 columns_before_end text place utf8 past =
     let size : length (encode_utf8_all (chars text)) ≡ length text = ap length (encodes-chars text utf8) in
@@ -50,7 +51,7 @@ columns_before_end text place utf8 past =
     ∙ ap (λ n. columns (ending_within n (chars text ++ []))) bytes
     ∙ ap columns (front_within (chars text) [] (place - length text) ∙ append-nil (chars text))
 
--- a place is past the end of a text all the more where it is no number of 64 bits
+-- a place that does not fit 64 bits is past the end of a text too
 pub columns_before_capped : (text : List ℕ) (place : ℕ) → IsUtf8 text → length text < 2 ^ 64 → columns_before text (min place (2 ^ 64 - 1)) ≡ columns_before text place
 columns_before_capped text place utf8 short =
     ⊎_elim (λ small. ap (columns_before text) (min-eq_left (omega arith)))

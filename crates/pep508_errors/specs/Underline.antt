@@ -5,7 +5,7 @@ use Rattle.std.specs.Char.{len_utf8}
 use Rattle.std.specs.Str.{chars, IsCharBoundary}
 use Rattle.unicode_width.specs.Width.{char_width}
 
--- the columns of a character: its width, or 0 where it has none, as a control character
+-- the columns of a character: its width, or 0 if it has none, as a control character
 abbrev pub column_width : ℕ → ℕ
 column_width c = unwrap_or (char_width false c) 0
 
@@ -19,7 +19,7 @@ ending_within n [] = []
 ending_within n (c ∷ cs) =
     if nat_le (len_utf8 c) n then c ∷ ending_within (n - len_utf8 c) cs else []
 
--- the columns of what stands before a place in the text
+-- the columns of the text before a place
 abbrev pub columns_before : List ℕ → ℕ → ℕ
 columns_before text place = columns (ending_within place (chars text))
 

@@ -1,4 +1,4 @@
--- Types of URLs, and what a text that is no URL is refused by.
+-- Types of URLs, and the errors of texts without a URL.
 use Rattle.std.specs.Prelude.{◌≡◌, Bool, true, false, Result}
 use Rattle.refusal.specs.Refused.{FaultIs}
 use Rattle.refusal.specs.declared.Refusal.{Refusal}

@@ -16,9 +16,17 @@ use url::{ParseError, Url};
 
 /// A type that the URL of a requirement is parsed into, such as [`Url`].
 ///
-/// An implementation states which values a text has (`names`), and `parse_url` returns one of them.
-/// It returns a fault only for a text without a value, or a fault of size (`tells_size`) for a text
-/// that may be too large (`may_overflow`).
+/// To use a type of your own, implement `parse_url`, `Display`, and the three definitions that its
+/// contract is about:
+///
+/// - `names`: which values a text has. For a type that keeps `https` URLs as they are written: the
+///   text begins with `https://`, and the value has that text.
+/// - `tells_size`: which errors mean "too large". Often none: `λ _. false`.
+/// - `may_overflow`: for which texts such an error may come. Often none: `λ _ _. ⊥`.
+///
+/// The check then proves that `parse_url` returns a value of the text, and an error only for a text
+/// without a value or one that may be too large. The implementation for [`Url`] is an example;
+/// `tests/test_urls/short_url.rt.txt` has the type of `https` URLs.
 pub trait Pep508Url: Display + Debug + Drop {
     /// Why a text is rejected.
     type Err: Error;
@@ -35,8 +43,8 @@ pub trait Pep508Url: Display + Debug + Drop {
     /// Parses a URL.
     ///
     /// # Errors
-    /// - [`Refusal::OutOfMemory`] when memory runs out.
     /// - [`Refusal::Fault`] if the text has no value in the surroundings, or its URL is too large.
+    /// - [`Refusal::OutOfMemory`] when memory runs out.
     fn parse_url(
         alloc: Global,
         text: &str,
@@ -48,7 +56,7 @@ pub trait Pep508Url: Display + Debug + Drop {
         ensures no_end { IfErr result (λ refusal. refusal ≢ SegmentAtEnd) };
 }
 
-/// The refusal for an error of `url`: `OutOfMemory`, or a fault.
+/// Returns the refusal for an error of `url`: `OutOfMemory`, or a fault.
 pub fn refusal_of(fault: ParseError) -> Refusal<ParseError>
     ensures memory { fault ≡ faults.OutOfMemory → result ≡ OutOfMemory }
     ensures fault { fault ≢ faults.OutOfMemory → result ≡ Fault fault }
@@ -59,9 +67,9 @@ pub fn refusal_of(fault: ParseError) -> Refusal<ParseError>
     }
 }
 
-/// A text has the value that the URL Standard gives it, in any surroundings. The fault of size is
+/// A text has the value that the URL Standard gives it, in any surroundings. The error of size is
 /// [`ParseError::Overflow`], for URLs of 4 GB or more; the contract of `url` leaves open for which
-/// texts it returns that.
+/// texts it is returned.
 impl Pep508Url for Url {
     type Err = ParseError;
 

@@ -8,13 +8,20 @@ use crate::warning::MarkerWarningKind;
 use log::{Log, warn};
 use std::alloc::AllocError;
 
-/// Takes the warnings of marker parsers, in order.
+/// Takes the warnings of marker parsers, in order. A `Vec<(MarkerWarningKind, String)>` is one: it
+/// gets the kind and the message of each warning.
+///
+/// ```
+/// let mut warnings = Vec::new(rt.alloc());
+/// let text = "'posix' == 'nt'";
+/// let marker = MarkerTree::parse_reporter::<VerbatimUrl, _>(text, &mut warnings, interner)?;
+/// ```
 pub trait Reporter {
-    /// The kinds of the warnings taken so far, if the reporter shows them.
+    /// The kinds of the warnings taken so far, or `None` if the reporter does not show them.
     ghost kinds: { Self → Option (List MarkerWarningKind) };
 
-    /// It can take a warning: always, unless it passes warnings to a function with requirements of
-    /// its own.
+    /// The reporter can take a warning. That is always so, unless it passes warnings to a function
+    /// with requirements of its own.
     ghost can_report: { Self → Type 0 } = { λ _. ⊤ };
 
     /// Takes a warning. If memory runs out, the warning is lost and earlier ones are kept.
@@ -26,7 +33,7 @@ pub trait Reporter {
         ensures kept { OnErr result (Keeps (kinds self.old) (kinds self.new)) };
 }
 
-/// Keeps the warnings in order, and shows their kinds.
+/// Appends the kind and the message of each warning, in order, and shows the kinds.
 impl Reporter for Vec<(MarkerWarningKind, String)> {
     ghost kinds = { λ warnings. Some (map (λ warning. warning.0) warnings.items) };
 
@@ -53,7 +60,7 @@ impl<F: FnMut(MarkerWarningKind, String) -> Result<(), AllocError>> Reporter for
         requires { F.IsAlwaysCallable self.old.0 }
         ensures again { F.IsAlwaysCallable self.new.0 }
 
-        // The function is called once, with the warning, and its answer is the answer.
+        // The function is called once with the warning, and its result is returned.
         ensures told { F.step self.old.0 kind warning result self.new.0 }
     {
         (self.0)(kind, warning)

@@ -7,7 +7,7 @@ use std::collections::BTreeMap;
 pub struct Surroundings<'a> {
     /// The values of variables, by their names, as `HOME` for `${HOME}`.
     pub vars: &'a BTreeMap<String, String>,
-    /// What `${PROJECT_ROOT}` stands for, unless `vars` has it.
+    /// The value of `${PROJECT_ROOT}`, unless `vars` has it.
     pub project_root: &'a str,
     /// The folder that a relative path starts from, if there is one.
     pub working_dir: Option<&'a str>,

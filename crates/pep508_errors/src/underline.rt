@@ -9,7 +9,7 @@ use pep508_text::first;
 use std::fmt;
 use unicode_width::UnicodeWidthChar;
 
-// How many columns a character takes: its width in a terminal, and none where it has no width.
+// How many columns a character takes: its width in a terminal, 0 if it has none.
 fn column_width(c: char) -> usize
     ensures value { result ≡ spec.column_width c }
     ensures bound { result ≤ 3 }
@@ -17,8 +17,9 @@ fn column_width(c: char) -> usize
     c.width().unwrap_or(0)
 }
 
-/// The columns of the characters that end within the first `place` bytes of the text. Each takes
-/// its width in a terminal; a character without a width, as a tab, takes none.
+/// Returns how many columns the characters take that end within the first `place` bytes of the
+/// text. Each takes its width in a terminal; a character without a width, such as a tab, takes
+/// none.
 pub fn columns_before(text: &str, place: usize) -> usize
     ensures { result ≡ spec.columns_before text.now place }
 {

@@ -5,7 +5,7 @@ use Rattle.std.proofs.lemmas.List.{map-append, take_more}
 use Rattle.std.specs.Str.{IsAscii}
 use Rattle.pep508_names.specs.Name.{dist_info_name}
 
--- the character that stands for a byte
+-- the character in place of a byte
 abbrev pub file_character : ℕ → ℕ
 file_character c = if c == 45 then 95 else c
 

@@ -1,4 +1,4 @@
--- A text is a name exactly where PEP 508 has it as an identifier.
+-- A text is a name exactly if it is an identifier in PEP 508.
 use Rattle.std.proofs.Common.{◌≡◌, ◌&&◌, ◌-◌, ◌↔◌, ℕ, Bool, true, false, List, [], ◌∷◌, ◌++◌, Option, length, slice_get, IsTrue, IsSomeAnd, suc, refl, sym, ap, subst, ◌∙◌, inl, inr, arith, append_assoc}
 use Rattle.std.proofs.lemmas.Bool.{and_parts, and_from, or_cases, cases_Bool}
 use Rattle.std.proofs.lemmas.List.Folds.{list_all-append}

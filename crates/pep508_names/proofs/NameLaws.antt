@@ -32,7 +32,8 @@ lowercase-small c h = grind (arith, nat_tests)
 
 -- ---- what one pass makes of a text
 
--- the text with its letters lowercase and each run of separators one `-`; `follows` says that a separator stood just before
+-- the text with its letters lowercase and each run of separators one `-`; `follows` says that the
+-- character before is a separator
 abbrev pub squeeze : Bool → List ℕ → List ℕ
 squeeze follows [] = []
 squeeze follows (c ∷ cs) =

@@ -4,8 +4,7 @@ use Rattle.refusal.specs.declared.Refusal.{Refusal}
 use Rattle.refusal.specs.declared.Refusal.TheVariants.{OutOfMemory, SegmentAtEnd, Fault}
 use Rattle.pep508_names.specs.Name.{IsName}
 
--- a text is refused for want of memory, or at fault as a text that is no name; the fault is the
--- text itself
+-- memory ran out, or the text is an invalid name; the fault is the text itself
 abbrev pub IsNameRefusal : List ℕ → Refusal (List ℕ) → Type 0
 IsNameRefusal t OutOfMemory = ⊤
 IsNameRefusal t SegmentAtEnd = ⊥

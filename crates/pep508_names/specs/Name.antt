@@ -27,8 +27,8 @@ pub data NormalizesTo : List ℕ → List ℕ → Type 0 where
 abbrev pub IsName : List ℕ → Type 0
 IsName t = (n : List ℕ) × NormalizesTo t n
 
--- the same texts, as PEP 508 tells them: letters, digits and separators, with a letter or digit at
--- each end
+-- the same texts, in the words of PEP 508: letters, digits and separators, with a letter or digit
+-- at each end
 pub record IsIdentifier (t : List ℕ) : Type 0 where
   pub characters : IsTrue (list_all is_name_character t)
   pub first : IsSomeAnd (slice_get t 0) (λ c. IsTrue (is_ascii_alphanumeric c))

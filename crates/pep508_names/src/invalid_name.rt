@@ -1,4 +1,4 @@
-//! A text that is no name.
+//! The error of an invalid name.
 
 ghost use Rattle.std.specs.Prelude.{◌≡◌, string_bytes};
 
@@ -6,7 +6,7 @@ use std::error::Error;
 use std::fmt;
 use std::marker::Model;
 
-/// A text that is no name of a package or an extra.
+/// An invalid name of a package or an extra.
 #[derive(Debug, Drop)]
 pub struct InvalidNameError(String);
 
@@ -25,7 +25,7 @@ impl InvalidNameError {
         InvalidNameError(text)
     }
 
-    /// The refused text.
+    /// Returns the refused text.
     pub fn as_str(&self) -> &str
         ensures { result.now ≡ self.now }
     {

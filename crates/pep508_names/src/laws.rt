@@ -15,7 +15,7 @@ pub fn normal_form_is_unique()
     ensures { (t m n : List ℕ) → NormalizesTo t m → NormalizesTo t n → m ≡ n }
 {}
 
-/// Normalizing twice is once: a normal form is a name, and its own normal form.
+/// Normalizing twice is normalizing once: a normal form is a name, and its own normal form.
 pub fn normalizing_twice_is_once()
     ensures { (t n : List ℕ) → NormalizesTo t n → NormalizesTo n n }
 {}

@@ -1,4 +1,7 @@
-//! Names of packages and of extras, as PEP 508 has them, in the normal form of PEP 503.
+//! Names of packages and of extras (PEP 508) in the normal form of PEP 503.
+//!
+//! Calls that allocate return `AllocError` or `OutOfMemory` when memory runs out. No call returns
+//! `SegmentAtEnd`.
 #![tactic(auto)]
 
 mod extra_name;

@@ -1,4 +1,4 @@
-//! Reading a name, and its normal form.
+//! Validating a name, and computing its normal form.
 
 ghost use Rattle.std.specs.Prelude.{◌≡◌, ◌↔◌, ◌≤◌, ◌==◌, length, take, IsTrue, IfOk, IfErr, string_bytes, List, ℕ};
 ghost use Rattle.std.specs.List.{list_all};
@@ -26,7 +26,7 @@ fn are_name_characters(bytes: &[u8]) -> bool
         .all(|byte| byte.is_ascii_alphanumeric() || is_separator(*byte))
 }
 
-// A name begins and ends with a letter or digit, and holds letters, digits and separators alone.
+// A name begins and ends with a letter or digit, and contains only letters, digits and separators.
 fn is_name(text: &str) -> bool
     ensures { IsTrue result ↔ IsIdentifier text.now }
 {
@@ -37,7 +37,7 @@ fn is_name(text: &str) -> bool
     first.is_ascii_alphanumeric() && last.is_ascii_alphanumeric() && are_name_characters(bytes)
 }
 
-// Writes the normal form of a name over its front, and says how long it is.
+// Writes the normal form of a name over its front, and returns its length in bytes.
 fn normalize(name: &mut [u8]) -> usize
     ensures fits { result ≤ length name.old }
     ensures normal { (n : List ℕ) → NormalizesTo name.old n → take result name.new ≡ n }
@@ -70,8 +70,7 @@ fn into_normal_form(name: String) -> String
     String::from_utf8(bytes).unwrap()
 }
 
-// The normal form of a text, in the memory of the text; of a text that is no name the text itself,
-// as the error.
+// The normal form of a name, in the memory of the text. The error is an invalid name itself.
 pub(crate) fn normal_form(text: String) -> Result<String, InvalidNameError>
     ensures read { IfOk result (λ name. NormalizesTo (string_bytes text) (string_bytes name)) }
     ensures normal { IfOk result (λ name. NormalizesTo (string_bytes name) (string_bytes name)) }
@@ -85,8 +84,8 @@ pub(crate) fn normal_form(text: String) -> Result<String, InvalidNameError>
     }
 }
 
-// The normal form of the text that comes next, which is told as the format's own error where it is
-// no name.
+// Deserializes a text and returns its normal form, or the format's own error if it is an invalid
+// name.
 pub(crate) fn next_name<F: Format>(
     alloc: Global,
     from: &mut Deserializer<'_, '_, F>,

@@ -42,10 +42,11 @@ impl Model for PackageName {
 }
 
 impl PackageName {
-    /// Reads a name, in the memory of its text: a text that is in normal form is kept as it is, and
-    /// no memory is asked for.
+    /// Parses a name in the memory of its text. A text in normal form is kept as it is; nothing is
+    /// allocated.
     ///
-    /// A text that is no name (PEP 508) is refused as a fault, which holds it.
+    /// # Errors
+    /// - [`Refusal::Fault`] with the text if it is an invalid name (PEP 508).
     pub fn new(text: String) -> Result<PackageName, Refusal<InvalidNameError>>
         ensures read { IfOk result (λ name. NormalizesTo (string_bytes text) name) }
         ensures refused { IfErr result (λ refusal.
@@ -57,9 +58,11 @@ impl PackageName {
         }
     }
 
-    /// Reads a name from a copy of its text, for which memory is asked.
+    /// Parses a name from a copy of the text.
     ///
-    /// A text that is no name (PEP 508) is refused as a fault, which holds it.
+    /// # Errors
+    /// - [`Refusal::Fault`] with the text if it is an invalid name (PEP 508).
+    /// - [`Refusal::OutOfMemory`] when memory runs out.
     pub fn parse(alloc: Global, text: &str) -> Result<PackageName, Refusal<InvalidNameError>>
         ensures read { IfOk result (λ name. NormalizesTo text.now name) }
         ensures refused { IfErr result (λ refusal. IsNameRefusal text.now refusal) }
@@ -67,7 +70,7 @@ impl PackageName {
         PackageName::new(String::from_str(alloc, text)?)
     }
 
-    /// The name in its normal form, which is what is read as this name again.
+    /// Returns the normal form, which parses to the same name.
     pub fn as_str(&self) -> &str
         ensures text { result.now ≡ self.now }
         ensures normal { NormalizesTo result.now result.now }
@@ -75,8 +78,8 @@ impl PackageName {
         &self.0
     }
 
-    /// The name as it stands in the file names of distributions: each `-` is `_`. It is borrowed
-    /// where there is no `-`, and then no memory is asked for.
+    /// Returns the name as in the file names of distributions: with `_` for each `-`. It is
+    /// borrowed if there is no `-`.
     pub fn as_dist_info_name(&self, alloc: Global) -> Result<CowStr<'_>, AllocError>
         ensures text { IfOk result (λ text. cow_str_bytes text ≡ dist_info_name self.now) }
         ensures borrowed { ¬ Contains self.now 45 → IsOkAnd result IsBorrowedStr }

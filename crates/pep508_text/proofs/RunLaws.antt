@@ -1,4 +1,4 @@
--- Runs and white space on lists of characters: that each is determined by the list that it stands in.
+-- Runs and white space on lists of characters: each is determined by its list.
 use Rattle.std.proofs.Common.{◌≡◌, ℕ, ◌≤◌, Bool, true, false, cond, List, [], ◌∷◌, ◌++◌, length, refl, sym, ap, ◌∙◌, subst, arith}
 use Rattle.std.specs.Prelude.{encode_utf8_all}
 use Rattle.std.specs.List.{list_all}
@@ -126,7 +126,7 @@ trimmed_after_space i = after_run-after_run Space i
 pub trimmed_by_run : {p : Class} {i r o : List ℕ} {c : ℕ} → Run p i (c ∷ r) o → holds Space c ≡ false → IsTrimmed i
 trimmed_by_run {p} {i} {r} {o} {c} a plain = let h = run_of-first p i r c a.run_is in subst IsTrimmed (sym h.1) (trimmed_cons c h.0 plain)
 
--- white space may stop anywhere, but where no more follows it stops at one place
+-- white space may stop anywhere, but if no more follows it stops at one place
 pub spaces_same : {i o : List ℕ} → Spaces i o → after_space i ≡ after_space o
 spaces_same none = refl
 spaces_same (more {c = c} {input = i} {output = o} white s) = after_run-holds Space c i white ∙ spaces_same s

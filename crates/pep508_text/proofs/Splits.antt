@@ -1,6 +1,7 @@
--- A text that is cut where a front of it ends, over any two functions of characters: one that tells the front, and one
--- that tells what follows it. On the way they may change, as with a count of what was seen. A reader that takes characters
--- while they pass keeps `PassedAs`, or `Passed` where they stay, and has `Stopped` at its end.
+-- A text that is cut where a front of it ends, for any two functions of characters: one returns the
+-- front, and one the rest. They may change on the way, such as with a count of what was seen. A
+-- parser that takes characters while they pass keeps `PassedAs`, or `Passed` if they do not change,
+-- and has `Stopped` at its end.
 use Rattle.std.proofs.Common.{◌≡◌, ℕ, true, false, ◌-◌, ◌≤◌, List, [], ◌∷◌, ◌++◌, length, take, drop, refl, sym, ap, ◌∙◌, subst, append_assoc, arith, length-append, IsUtf8}
 use Rattle.std.specs.Prelude.{encode_utf8, encode_utf8_all}
 use Rattle.std.specs.Str.{chars, IsCharBoundary}
@@ -12,7 +13,7 @@ use Rattle.pep508_text.specs.Suffix.{IsSuffix}
 use Rattle.pep508_text.specs.declared.classes.Class.{Class}
 use Rattle.pep508_text.proofs.RunLaws.{run_of-holds, run_of-fails, after_run-holds, after_run-fails}
 
--- a text cut where its back is a text has a text in front
+-- if the back of a cut text is a text, so is the front
 pub front_is_utf8 : (text front rest : List ℕ) → text ≡ front ++ rest → IsUtf8 text → IsUtf8 rest → IsUtf8 front
 front_is_utf8 text front rest e utf8 rest_utf8 =
     let cut = IsUtf8-take text (length front) utf8 (IsCharBoundary-at_seam text front rest e rest_utf8) in
@@ -78,7 +79,7 @@ module _ (front_of after_front : List ℕ → List ℕ) where
         rest_utf8 = after_utf8;
       }
 
-  -- what is known where the front ends
+  -- what is known when the front ends
   pub record Stopped (text rest : List ℕ) : Type 0 where
     pub front : List ℕ
     pub joined : text ≡ front ++ rest
@@ -113,7 +114,7 @@ module _ (front_of after_front : List ℕ → List ℕ) where
       (sym (passed.run ∙ ap (λ (x : List ℕ). chars passed.front ++ x) none ∙ append-nil (chars passed.front)))
       (sym (passed.after ∙ all))
 
-  -- behind one more character
+  -- after one more character
   pub stopped_behind : (now after_now : List ℕ → List ℕ) (text rest after : List ℕ) (c : ℕ) → IsUtf8 text → PassedAs now after_now text rest
       → rest ≡ encode_utf8 c ++ after → chars rest ≡ c ∷ chars after
       → now (c ∷ chars after) ≡ c ∷ [] → after_now (c ∷ chars after) ≡ chars after → Stopped text after
@@ -150,7 +151,7 @@ module _ (p : Class) where
 
 -- ---- the back of a text
 
--- a text cut where its front is a text has a text behind
+-- if the front of a cut text is a text, so is the back
 pub back_is_utf8 : (text front rest : List ℕ) → text ≡ front ++ rest → IsUtf8 text → IsUtf8 front → IsUtf8 rest
 back_is_utf8 text front rest e utf8 front_utf8 =
     let fits : length front ≤ length text = omega (arith, ap length e, length-append front rest) in

@@ -32,11 +32,11 @@ suffix_begins {t} {rest} s =
 pub piece_of_suffix : {t rest piece : List ℕ} {left : ℕ} → IsSuffix t rest → IsPiece rest piece left → IsPiece t piece left
 piece_of_suffix s p = record { back = p.back; begins = suffix_then s p.begins; ends = p.ends; length_is = p.length_is }
 
--- the front of what is left is a piece of the text, from where it is left
+-- the front of the rest is a piece of the text, from the rest on
 pub piece_in_front : {t piece back rest : List ℕ} → IsSuffix t rest → rest ≡ piece ++ back → IsUtf8 back → IsPiece t piece (length rest)
 piece_in_front {t} {back = back} s e ends = record { back = back; begins = subst (IsSuffix t) e s; ends = ends; length_is = ap length (sym e) }
 
--- nothing stands between two characters, or at the end
+-- an empty piece is between two characters, or at the end
 pub piece_nil : {t rest : List ℕ} → IsSuffix t rest → IsPiece t [] (length rest)
 piece_nil s = piece_in_front s refl s.utf8
 
@@ -58,7 +58,7 @@ piece_start {t} {piece} {left} p =
     let size = p.length_is in
     omega arith
 
--- a piece stands in the text at its place
+-- a piece is in the text at its place
 pub piece_stands : {t piece : List ℕ} {left : ℕ} → IsPiece t piece left → StandsAt t piece (length t - left)
 piece_stands p = record { front = p.begins.front; back = p.back; joined = p.begins.joined; start_is = piece_start p }
 
@@ -98,7 +98,7 @@ len_ended left n ended = ap (λ b. cond b 1 n) (eq-eqb left 0 ended)
 pub spanned : {t piece : List ℕ} {left : ℕ} → IsPiece t piece left → IsSpan t (length t - left) (cond (eqb left 0) 1 (length piece))
 spanned {piece = piece} {left = left} place = span_of_piece place (len_inside left (length piece)) (len_ended left (length piece))
 
--- the piece in front of the same rest
+-- the piece before the same rest
 pub same_front : (text piece front rest : List ℕ) → text ≡ piece ++ rest → text ≡ front ++ rest → piece ≡ front
 same_front text piece front rest e f = append_cancel_right piece front rest (sym e ∙ f)
 
@@ -107,7 +107,7 @@ same_front text piece front rest e f = append_cancel_right piece front rest (sym
 last_index : (run front : List ℕ) (c : ℕ) → run ≡ front ++ (c ∷ []) → length run - 1 ≡ length front
 last_index run front c joined = omega (arith, ap length joined, length-append front (c ∷ []))
 
--- it begins between two characters where it is one of ASCII
+-- it begins between two characters if it is ASCII
 pub last_begins : (run front : List ℕ) (c : ℕ) → run ≡ front ++ (c ∷ []) → c < 128 → IsCharBoundary run (length run - 1)
 last_begins run front c joined ascii =
     let place = last_index run front c joined in

@@ -23,8 +23,7 @@ pub record Run (class : Class) (input run output : List ℕ) : Type 0 where
   pub run_is : run_of class input ≡ run
   pub rest_is : after_run class input ≡ output
 
--- any number of white-space characters stand between `input` and `output`, which may begin with
--- more
+-- any number of white-space characters between `input` and `output`, which may begin with more
 pub data Spaces : List ℕ → List ℕ → Type 0 where
   none : {input : List ℕ} → Spaces input input
   more : {c : ℕ} {input output : List ℕ}

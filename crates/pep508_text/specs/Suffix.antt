@@ -3,13 +3,13 @@ use Rattle.std.specs.Prelude.{◌≡◌, ℕ, ◌+◌, ◌<◌, ◌==◌, List, 
 use Rattle.std.specs.Str.{IsCharBoundary}
 use Rattle.pep508_text.specs.declared.place.Place.{Place}
 
--- `rest` stands at the end of `text`, and begins between two characters
+-- `rest` is at the end of `text`, and begins between two characters
 pub record IsSuffix (text rest : List ℕ) : Type 0 where
   pub front : List ℕ
   pub joined : text ≡ front ++ rest
   pub utf8 : IsUtf8 rest
 
--- `piece` stands in the text from `left` bytes before its end on, and begins and ends between two
+-- `piece` is in the text, from `left` bytes before its end on, and begins and ends between two
 -- characters
 pub record IsPiece (text piece : List ℕ) (left : ℕ) : Type 0 where
   pub back : List ℕ
@@ -17,14 +17,14 @@ pub record IsPiece (text piece : List ℕ) (left : ℕ) : Type 0 where
   pub ends : IsUtf8 back
   pub length_is : length (piece ++ back) ≡ left
 
--- `piece` stands in the text from the byte `start` on
+-- `piece` is in the text, from the byte `start` on
 pub record StandsAt (text piece : List ℕ) (start : ℕ) : Type 0 where
   pub front : List ℕ
   pub back : List ℕ
   pub joined : text ≡ front ++ (piece ++ back)
   pub start_is : length front ≡ start
 
--- a span of the text: whole characters, of which there may be none, or the end with the length 1
+-- a span of the text: any number of whole characters, or the end with the length 1
 pub data IsSpan (text : List ℕ) (start len : ℕ) : Type 0 where
   within : start < length text
       → IsCharBoundary text start → IsCharBoundary text (start + len) → IsSpan text start len

@@ -8,31 +8,31 @@ use unicode::properties::is_alphabetic;
 pub enum Class {
     /// White space: Unicode's White_Space.
     Space,
-    /// Any character that is no white space: the characters of a keyword.
+    /// Any character but white space: the characters of a keyword.
     NotSpace,
-    /// No white space and none of `<`, `=`, `>`, `~`, `!` and `)`: the characters of a key.
+    /// Any character but white space and `<`, `=`, `>`, `~`, `!` and `)`: the characters of a key.
     KeyPart,
-    /// One of `<`, `=`, `>`, `~` and `!`: the characters of an operator that is no word.
+    /// One of `<`, `=`, `>`, `~` and `!`: the characters of an operator that is not a word.
     Comparison,
-    /// No white space and no quote: the characters of an operator that is a word.
+    /// Any character but white space and quotes: the characters of an operator that is a word.
     WordPart,
     /// Any character but this one: the characters between two of these quotes.
     NotQuote(char),
     /// Unicode's Alphabetic: an operator that begins with such a character is a word.
     Alphabetic,
-    /// Letters and digits of ASCII, `-`, `_` and `.`: the characters of a name.
+    /// ASCII letters and digits, `-`, `_` and `.`: the characters of a name.
     NamePart,
     /// Any character but a comma and this one, which ends a list of specifiers: the characters of a
     /// specifier.
     SpecifierPart(char),
-    /// White space within a line: no carriage return and no line feed.
+    /// White space within a line: all but carriage return and line feed.
     LineSpace,
 }
 
 impl Class {
     ghost use Rattle.pep508_text.specs.Class.{holds};
 
-    /// Whether the class holds the character.
+    /// Returns whether the character is in the class.
     pub fn holds(self, c: char) -> bool
         ensures { result ≡ holds self c }
     {
@@ -63,7 +63,7 @@ fn is_name_character(c: char) -> bool
     c.is_ascii_alphanumeric() || matches!(c, '-' | '_' | '.')
 }
 
-/// Whether the character ends a line: a carriage return or a line feed.
+/// Returns whether the character ends a line: a carriage return or a line feed.
 pub fn is_line_break(c: char) -> bool
     ensures { result ≡ is_line_break c }
 {

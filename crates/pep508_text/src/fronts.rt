@@ -5,7 +5,7 @@ ghost use Rattle.pep508_text.specs.Suffix.{IsSuffix};
 
 use crate::classes::Class;
 
-/// The first character of the text and what follows it, or `None` for the empty text.
+/// Returns the first character of the text and the rest, or `None` for the empty text.
 pub fn first(text: &str) -> Option<(char, &str)>
     ensures bytes { MatchOption result (text.now ≡ [])
         (λ x. text.now ≡ encode_utf8 x.0 ++ x.1.now) }
@@ -19,7 +19,7 @@ pub fn first(text: &str) -> Option<(char, &str)>
     Some((c, characters.as_str()))
 }
 
-/// The last character of the text and what stands before it, or `None` for the empty text.
+/// Returns the text before its last character, and that character, or `None` for the empty text.
 pub fn last(text: &str) -> Option<(&str, char)>
     ensures bytes { MatchOption result (text.now ≡ [])
         (λ x. text.now ≡ x.0.now ++ encode_utf8 x.1) }
@@ -32,7 +32,7 @@ pub fn last(text: &str) -> Option<(&str, char)>
     Some((characters.as_str(), c))
 }
 
-/// What follows the character, where the text begins with it, or else `None`.
+/// Returns the text after the character if it begins with it, otherwise `None`.
 pub fn strip(text: &str, c: char) -> Option<&str>
     ensures found { IfSome result (λ rest. chars text.now ≡ c ∷ chars rest.now) }
     ensures bytes { IfSome result (λ rest. text.now ≡ encode_utf8 c ++ rest.now) }
@@ -46,13 +46,14 @@ pub fn strip(text: &str, c: char) -> Option<&str>
     }
 }
 
-/// The longest run of the class at the front of the text, and what follows it. Either may be empty.
+/// Returns the longest run of the class at the front of the text, and the rest. Either may be
+/// empty.
 pub fn split_run(text: &str, class: Class) -> (&str, &str)
     ensures joined { text.now ≡ result.0.now ++ result.1.now }
     ensures run { chars result.0.now ≡ run_of class (chars text.now) }
     ensures rest { chars result.1.now ≡ after_run class (chars text.now) }
 
-    // The run's bytes, for a word that is to be known by them.
+    // The bytes of the run, for a word that is recognized by them.
     ensures bytes { result.0.now ≡ encode_utf8_all (run_of class (chars text.now)) }
 
     ensures no_longer { length result.1.now ≤ length text.now }
@@ -68,7 +69,7 @@ pub fn split_run(text: &str, class: Class) -> (&str, &str)
     text.split_at(text.len() - rest.len())
 }
 
-/// What follows the white space at the front of the text, of which there may be none.
+/// Returns the text without the white space at its front.
 pub fn skip_space(text: &str) -> &str
     ensures rest { chars result.now ≡ after_space (chars text.now) }
     ensures no_longer { length result.now ≤ length text.now }

@@ -1,9 +1,9 @@
-//! The characters of a text, as the grammars of PEP 508 speak of them: classes of characters, the
-//! longest run of a class at the front of a text, and places in a text.
+//! Characters of texts for the grammars of PEP 508: classes of characters, the longest run of a
+//! class at the front of a text, and places in a text.
 //!
-//! A reader of a part is a function from a `&str` to the part and the `&str` that is left. Nothing
-//! here allocates. What is left always ends where the text ends, so the place of anything is known
-//! by the number of bytes from there to the end.
+//! A parser of a part is a function from a `&str` to the part and the rest of the text. Nothing
+//! here allocates. The rest always ends where the text ends, so a place is known by the number of
+//! bytes from there to the end.
 #![tactic(auto)]
 
 mod classes;

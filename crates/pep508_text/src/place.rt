@@ -3,18 +3,18 @@
 ghost use Rattle.std.specs.Prelude.{◌≡◌, ◌++◌, ◌∷◌, ◌-◌, ◌<◌, ℕ, List, [], drop, length};
 ghost use Rattle.pep508_text.specs.Suffix.{IsPlaceIn, IsSpan, IsSuffix, StandsAt, span_len};
 
-/// A place in a text: the piece of the text there, and how far it begins from the end. A place in
-/// what is left of a text is one of the text.
+/// A place in a text: the piece of the text there, and its distance from the end. A place in the
+/// rest of a text is a place in the text.
 #[derive(Clone, Copy, Debug, PartialEq, Eq)]
 pub struct Place<'a> {
     /// The piece of the text at the place.
     pub piece: &'a str,
-    /// The bytes from the place to the end of the text.
+    /// How many bytes there are from the place to the end of the text.
     pub left: usize,
 }
 
 impl<'a> Place<'a> {
-    /// The end of a text.
+    /// Returns the end of a text.
     pub fn at_end() -> Place<'a>
         ensures piece { result.piece.now ≡ [] }
         ensures left { result.left ≡ 0 }
@@ -22,7 +22,7 @@ impl<'a> Place<'a> {
         Place { piece: "", left: 0 }
     }
 
-    /// The front of a text that is left, up to `rest`.
+    /// Returns the front of a text, up to `rest`.
     pub fn before(text: &'a str, rest: &str) -> Place<'a>
         requires { IsSuffix text.now rest.now }
         ensures piece { text.now ≡ result.piece.now ++ rest.now }
@@ -34,7 +34,7 @@ impl<'a> Place<'a> {
         }
     }
 
-    /// The front of a text that is left, with this run.
+    /// Returns the front of a text that is this run.
     pub fn at_run(run: &'a str, text: &str) -> Place<'a>
         ensures piece { result.piece.now ≡ run.now }
         ensures left { result.left ≡ length text.now }
@@ -45,7 +45,7 @@ impl<'a> Place<'a> {
         }
     }
 
-    /// The last character of a run, which is of ASCII, in front of `rest`.
+    /// Returns the last character of a run, an ASCII character, before `rest`.
     pub fn at_last(run: &'a str, rest: &str) -> Place<'a>
         requires { (front : List ℕ) × (c : ℕ) × (run.now ≡ front ++ c ∷ []) × (c < 128) }
         ensures piece { result.piece.now ≡ drop (length run.now - 1) run.now }
@@ -58,7 +58,7 @@ impl<'a> Place<'a> {
         }
     }
 
-    /// Where the place begins, in bytes from the start of its text.
+    /// Returns where the place begins, in bytes from the start of its text.
     pub fn start(self, text: &str) -> usize
         ensures value { result ≡ length text.now - self.entry.left }
 
@@ -71,7 +71,7 @@ impl<'a> Place<'a> {
         text.len().saturating_sub(self.left)
     }
 
-    /// How many bytes the place spans, or 1 at the end of the text.
+    /// Returns how many bytes the place spans, or 1 at the end of the text.
     pub fn len(self) -> usize
         ensures { result ≡ span_len self.entry }
     {
