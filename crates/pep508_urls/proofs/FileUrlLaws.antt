@@ -1,5 +1,5 @@
--- The text of a file URL is one that the URL Standard reads: no byte of it is trimmed, stripped or a mark of a query or
--- a fragment, and an empty host stands before the first slash of the path.
+-- The text of a file URL is accepted by the URL Standard: no byte of it is trimmed, stripped or a
+-- mark of a query or a fragment, and an empty host comes before the first slash of the path.
 use Rattle.std.proofs.Common.{◌≡◌, ◌≢◌, ℕ, ◌-◌, ◌<◌, ◌≤◌, ◌==◌, Bool, true, false, not, ◌&&◌, ◌||◌, List, [], ◌∷◌, ◌++◌, length, get_or, All, refl, sym, ap, ◌∙◌, subst, arith, None, Some, Ok, ⊎_elim, inl, inr}
 use Rattle.std.specs.Prelude.{Option, option_map, codes, reverse, nat_lt}
 use Rattle.std.specs.List.{prefix_len, flat_map}

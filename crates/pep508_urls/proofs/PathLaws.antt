@@ -21,7 +21,7 @@ walk_enters folder rest part s l = cond-false _ _ _ s ∙ cond-false _ _ _ l
 pub reverse_push : {X : Type 0} (xs : List X) (x : X) → reverse (xs ++ (x ∷ [])) ≡ x ∷ reverse xs
 reverse_push xs x = reverse-append xs (x ∷ [])
 
--- joined parts are the first, and each other one behind a separator
+-- joined parts are the first, and each other one after a separator
 pub join_is : {B : Type 0} (f : B → List ℕ) (c : ℕ) (x : B) (xs : List B) → join_with_byte c (map f (x ∷ xs)) ≡ f x ++ flat_map (λ y. c ∷ f y) xs
 join_is f c x [] = sym (append-nil (f x))
 join_is f c x (y ∷ ys) = ap (λ (t : List ℕ). f x ++ (c ∷ t)) (join_is f c y ys)

@@ -15,7 +15,7 @@ use Rattle.pep508_urls.specs.Scheme.{IsScheme, SplitsScheme}
 pub control_is_small : (b : ℕ) → is_c0_control_or_space b ≡ true → b < 128
 control_is_small b h = grind (arith, nat_tests)
 
--- a colon is no part of a scheme
+-- a scheme has no colon
 colon_in_scheme : is_scheme_byte 58 ≡ false
 colon_in_scheme = refl
 

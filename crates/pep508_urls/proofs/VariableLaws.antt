@@ -34,12 +34,12 @@ expands_itself [] lacks = nothing
 expands_itself (b ∷ text) lacks =
     other (λ begins. All-head (IsNot 36) b text lacks (let h = begins.joined in cc)) (expands_itself text (All-tail (IsNot 36) b text lacks))
 
--- a reference behind text without `$`
+-- a reference after text without `$`
 pub expands_reference : {value : List ℕ → List ℕ} (front : List ℕ) {text after name behind expanded : List ℕ} → All (IsNot 36) front → text ≡ front ++ (36 ∷ after) → after ≡ 123 ∷ (name ++ (125 ∷ behind)) → IsVariableName name → Expands value behind expanded → Expands value text (front ++ (value name ++ expanded))
 expands_reference {value} front {text} {after} {name} {behind} {expanded} lacks joined braces n e =
     subst (λ (x : List ℕ). Expands value x (front ++ (value name ++ expanded))) (sym joined) (expands_behind front lacks (variable n (ap (λ (x : List ℕ). 36 ∷ x) braces) refl e))
 
--- a `$` that begins no reference, behind text without `$`
+-- a `$` that begins no reference, after text without `$`
 pub expands_dollar : {value : List ℕ → List ℕ} (front : List ℕ) {text after expanded : List ℕ} → All (IsNot 36) front → text ≡ front ++ (36 ∷ after) → ((name rest : List ℕ) → IsVariableName name → after ≢ 123 ∷ (name ++ (125 ∷ rest))) → Expands value after expanded → Expands value text (front ++ (36 ∷ expanded))
 expands_dollar {value} front {text} {after} {expanded} lacks joined none e =
     subst (λ (x : List ℕ). Expands value x (front ++ (36 ∷ expanded))) (sym joined)

@@ -1,4 +1,4 @@
--- What a text stands for is one thing, and a fault is told only of a text that has no URL.
+-- A text denotes one thing, and only a text without a URL has a fault.
 use Rattle.std.proofs.Common.{◌≡◌, get_or, arith, ℕ, true, false, List, refl, sym, ap, ◌∙◌, subst, None, Ok, ⊎_elim}
 use Rattle.std.specs.Prelude.{Option, option_map, string_bytes, Result, Err, IfErr}
 use Rattle.pep508_urls.specs.Unnamed.{NamesNone, EachMayOverflow}
@@ -55,7 +55,7 @@ file_alone SvnFile e = let f : 115 ≡ 102 = ap (λ (x : List ℕ). get_or x 0 0
 file_alone Http e = let f : 104 ≡ 102 = ap (λ (x : List ℕ). get_or x 0 0) e in absurd (omega (arith, f))
 file_alone Https e = let f : 104 ≡ 102 = ap (λ (x : List ℕ). get_or x 0 0) e in absurd (omega (arith, f))
 
--- a text stands for one thing
+-- a text denotes one thing
 pub meaning_same : {text : List ℕ} {a b : Meaning} → StandsFor text a → StandsFor text b → a ≡ b
 meaning_same (file {rest = r} s e) (file {rest = q} t f) = e ∙ ap (λ (x : List ℕ). is_path (url_path (without_host x))) (scheme_same s t).1 ∙ sym f
 meaning_same (file s e) (known {scheme = k} not t f) = absurd (not (file_alone k (sym (scheme_same s t).0)))
@@ -67,7 +67,7 @@ meaning_same (other none e) (file {rest = r} t f) = absurd (none File r t)
 meaning_same (other none e) (known {scheme = k} {rest = r} not t f) = absurd (none k r t)
 meaning_same (other none e) (other still f) = e ∙ sym f
 
--- a fault of size is told as one
+-- a fault of size is reported as one
 not_of_size : (fault : ParseError) → is_overflow fault ≡ false → fault ≡ Overflow → ⊥
 not_of_size fault smaller e = true≢false (sym (ap is_overflow e) ∙ smaller)
 
@@ -93,7 +93,7 @@ no_meaning : (base : Option (List ℕ)) (meaning : Meaning) (fault : VerbatimUrl
 no_meaning base (is_url text) fault told smaller parts e = no_url text fault told smaller parts e
 no_meaning base (is_path text) fault told smaller parts e = no_path base text fault told smaller parts e
 
--- what is told of a text's meaning is told of the text
+-- what is true of a text's meaning is true of the text
 pub none_named : (text expanded : List ℕ) (surroundings : Surroundings) (meaning : Meaning) (refusal : Refusal VerbatimUrlError) → Expands (value_of surroundings) text expanded → StandsFor expanded meaning → IfFault refusal (IsFaultOf (folder_of surroundings) meaning) → IfFault refusal (λ fault. tells_size fault ≡ false → (v : Verbatim) → IsVerbatim text surroundings v → ⊥)
 none_named text expanded surroundings meaning OutOfMemory x s told = tt
 none_named text expanded surroundings meaning SegmentAtEnd x s told = tt
@@ -102,7 +102,7 @@ none_named text expanded surroundings meaning (Fault fault) x s told = λ smalle
     let means : named.meaning ≡ meaning = meaning_same (subst (λ (t : List ℕ). StandsFor t named.meaning) same named.stands_for) s in
     no_meaning (folder_of surroundings) meaning fault told smaller v.url (subst (λ (m : Meaning). IsUrlOf (folder_of surroundings) m v.url) means named.url_is)
 
--- the same for each text that stands for something, where relative paths start from a folder
+-- the same for each text that denotes something, with relative paths from a folder
 none_made : (folder : Option (List ℕ)) (meaning : Meaning) (fault : VerbatimUrlError) → IsFaultOf folder meaning fault → tells_size fault ≡ false → NamesNone IsVerbatim folder meaning
 none_made folder meaning fault told smaller text surroundings v has starts named =
     none_named text has.expanded surroundings meaning (Fault fault) has.expands has.stands_for (subst (λ (f : Option (List ℕ)). IsFaultOf f meaning fault) (sym starts) told) smaller v named
@@ -120,7 +120,7 @@ none_made_of_url text (Err OutOfMemory) told = tt
 none_made_of_url text (Err SegmentAtEnd) told = tt
 none_made_of_url text (Err (Fault fault)) told = λ smaller folder. none_made folder (is_url text) fault told smaller
 
--- a fault of size is told of a URL, or of a path that has one
+-- only a URL, or a path that has one, has a fault of size
 size_of : (base : Option (List ℕ)) (meaning : Meaning) (fault : VerbatimUrlError) → IsFaultOf base meaning fault → tells_size fault ≡ true → MayOverflow base meaning
 size_of base (is_url text) fault told large = tt
 size_of base (is_path text) (faults.Url fault) told large = told.1
@@ -129,14 +129,14 @@ size_of base (is_path text) (faults.UrlConversion said) told large =
 size_of base (is_path text) (faults.WorkingDirectory said) told large = absurd (true≢false (sym large))
 size_of base (is_path text) (faults.Normalization said) told large = absurd (true≢false (sym large))
 
--- so it is told of a text that stands for one
+-- the same for a text that denotes one
 pub size_told : (text expanded : List ℕ) (surroundings : Surroundings) (meaning : Meaning) (refusal : Refusal VerbatimUrlError) → Expands (value_of surroundings) text expanded → StandsFor expanded meaning → IfFault refusal (IsFaultOf (folder_of surroundings) meaning) → IfFault refusal (λ fault. tells_size fault ≡ true → TextMayOverflow text surroundings)
 size_told text expanded surroundings meaning OutOfMemory x s told = tt
 size_told text expanded surroundings meaning SegmentAtEnd x s told = tt
 size_told text expanded surroundings meaning (Fault fault) x s told = λ large.
     (meaning, record { expanded = expanded; expands = x; stands_for = s }, size_of (folder_of surroundings) meaning fault told large)
 
--- and of each such text, where relative paths start from the folder
+-- and for each such text, with relative paths from the folder
 each_size : (folder : Option (List ℕ)) (meaning : Meaning) (fault : VerbatimUrlError) → IsFaultOf folder meaning fault → tells_size fault ≡ true → EachMayOverflow TextMayOverflow folder meaning
 each_size folder meaning fault told large text surroundings has starts =
     (meaning, has, subst (λ (f : Option (List ℕ)). MayOverflow f meaning) (sym starts) (size_of folder meaning fault told large))
@@ -153,7 +153,7 @@ size_told_of_url text (Err OutOfMemory) told = tt
 size_told_of_url text (Err SegmentAtEnd) told = tt
 size_told_of_url text (Err (Fault fault)) told = λ large folder. each_size folder (is_url text) fault told large
 
--- the fault of what a text stands for is one of the text
+-- the fault of what a text denotes is one of the text
 pub fault_in : (text expanded : List ℕ) (surroundings : Surroundings) (meaning : Meaning) (refusal : Refusal VerbatimUrlError) → Expands (value_of surroundings) text expanded → StandsFor expanded meaning → IfFault refusal (IsFaultOf (folder_of surroundings) meaning) → IfFault refusal (IsFaultIn text surroundings)
 fault_in text expanded surroundings meaning OutOfMemory x s told = tt
 fault_in text expanded surroundings meaning SegmentAtEnd x s told = tt

@@ -18,7 +18,7 @@ IsNormalization path (faults.Url fault) = ⊥
 IsNormalization path (faults.WorkingDirectory text) = ⊥
 IsNormalization path (faults.UrlConversion text) = ⊥
 
--- the path has a URL, which is refused for its size alone
+-- the path has a URL, which is refused only for its size
 abbrev pub HasUrl : List ℕ → Type 0
 HasUrl path = (url : Parts) × (path_url path ≡ Some (Ok url))
 
@@ -30,18 +30,18 @@ IsWholePathFault path (faults.UrlConversion text) = (string_bytes text ≡ path)
 IsWholePathFault path (faults.Url fault) = (fault ≡ Overflow) × HasUrl path
 IsWholePathFault path (faults.WorkingDirectory text) = ⊥
 
--- what stands for this may be too large: any URL, and a path that has one
+-- what may be too large: any URL, and a path that has one
 abbrev pub MayOverflow : Option (List ℕ) → Meaning → Type 0
 MayOverflow base (is_url text) = ⊤
 MayOverflow base (is_path text) = HasPathUrl base text
 
--- the text stands for something in the surroundings that may be too large
+-- the text denotes something in the surroundings that may be too large
 abbrev pub TextMayOverflow : List ℕ → Surroundings → Type 0
 TextMayOverflow text surroundings =
     (meaning : Meaning) × HasMeaning text surroundings meaning
     × MayOverflow (folder_of surroundings) meaning
 
--- a path from a folder has no URL: what has to begin with a slash does not, or the whole path has
+-- a path from a folder has no URL: what must begin with a slash does not, or the whole path has
 -- none
 abbrev pub IsPathFault : Option (List ℕ) → List ℕ → VerbatimUrlError → Type 0
 IsPathFault base path (faults.WorkingDirectory text) =
@@ -66,12 +66,12 @@ tells_size (faults.UrlConversion text) = true
 tells_size (faults.WorkingDirectory text) = false
 tells_size (faults.Normalization text) = false
 
--- the fault of what a text stands for
+-- the fault of a URL or path
 abbrev pub IsFaultOf : Option (List ℕ) → Meaning → VerbatimUrlError → Type 0
 IsFaultOf base (is_url text) fault = IsParseFault text fault
 IsFaultOf base (is_path text) fault = IsPathFault base text fault
 
--- the text stands for something in the surroundings, and this is the fault of that
+-- the text denotes something in the surroundings, and this is the fault of that
 pub record IsFaultIn (text : List ℕ) (surroundings : Surroundings) (fault : VerbatimUrlError)
     : Type 0 where
   pub meaning : Meaning

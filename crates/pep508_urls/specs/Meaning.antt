@@ -1,4 +1,4 @@
--- What a text stands for once its variables are expanded. Texts are lists of bytes.
+-- What a text denotes once its variables are expanded. Texts are lists of bytes.
 use Rattle.std.specs.Prelude.{◌≡◌, ◌≢◌, ℕ, List, Option, Some, None, Ok, option_map}
 use Rattle.std.specs.Cow.{cow_str_bytes}
 use Rattle.url.specs.Parser.{parse_url}
@@ -23,8 +23,8 @@ abbrev pub meaning_of : Target → Meaning
 meaning_of (Url text) = is_url text.now
 meaning_of (Path text) = is_path (cow_str_bytes text)
 
--- With the scheme `file` it is the path behind the host, with its escapes read; with another scheme
--- of the list the URL itself; any other text is a path.
+-- With the scheme `file` it is the path after the host, with its escapes decoded; with another
+-- scheme of the list the URL itself; any other text is a path.
 pub data StandsFor (text : List ℕ) : Meaning → Type 0 where
   file : {rest : List ℕ} {meaning : Meaning} → SplitsScheme text (scheme_text File) rest
       → meaning ≡ is_path (url_path (without_host rest)) → StandsFor text meaning
@@ -34,7 +34,7 @@ pub data StandsFor (text : List ℕ) : Meaning → Type 0 where
       → ((scheme : Scheme) (rest : List ℕ) → ¬ SplitsScheme text (scheme_text scheme) rest)
       → meaning ≡ is_path text → StandsFor text meaning
 
--- the URL of what a text stands for; a path is read from the folder, if there is one
+-- the URL of a URL or path; a path starts from the folder, if there is one
 abbrev pub IsUrlOf : Option (List ℕ) → Meaning → Parts → Type 0
 IsUrlOf base (is_url text) parts = parse_url None text ≡ Ok parts
 IsUrlOf base (is_path text) parts = IsPathUrl base text parts
@@ -43,7 +43,7 @@ IsUrlOf base (is_path text) parts = IsPathUrl base text parts
 abbrev pub folder_of : Surroundings → Option (List ℕ)
 folder_of surroundings = option_map (λ folder. folder.now) surroundings.working_dir
 
--- the text stands for this in the surroundings, once its variables are expanded
+-- the text denotes this in the surroundings, once its variables are expanded
 pub record HasMeaning (text : List ℕ) (surroundings : Surroundings) (meaning : Meaning)
     : Type 0 where
   pub expanded : List ℕ

@@ -10,7 +10,7 @@ use Rattle.pep508_urls.specs.declared.path.TheConstants.{FILE_PART}
 abbrev pub parts : List ℕ → List (List ℕ)
 parts path = slice_split (λ b. b == 47) path
 
--- the empty part and `.` stay where they are
+-- the empty part and `.` lead nowhere else
 abbrev pub stays : List ℕ → Bool
 stays part = bytes_eq part [] || bytes_eq part (codes ".")
 
@@ -39,7 +39,7 @@ is_absolute path = slice_index path 0 == 47
 abbrev pub root : List ℕ → List ℕ
 root path = if is_absolute path then codes "/" else []
 
--- the parts of a folder, the innermost first, behind a root
+-- the parts of a folder, the innermost first, after a root
 abbrev pub path_text : List ℕ → List (List ℕ) → List ℕ
 path_text root_text folder = root_text ++ join_with_byte 47 (reverse folder)
 
@@ -47,20 +47,20 @@ path_text root_text folder = root_text ++ join_with_byte 47 (reverse folder)
 abbrev pub normalized : List ℕ → Option (List ℕ)
 normalized path = option_map (path_text (root path)) (walk [] (parts path))
 
--- a path in a URL with its escapes read, where they give a text, and else as it is
+-- a path in a URL with its escapes decoded, if they give a text, otherwise as it is
 abbrev pub url_path : List ℕ → List ℕ
 url_path path = if is_utf8 (percent_decode path) then percent_decode path else path
 
--- What a part of a path escapes in a file URL: controls and space, twelve marks, DEL and all that
--- is no ASCII. `FILE_PART` holds these, as a law of the crate says.
+-- The characters that a part of a path escapes in a file URL: controls and space, twelve marks, DEL
+-- and all that are not ASCII. `FILE_PART` has these, by a law of the crate.
 abbrev pub is_escaped : ℕ → Bool
 is_escaped b = nat_le b 32 || list_any (λ mark. b == mark) (codes "\"#%/<>?\\`{|}") || nat_le 127 b
 
--- a part of a path as it stands in a file URL
+-- a part of a path in a file URL
 abbrev pub file_part : List ℕ → List ℕ
 file_part part = if stays part then [] else 47 ∷ percent_encode FILE_PART part
 
--- the parts of a path as they stand in a file URL
+-- the parts of a path in a file URL
 abbrev pub file_path : List ℕ → List ℕ
 file_path path = flat_map file_part (parts path)
 

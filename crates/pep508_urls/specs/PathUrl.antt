@@ -7,7 +7,7 @@ use Rattle.percent_encoding.specs.Percent.{percent_decode}
 use Rattle.url.specs.Setters.{set_fragment}
 use Rattle.pep508_urls.specs.Path.{file_text, is_absolute, normalized}
 
--- a path from a folder, or one that stands alone; nothing where that does not begin with a slash
+-- a path from a folder, or one without a folder; nothing if that does not begin with a slash
 abbrev pub absolute : Option (List ℕ) → List ℕ → Option (List ℕ)
 absolute (Some base) path =
     if is_absolute base then Some (if is_absolute path then path else base ++ 47 ∷ path)
@@ -19,18 +19,18 @@ abbrev pub with_fragment : Parts → Option (List ℕ) → Parts
 with_fragment url None = url
 with_fragment url (Some fragment) = set_fragment url (Some fragment)
 
--- The URL of a normalized path: what stands before the first `#` is read as a file URL, and what
--- stands behind it is its fragment.
+-- The URL of a normalized path: the part before the first `#` is parsed as a file URL, and the part
+-- after it is its fragment.
 abbrev pub normal_url : List ℕ → Parsed Parts
 normal_url path =
     let cut = split_once 35 path in
     and_then (parse_url None (file_text cut.0)) (λ url. Ok (with_fragment url cut.1))
 
--- the URL of a path that begins with a slash, where it can be normalized
+-- the URL of a path that begins with a slash, if it can be normalized
 abbrev pub path_url : List ℕ → Option (Parsed Parts)
 path_url path = option_map normal_url (normalized path)
 
--- the URL of a path from a folder, or of one that stands alone
+-- the URL of a path from a folder, or of one without a folder
 pub record IsPathUrl (base : Option (List ℕ)) (path : List ℕ) (url : Parts) : Type 0 where
   pub whole : List ℕ
   pub absolute_is : absolute base path ≡ Some whole

@@ -1,10 +1,10 @@
--- What a type of URLs makes of paths and URLs that stand without a name.
+-- The values of a type of URLs for paths and URLs without a name.
 use Rattle.std.specs.Prelude.{◌≡◌, ℕ, List, Option}
 use Rattle.pep508_errors.specs.declared.surroundings.Surroundings.{Surroundings}
 use Rattle.pep508_urls.specs.Meaning.{Meaning, HasMeaning, folder_of}
 
--- given as a text that stands for this, where relative paths start from the folder, the value is
--- one that the text has
+-- given as a text that denotes this, with relative paths from the folder, the value is one that the
+-- text has
 abbrev pub MakesNamed : {U : Type 0} → (List ℕ → Surroundings → U → Type 0)
     → (U → List ℕ → U → Type 0) → Option (List ℕ) → Meaning → U → Type 0
 MakesNamed {U} names gives folder meaning url =

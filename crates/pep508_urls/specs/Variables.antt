@@ -25,8 +25,8 @@ pub record BeginsWithReference (text : List ℕ) : Type 0 where
   pub is_name : IsVariableName name
   pub joined : text ≡ 36 ∷ 123 ∷ (name ++ (125 ∷ rest))
 
--- From left to right each reference is replaced by what its name stands for, and every other byte
--- stays. What was put in is not looked at again.
+-- From left to right each reference is replaced by the value of its name, and every other byte
+-- stays. A value is not expanded again.
 pub data Expands (value : List ℕ → List ℕ) : List ℕ → List ℕ → Type 0 where
   nothing : Expands value [] []
   variable : {text out name rest expanded : List ℕ} → IsVariableName name
@@ -35,8 +35,8 @@ pub data Expands (value : List ℕ → List ℕ) : List ℕ → List ℕ → Typ
   other : {b : ℕ} {rest expanded : List ℕ} → ¬ BeginsWithReference (b ∷ rest)
       → Expands value rest expanded → Expands value (b ∷ rest) (b ∷ expanded)
 
--- what a name stands for: the variable, else the project root for `PROJECT_ROOT`, else the
--- reference itself
+-- the value of a name: the variable, else the project root for `PROJECT_ROOT`, else the reference
+-- itself
 abbrev pub value_of : Surroundings → List ℕ → List ℕ
 value_of surroundings name =
     unwrap_or (option_map string_bytes (get_by_text surroundings.vars.now name))

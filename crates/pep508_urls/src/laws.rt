@@ -13,13 +13,13 @@ ghost use Rattle.pep508_urls.specs.Scheme.{SplitsScheme};
 ghost use Rattle.pep508_urls.specs.Meaning.{Meaning, StandsFor};
 ghost use Rattle.pep508_urls.specs.Variables.{Expands};
 
-/// A text expands to one text, whatever its variables stand for.
+/// A text expands to one text, whatever the values of its variables.
 pub fn text_expands_to_one_text()
     ensures { (value : List ℕ → List ℕ) (text a b : List ℕ)
         → Expands value text a → Expands value text b → a ≡ b }
 {}
 
-/// A text stands for one URL or one path.
+/// A text denotes one URL or one path.
 pub fn text_stands_for_one_thing()
     ensures { (text : List ℕ) (a b : Meaning) → StandsFor text a → StandsFor text b → a ≡ b }
 {}

@@ -7,6 +7,7 @@
 
 mod error;
 mod extras;
+pub mod internal;
 pub mod laws;
 mod meaning;
 mod path;
@@ -18,7 +19,6 @@ mod verbatim_url;
 
 pub use crate::error::VerbatimUrlError;
 pub use crate::extras::split_extras;
-pub use crate::meaning::Target;
 pub use crate::path::{normalize_absolute_path, normalize_url_path};
 pub use crate::scheme::{Scheme, split_scheme, strip_host};
 pub use crate::unnamed::UnnamedRequirementUrl;

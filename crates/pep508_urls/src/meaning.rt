@@ -1,4 +1,4 @@
-//! What a text stands for after its variables are expanded.
+//! What a text denotes after its variables are expanded: a URL or a path.
 
 ghost use Rattle.std.specs.Prelude.{IfOk};
 ghost use Rattle.pep508_urls.specs.Meaning.{meaning_of, StandsFor};
@@ -18,7 +18,7 @@ pub enum Target<'a> {
 }
 
 impl<'a> Target<'a> {
-    /// Tells whether a text without variables is a URL or a path.
+    /// Returns whether a text without variables is a URL or a path, with the path.
     pub fn of(alloc: Global, text: &'a str) -> Result<Target<'a>, AllocError>
         ensures { IfOk result (λ target. StandsFor text.now (meaning_of target)) }
     {

@@ -35,7 +35,7 @@ pub const FILE_PART: AsciiSet = ascii_set!(
         .add(b'}')
 );
 
-/// The path without `.`, `..` and empty parts. A relative path stays relative.
+/// Returns the path without `.`, `..` and empty parts. A relative path stays relative.
 ///
 /// # Errors
 /// - [`VerbatimUrlError::Normalization`] if a `..` has no part to remove.
@@ -67,7 +67,7 @@ pub fn normalize_absolute_path(
     Ok(text)
 }
 
-// `/` where the path begins with one, and else nothing.
+// `/` if the path begins with one, otherwise an empty text.
 fn root(path: &str) -> &'static str
     ensures { result.now ≡ root path.now }
 {
@@ -109,7 +109,7 @@ fn push_joined(text: &mut String, parts: &[&str]) -> Result<(), AllocError>
     Ok(())
 }
 
-/// The path of a URL with its percent-escapes decoded, or the path as it is if they do not decode
+/// Returns the path of a URL with its percent-escapes decoded, or unchanged if they do not decode
 /// to UTF-8.
 pub fn normalize_url_path(alloc: Global, path: &str) -> Result<CowStr<'_>, AllocError>
     ensures { IfOk result (λ text. cow_str_bytes text ≡ url_path path.now) }
@@ -121,8 +121,8 @@ pub fn normalize_url_path(alloc: Global, path: &str) -> Result<CowStr<'_>, Alloc
     }
 }
 
-// The URL of a path, as a text: `file://`, and each part that is neither empty nor `.` behind a
-// `/`, escaped.
+// The text of a path's URL: `file://`, then `/` and the escaped part for each part that is neither
+// empty nor `.`.
 pub(crate) fn file_text(alloc: Global, path: &str) -> Result<String, AllocError>
     ensures { IfOk result (λ text. string_bytes text ≡ file_text path.now) }
 {
@@ -135,7 +135,7 @@ pub(crate) fn file_text(alloc: Global, path: &str) -> Result<String, AllocError>
     Ok(text)
 }
 
-// Each part of a path that is neither empty nor `.` behind a `/`, escaped.
+// `/` and the escaped part, for each part of a path that is neither empty nor `.`.
 fn file_path(alloc: Global, path: &str) -> Result<String, AllocError>
     ensures { IfOk result (λ text. string_bytes text ≡ file_path path.now) }
 {

@@ -65,7 +65,7 @@ pub enum Scheme {
 }
 
 impl Scheme {
-    /// The scheme that is written so, in lower case. `None` for any other text.
+    /// Returns the scheme with this text, in lower case. `None` for any other text.
     pub fn parse(text: &str) -> Option<Scheme>
         ensures found { IfSome result (λ scheme. scheme_text scheme ≡ text.now) }
         ensures none { IfNone result ((scheme : Scheme) → scheme_text scheme ≢ text.now) }
@@ -101,7 +101,7 @@ impl Scheme {
         Some(scheme)
     }
 
-    /// Whether the scheme is `file`.
+    /// Returns whether the scheme is `file`.
     pub fn is_file(self) -> bool
         ensures { IsTrue result ↔ (self ≡ schemes.File) }
     {
@@ -193,8 +193,8 @@ fn is_scheme_byte(b: u8) -> bool
     b.is_ascii_alphanumeric() || b == b'+' || b == b'-' || b == b'.'
 }
 
-/// What follows the host of a `file` URL, which is empty or `localhost`: `//localhost/a` and `///a`
-/// give `/a`. A text that does not begin with `//` is returned as it is.
+/// Returns the text after the host of a `file` URL, if the host is empty or `localhost`:
+/// `//localhost/a` and `///a` give `/a`. A text that does not begin with `//` is returned as it is.
 pub fn strip_host(path: &str) -> &str
     ensures { result.now ≡ without_host path.now }
 {

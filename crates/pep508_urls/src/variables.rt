@@ -15,7 +15,7 @@ use std::borrow::CowStr;
 /// `Z`, `0` to `9` and `_`; a reference to an unknown name is left as it is. A replacement is not
 /// expanded again.
 ///
-/// The text is borrowed if nothing changes. A text without `$` takes no memory.
+/// The text is borrowed if nothing changes. A text without `$` costs no allocation.
 pub fn expand_env_vars<'a>(
     alloc: Global,
     text: &'a str,
@@ -105,7 +105,7 @@ fn is_name_byte(b: u8) -> bool
     b.is_ascii_uppercase() || b.is_ascii_digit() || b == b'_'
 }
 
-// Appends what a name stands for, or a beginning of it where there is no room.
+// Appends the value of a name. When memory runs out, a beginning of it may have been appended.
 fn push_value(
     expanded: &mut String,
     name: &str,

@@ -46,7 +46,7 @@ impl Model for VerbatimUrl {
 }
 
 impl VerbatimUrl {
-    /// A URL without a given text.
+    /// Returns the URL, without a given text.
     pub fn from_url(url: Url) -> VerbatimUrl
         ensures url { result.url ≡ url }
         ensures given { result.given ≡ None }
@@ -85,7 +85,7 @@ impl VerbatimUrl {
         Ok(url.with_given(String::from_str(alloc, given)?))
     }
 
-    /// The same URL, given as this text. It prints, compares and hashes as before.
+    /// Returns the URL, given as this text. It prints, compares and hashes as before.
     pub fn with_given(self, given: String) -> VerbatimUrl
         ensures value { result ≡ given_as self (string_bytes given) }
         ensures given { result.given ≡ Some (string_bytes given) }
@@ -98,7 +98,7 @@ impl VerbatimUrl {
         }
     }
 
-    /// The given text, if it is known.
+    /// Returns the given text, if it is known.
     pub fn given(&self) -> Option<&str>
         ensures { option_copied result ≡ self.now.given }
     {
@@ -108,22 +108,22 @@ impl VerbatimUrl {
         }
     }
 
-    /// The URL.
+    /// Returns the URL.
     pub fn raw(&self) -> &Url
         ensures { result.now ≡ self.now.url }
     {
         &self.url
     }
 
-    /// A clone of the URL.
+    /// Returns a clone of the URL.
     pub fn to_url(&self, _alloc: Global) -> Result<Url, AllocError>
         ensures { IfOk result (λ url. url ≡ self.now.url) }
     {
-        // A URL keeps its allocator: the parameter says that this call takes memory.
+        // A URL has its own allocator: the parameter shows that this call allocates.
         self.url.clone()
     }
 
-    /// The URL, without the given text.
+    /// Returns the URL, without the given text.
     pub fn into_url(self) -> Url
         ensures { result ≡ self.url }
     {

@@ -1,4 +1,4 @@
--- Where extras end: at the first bracket that closes.
+-- Extras end at the first closing bracket.
 use Rattle.std.proofs.Common.{◌≡◌, ◌≢◌, ℕ, true, eqb, not, List, [], ◌∷◌, ◌++◌, All, append_assoc, refl, sym, ap, ◌∙◌, subst, lit<, IsUtf8}
 use Rattle.std.specs.Prelude.{encode_utf8, encode_utf8_all}
 use Rattle.std.specs.Str.{chars}
@@ -22,7 +22,7 @@ names_open inside o (last name bracket) =
 names_open inside o (more {b = b} name comma h) =
     names_open inside (open_one 44 b (open_space refl (subst (IsOpen 93 inside) name.rest (open_part NamePart refl (open_space refl o)))) comma refl) h
 
--- nor before the bracket behind them
+-- nor before the bracket after them
 closes_first : {i o : List ℕ} {ns : List (List ℕ)} (inside : List ℕ) → i ≡ 91 ∷ inside → IsExtras i o ns → IsOpen 93 inside (93 ∷ o)
 closes_first inside e (left_out b) = absurd (false≢true (sym b ∙ ap begins_bracket e))
 closes_first inside e (none {input = j} h) =
@@ -32,7 +32,7 @@ closes_first inside e (some {input = j} h) =
     let same : j ≡ inside = tails 91 j inside (91 ∷ j) (91 ∷ inside) e refl refl in
     names_open inside (subst (IsOpen 93 inside) (sym same) (open_start 93 inside)) h
 
--- where a character stands first is one place
+-- the first place of a character is one place
 other_first : (c d : ℕ) (x y : List ℕ) → not (eqb d c) ≡ true → c ∷ x ≡ d ∷ y → ⊥
 other_first c d x y other e = false≢true (sym (not-true _ other) ∙ eq-eqb d c (sym (same c d x y e)))
   where
@@ -55,7 +55,7 @@ of_the_end : (front back : List ℕ) → All IsNoBracket (front ++ back) → All
 of_the_end [] back all = all
 of_the_end (b ∷ front) back all = of_the_end front back (All-tail IsNoBracket b (front ++ back) all)
 
--- a character that is none of the bytes is none of the characters
+-- a character that is not among the bytes is not among the characters
 none_closes : (cs : List ℕ) → All IsNoBracket (encode_utf8_all cs) → is_absent 93 cs ≡ true
 none_closes [] plain = refl
 none_closes (c ∷ cs) plain = and_from _ _ (ap not (not_eqb c 93 closing)) (none_closes cs (of_the_end (encode_utf8 c) (encode_utf8_all cs) plain))
@@ -66,7 +66,8 @@ none_closes (c ∷ cs) plain = and_from _ _ (ap not (not_eqb c 93 closing)) (non
         ap (λ (x : ℕ). encode_utf8 x ++ encode_utf8_all cs) e ∙ ap (λ (x : List ℕ). x ++ encode_utf8_all cs) (encode_ascii 93 (lit< tt)) in
         (All-head IsNoBracket 93 (encode_utf8_all cs) (subst (All IsNoBracket) bytes plain)).1 refl
 
--- the characters of extras: names between two brackets, of which the second is the first that closes
+-- the characters of extras: names between two brackets, of which the second is the first that
+-- closes
 record IsBracketed (extras : List ℕ) : Type 0 where
   pub inside : List ℕ
   pub characters : chars extras ≡ 91 ∷ (inside ++ (93 ∷ []))
@@ -85,7 +86,7 @@ bracketed {extras = extras} utf8 s =
       absent = none_closes (chars s.names) (subst (All IsNoBracket) (sym (encodes-chars s.names names_utf8)) s.plain);
     }
 
--- extras end where the URL does that they are cut off
+-- extras end where the URL from which they are cut off does
 pub extras_end : {text before extras output left : List ℕ} {names : List (List ℕ)} → IsUtf8 extras → SplitsExtras text before extras → IsExtras (chars extras ++ output) left names → left ≡ output
 extras_end {output = output} {left = left} utf8 s h =
     let b = bracketed utf8 s in

@@ -33,18 +33,18 @@ use Rattle.requirement_words.proofs.RunLaws.{run_fails, run_holds}
 pub name_rest : {i a b m n : List ℕ} → IsNameAt i a m → IsNameAt i b n → a ≡ b
 name_rest x y = sym x.rest ∙ y.rest
 
--- how the whole goes on: the names so far, and then those that are left
+-- how the whole continues: the names so far, and then those that are left
 pub record Reading (text left : List ℕ) (names : List (List ℕ)) : Type 0 where
   pub suffix : IsSuffix text left
   pub found : (output : List ℕ) (ns : List (List ℕ)) → Names (chars left) output ns → IsExtras (chars text) output (names ++ ns)
   pub only : (output : List ℕ) (ns : List (List ℕ)) → IsExtras (chars text) output ns → (others : List (List ℕ)) × Names (chars left) output others
 
--- the same, and where another name may stand
+-- the same, and another name may be here
 pub record Going (text inside left : List ℕ) (names : List (List ℕ)) : Type 0 where
   pub reading : Reading text left names
   pub listed : Listed (chars inside) names (after_space (chars left))
 
--- behind the bracket
+-- after the bracket
 found_start : (i inside output : List ℕ) (ns : List (List ℕ)) → i ≡ 91 ∷ inside → Names inside output ns → IsExtras i output ns
 found_start i inside output ns e h = subst (λ (x : List ℕ). IsExtras x output ns) (sym e) (some h)
 
@@ -174,7 +174,7 @@ begun (c ∷ cs) e = (c, cs, refl, e)
 pub is_run : {class : Class} {input run output : List ℕ} → run ≡ run_of class input → output ≡ after_run class input → Run class input run output
 is_run e f = record { run_is = sym e; rest_is = sym f }
 
--- a run that begins as a name and is none ends with a separator
+-- a run that begins like a name and is invalid ends with a separator
 pub run_ends : (text rest : List ℕ) {run : List ℕ} → Run NamePart (chars text) (chars run) (chars rest) → IsUtf8 run → begins_name (chars text) ≡ true → ¬ IsName run → EndsSeparator run
 run_ends text rest {run} r utf8 begins none_ =
     let b = begun (chars text) begins in
@@ -226,13 +226,13 @@ name_begins {here = c ∷ cs} {rest = rest} {n = n} name = go (is_ascii_alphanum
     go true e = refl
     go false e = absurd (begins_unnamed (c ∷ cs) c cs rest n refl e name)
 
--- ---- where another name may stand
+-- ---- another name may be here
 
 no_append : (names : List (List ℕ)) (n : List ℕ) → names ++ (n ∷ []) ≡ [] → ⊥
 no_append [] n e = absurd cc
 no_append (m ∷ names) n e = absurd cc
 
--- the first stands right behind the bracket
+-- the first is directly after the bracket
 pub listed_first : {inside here : List ℕ} {names : List (List ℕ)} → Listed inside names here → names ≡ [] → here ≡ after_space inside
 listed_first faults.none e = refl
 listed_first (faults.more {names = names} {n = n} listed name comma) e = absurd (no_append names n e)
@@ -254,7 +254,7 @@ going_more text inside left rest behind next n names new going name behind_is co
 
 -- ---- faults
 
--- a fault of what stands in the brackets is one of the text
+-- a fault of the text in the brackets is one of the text
 pub in_text : {text here piece : List ℕ} {kind : FaultKind} {left : ℕ} (inside : List ℕ) → IsSuffix text here → chars text ≡ 91 ∷ inside → IsFaultAt (FindsInExtras (91 ∷ inside)) here kind piece left → IsFaultAt (FindsInExtras (chars text)) text kind piece left
 in_text {text} inside suffix bracket f =
     fault_behind (FindsInExtras (91 ∷ inside)) (FindsInExtras (chars text)) suffix (λ k p b g. subst (λ (x : List ℕ). FindsInExtras x k p b) (sym bracket) g) f
@@ -265,7 +265,7 @@ never_closed {text} {inside} {piece} bracket text_is piece_is cut =
     let there : FindsInExtras (91 ∷ chars inside) UnclosedBracket piece inside = unclosed (ap chars (sym text_is) ∙ bracket) (piece_is ∙ encode_ascii 91 (lit< tt)) cut in
     subst (λ (x : List ℕ). FindsInExtras x UnclosedBracket piece inside) (sym bracket) there
 
--- ---- behind a name
+-- ---- after a name
 
 pub not_eqb : (c d : ℕ) → c ≢ d → eqb c d ≡ false
 not_eqb c d h = go (eqb c d) refl
@@ -278,7 +278,7 @@ not_eqb c d h = go (eqb c d) refl
 pub trimmed_first : (c : ℕ) (cs t : List ℕ) → after_space t ≡ t → t ≡ c ∷ cs → is_whitespace c ≡ false
 trimmed_first c cs t trimmed e = after_run-first Space c cs t trimmed e
 
--- what stands behind a name and white space follows no name at once
+-- the text after a name and white space does not directly follow a name
 pub not_followed : (rest behind : List ℕ) (c : ℕ) (cs : List ℕ) → chars behind ≡ after_space (chars rest) → chars behind ≡ c ∷ cs → c ≢ 44 → c ≢ 93 → may_follow_extra c ≡ false
 not_followed rest behind c cs skipped e comma bracket =
     let trimmed : after_space (chars behind) ≡ chars behind = ap after_space skipped ∙ trimmed_after_space (chars rest) ∙ sym skipped in
@@ -302,6 +302,6 @@ pub something_skipped : (rest behind : List ℕ) → IsUtf8 rest → IsUtf8 behi
 something_skipped rest behind utf8 behind_utf8 skipped other =
     space_skipped (chars rest) (λ same. other (ap length (sym (encodes-chars behind behind_utf8) ∙ ap encode_utf8_all (skipped ∙ same) ∙ encodes-chars rest utf8)))
 
--- a text that the reader of names refuses at fault is no name
+-- a text that the parser of names rejects is an invalid name
 pub refused_name : (t x : List ℕ) (r : Refusal (List ℕ)) → r ≡ refusals.Fault x → IsNameRefusal t r → ¬ IsName t
 refused_name t x r e h = (subst (IsNameRefusal t) e h).1

@@ -44,7 +44,7 @@ pub fault_at_first : (F : FaultKind → List ℕ → List ℕ → Type 0) (kind 
 fault_at_first F kind c {here = here} {rest = rest} {place = place} suffix behind first kind_is place_is joined left_is found =
     fault_before F kind suffix behind.utf8 kind_is place_is joined left_is (found (same_front here place.piece.now (encode_utf8 c) rest joined first))
 
--- at the run in front of it
+-- at the run before it
 pub fault_at_run : (F : FaultKind → List ℕ → List ℕ → Type 0) (kind : FaultKind) {text here run rest : List ℕ} {fault : Fault} {place : Place} → IsSuffix text here → IsUtf8 rest → here ≡ run ++ rest
     → fault.kind ≡ kind → fault.place ≡ place → place.piece.now ≡ run → place.left ≡ length here → F kind run rest → IsFaultBy F text fault
 fault_at_run F kind {rest = rest} {place = place} suffix ends cut kind_is place_is piece_is left_is found =

@@ -1,4 +1,4 @@
--- A requirement up to its marker: each part is determined by the place that it stands at.
+-- A requirement up to its marker: each part is determined by its place.
 use Rattle.std.proofs.Common.{◌≡◌, ◌≢◌, ◌||◌, ◌+◌, ℕ, ◌<◌, Bool, true, false, eqb, not, List, [], ◌∷◌, ◌++◌, inl, inr, length, refl, sym, ap, ◌∙◌, subst, lit<, arith, length-append, append-nil}
 use Rattle.std.specs.Prelude.{encode_utf8, encode_utf8_all, ⊤}
 use Rattle.std.specs.Char.{is_ascii_alphanumeric}
@@ -53,14 +53,14 @@ bare_first (marked {output = o}) c cs e = head_same 59 c o cs e
 pub differ : (a b : ℕ) → a ≡ b → a < b → ⊥
 differ a b e less = omega arith
 
--- behind `@`
+-- after `@`
 pub body_at : {i o : List ℕ} {a : Asked} (behind : List ℕ) → i ≡ 64 ∷ behind → IsAsked i o a → (text : List ℕ) × IsUrl BehindName (after_space behind) o text × (a ≡ url text)
 body_at behind e (left_out b) = absurd (differ 59 64 (bare_first b 64 behind e) (lit< tt))
 body_at behind e (at_url {input = j} {output = o} {text = t} u) = (t, subst (λ (x : List ℕ). IsUrl BehindName (after_space x) o t) (tails 64 j behind (64 ∷ j) (64 ∷ behind) e refl refl) u, refl)
 body_at behind e (bare b s) = absurd (false≢true (sym (ap begins_specifier e) ∙ b))
 body_at behind e (enclosed {input = j} s) = absurd (firsts 40 64 j behind (40 ∷ j) (64 ∷ behind) e refl refl (lit< tt))
 
--- behind `(`
+-- after `(`
 pub body_enclosed : {i o : List ℕ} {a : Asked} (behind : List ℕ) → i ≡ 40 ∷ behind → IsAsked i o a → (set : List Specifier) × IsSpecifiers 41 (after_space behind) (41 ∷ o) set × (a ≡ specifiers set)
 body_enclosed behind e (left_out b) = absurd (differ 40 59 (sym (bare_first b 40 behind e)) (lit< tt))
 body_enclosed behind e (at_url {input = j} u) = absurd (firsts 40 64 behind j (40 ∷ behind) (64 ∷ j) (sym e) refl refl (lit< tt))
@@ -92,7 +92,7 @@ no_head_asked i after n behind place ns named extras_are skipped h output name e
     let again : IsExtras (after_space after) head.after_extras extras = subst (λ (x : List ℕ). IsExtras (after_space x) head.after_extras extras) (name_rest head.named named) head.extras_are in
     h output asked (subst (λ (x : List ℕ). IsAskedIn i x output asked) (ap after_space (extras_rest again extras_are) ∙ sym skipped) head.asks)
 
--- no URL behind `@`
+-- no URL after `@`
 pub no_url : (i behind place text : List ℕ) → i ≡ 64 ∷ behind → place ≡ after_space behind → text ≡ encode_utf8_all (url_of BehindName 0 place) → text ≡ [] → (output : List ℕ) (asked : Asked) → ¬ IsAsked i output asked
 no_url i behind place text e skipped text_is none output asked h =
     let g = body_at behind e h in
@@ -129,7 +129,7 @@ is_bare i c cs e is =
 pub is_ended : (i : List ℕ) → i ≡ [] → IsBare i
 is_ended i e = subst IsBare (sym e) ended
 
--- what stands behind a name and is no `@`, no parenthesis and no `;` begins a specifier
+-- the text after a name that is not `@`, a parenthesis or `;` begins a specifier
 pub specifier_begins : (i : List ℕ) (c : ℕ) (cs : List ℕ) → i ≡ c ∷ cs → may_follow_name c ≡ true → c ≢ 59
     → ((x : List ℕ) → i ≢ 64 ∷ x) → ((x : List ℕ) → i ≢ 40 ∷ x) → begins_specifier i ≡ true
 specifier_begins i c cs e may other at open_ =
@@ -139,7 +139,7 @@ specifier_begins i c cs e may other at open_ =
     last_of : (x y z w : Bool) → (x || (y || (z || w))) ≡ true → x ≡ false → y ≡ false → z ≡ false → w ≡ true
     last_of x y z w h e f g = sym (ap (λ (b : Bool). b || (y || (z || w))) e ∙ ap (λ (b : Bool). b || (z || w)) f ∙ ap (λ (b : Bool). b || w) g) ∙ h
 
--- ---- where a URL stands
+-- ---- the place of a URL
 
 pub url_placed : (text place u rest piece : List ℕ) → IsSuffix text place → place ≡ u ++ rest → url u ≡ url piece → IsSuffix text (piece ++ rest)
 url_placed text place u rest piece s joined e =
@@ -169,13 +169,13 @@ nothing_left : (end : ℕ) (i o : List ℕ) (l : List Specifier) → Pieces end 
 nothing_left end i [] l p h = refl
 nothing_left end i (c ∷ cs) l p h = absurd (h cs (ap (λ (x : ℕ). x ∷ cs) (ends_at c cs p refl)))
 
--- ---- faults of what is asked
+-- ---- faults of versions or URL
 
--- nothing stands before what is left
+-- nothing is before the rest
 pub nothing_before : (piece rest : List ℕ) → rest ≡ piece ++ rest → piece ≡ []
 nothing_before piece rest e = nil_from_length piece (omega (arith, ap length e, length-append piece rest))
 
--- no URL stands behind `@`
+-- no URL follows `@`
 pub no_url_there : (text behind : List ℕ) {place piece : List ℕ} → chars text ≡ 64 ∷ chars behind → chars place ≡ after_space (chars behind) → place ≡ piece ++ place → url_of BehindName 0 (chars place) ≡ [] → FindsInAsked (chars text) NoUrl piece place
 no_url_there text behind {place} {piece} at skipped joined none_ =
     let there : FindsInAsked (64 ∷ chars behind) NoUrl piece place = finds.no_url (ap chars (sym joined) ∙ skipped) (nothing_before piece place joined) (ap (url_of BehindName 0) (sym skipped) ∙ none_) in
@@ -200,7 +200,7 @@ enclosed_fault behind {text} {place} {piece} {kind} suffix at skipped f size =
       found = subst (λ (x : List ℕ). FindsInAsked x kind piece f.place.back) (sym at) (finds.enclosed found some_);
     }
 
--- a piece that goes on to the end of the text
+-- a piece up to the end of the text
 pub last_fault : {end : ℕ} {text piece : List ℕ} {kind : FaultKind} {size : ℕ} → IsFaultAt (FindsInSpecifiers end (chars text)) text kind piece size → size ≡ length piece → (left : List ℕ) × Preceded end (chars text) left × (after_piece end left ≡ [])
 last_fault {piece = piece} {size = size} f whole =
     ends_there f.place.begins.utf8 (nil_from_length f.place.back (ended_by (length f.place.back) (length piece) size (length (piece ++ f.place.back)) (length-append piece f.place.back) f.place.length_is whole)) f.found
@@ -216,7 +216,7 @@ open_pieces place rest s h =
 
 -- ---- faults of the whole
 
--- white space alone
+-- only white space
 pub blank_there : (value : List ℕ → List ℕ) {text after piece : List ℕ} (c : ℕ) → after_space (chars text) ≡ [] → text ≡ piece ++ after → piece ≡ encode_utf8 c → FindsInHead value text Blank piece after
 blank_there value c none_ joined is = finds.blank none_ joined (inr (record { c = c; is = is; holds = tt }))
 
@@ -262,7 +262,7 @@ name_end_there value start start_is run_is_ rest_is begins end is = finds.name_e
     (record { front = end.front; c = end.c; begins = ap begins_name (sym start_is) ∙ begins; ends = ap (run_of classes.NamePart) (sym start_is) ∙ run_is_ ∙ end.characters; is = is ∙ sym (encode_ascii end.c end.ascii); separator = end.separator })
     (rest_is ∙ ap (after_run classes.NamePart) start_is)
 
--- ---- what is asked
+-- ---- versions or URL
 
 pub asked_in : (text behind output : List ℕ) (a : Asked) → IsAsked behind output a → a ≢ nothing → IsAskedIn text behind output a
 asked_in text behind output a b some_ = record { asks = b; no_archive = λ e. absurd (some_ e) }
@@ -272,7 +272,7 @@ nothing_in text behind output a b e f none_ =
     let here : IsAsked behind behind nothing = left_out b in
     record { asks = subst (λ (x : List ℕ). IsAsked behind x a) (sym f) (subst (IsAsked behind behind) (sym e) here); no_archive = λ g. none_ }
 
--- an archive asks for something
+-- an archive has versions or a URL
 bare_nothing : {i o : List ℕ} {a : Asked} → IsBare i → IsAsked i o a → a ≡ nothing
 bare_nothing e (left_out f) = refl
 bare_nothing e (at_url {input = j} u) = absurd (differ 59 64 (bare_first e 64 j refl) (lit< tt))

@@ -110,7 +110,7 @@ specifier_first s x =
 not_nil : (c : ℕ) (w : List ℕ) → c ∷ w ≡ [] → ⊥
 not_nil c w e = cc
 
--- a specifier with a space behind it
+-- a specifier and a space
 spaced : (s : Specifier) → IsWellFormed s → IsSpecifierText (specifier_text s ++ (32 ∷ [])) s
 spaced s good = go (specifier_text s) refl (text-is_plain s good) (specifier_first s [])
   where
@@ -141,7 +141,7 @@ pieces_read s (t ∷ ss) tail left e all =
 
 -- ---- bodies
 
--- what is printed behind the name and the extras
+-- the printed text after the name and the extras
 record IsAskedText (text left : List ℕ) (asked : Asked) : Type 0 where
   no_name : run_of classes.NamePart text ≡ []
   rest : after_run classes.NamePart text ≡ text

@@ -60,7 +60,7 @@ ends_name t front rest a c joined begins all first_is last_is =
     is_true : {b : Bool} → b ≡ true → IsTrue b
     is_true e = e
 
--- where a run begins as a name and is none it ends with a separator
+-- a run that begins like a name and is invalid ends with a separator
 pub record EndsSeparator (run : List ℕ) : Type 0 where
   pub front : List ℕ
   pub c : ℕ

@@ -1,4 +1,5 @@
--- Names in a text: a normal form reads back as itself, whatever follows that is no part of a name.
+-- Names in a text: a normal form parses back to itself, whatever follows that does not belong to a
+-- name.
 use Rattle.std.proofs.Common.{◌≡◌, ℕ, true, false, not, eqb, List, [], ◌∷◌, ◌++◌, map, IsTrue, IsSomeAnd, refl, sym, ap, ◌∙◌, subst, append_assoc, arith}
 use Rattle.std.specs.Prelude.{encode_utf8_all, slice_get}
 use Rattle.std.specs.Char.{is_ascii_alphanumeric, is_whitespace, to_ascii_lowercase}
@@ -22,7 +23,7 @@ use Rattle.requirement_words.proofs.OpenLaws.{is_absent}
 use Rattle.requirement_words.proofs.RunLaws.{run_holds, run_fails}
 use Rattle.requirement_words.specs.Text.{later_names, IsNormal}
 
--- a run goes on over what belongs to it
+-- a run continues over what belongs to it
 pub run_over : (p : Class) (w t : List ℕ) → list_all (holds p) w ≡ true → run_of p t ≡ [] → after_run p t ≡ t → (run_of p (w ++ t) ≡ w) × (after_run p (w ++ t) ≡ t)
 run_over p [] t h e f = (e, f)
 run_over p (c ∷ w) t h e f =
@@ -52,7 +53,7 @@ name_at n t h none all =
     let here : IsNameAt (n ++ t) t n = record { name = subst (λ (x : List ℕ). NormalizesTo x n) (sym bytes) h; rest = run.1 } in
     subst (λ (x : List ℕ). IsNameAt x t n) (sym (name_trimmed n t h)) here
 
--- before a character that is no part of a name
+-- before a character that does not belong to a name
 pub name_before : (n : List ℕ) (c : ℕ) (t : List ℕ) → IsNormal n → is_name_character c ≡ false → IsNameAt (after_space (n ++ (c ∷ t))) (c ∷ t) n
 name_before n c t h other = let ends = run_fails NamePart c t other in name_at n (c ∷ t) h ends.0 ends.1
 
@@ -92,7 +93,7 @@ no_dot_before before back h =
     let one = and_parts false (is_absent 46 back) both.1 in
     cc one.0
 
--- so it is the name of no archive
+-- so it is not the name of an archive
 pub normal_no_archive : (n : List ℕ) → IsNormal n → ¬ IsArchive n
 normal_no_archive n h (archive {before = b} {extension = e} g is) = no_dot_before b e (ap (is_absent 46) (sym g.joined) ∙ normal_no_dot h)
 normal_no_archive n h (compressed {before = b} {extension = e} g is tar) = no_dot_before b e (ap (is_absent 46) (sym g.joined) ∙ normal_no_dot h)

@@ -1,4 +1,4 @@
--- Extensions of files, and what stands in place of a name.
+-- Extensions of files, and paths and URLs in place of a name.
 use Rattle.std.proofs.Common.{◌≡◌, ◌≢◌, ℕ, suc, ◌+◌, ◌-◌, ◌<◌, min, false, List, [], ◌∷◌, ◌++◌, length, get_or, take, drop, refl, sym, ap, ◌∙◌, subst, arith, length-append, length-drop, ⊎_elim, codes}
 use Rattle.std.proofs.lemmas.Bool.{cases_lt, false≢true}
 use Rattle.std.proofs.lemmas.List.{take-append-drop, drop_more, drop_at, take_at, get_or_at, get_or-drop, get_or-append-add, length-take}
@@ -9,7 +9,7 @@ use Rattle.pep508_urls.proofs.VariableLaws.{expands_same}
 use Rattle.requirement_words.specs.Archive.{HasExtension, IsArchive, archive, compressed, is_archive_extension, is_compressed_extension}
 use Rattle.requirement_words.specs.Nameless.{NamesNoPackage, IsPathOrUrl, dotted, slashed, backslashed, with_scheme, archived, WithoutExtras, cut, whole}
 
--- a list is cut at a place by what stands there
+-- a list is cut at a place by the element there
 pub cut_at : (bs : List ℕ) (k c : ℕ) → k < length bs → get_or bs k 0 ≡ c → bs ≡ take k bs ++ (c ∷ drop (k + 1) bs)
 cut_at bs k c within here =
     sym (take-append-drop k bs) ∙ ap (λ (x : List ℕ). take k bs ++ x) (drop_more bs k 0 within ∙ ap (λ (b : ℕ). b ∷ drop (k + 1) bs) here)
@@ -41,7 +41,7 @@ extension_at name k within here last some = record {
     later : (i : ℕ) → i < length (drop (k + 1) name) → length (drop (k + 1) name) ≡ length name - (k + 1) → k + 1 + i < length name
     later i short e = omega arith
 
--- a dot stands behind the first byte
+-- a dot comes after the first byte
 pub extension_dot : {name before extension : List ℕ} → HasExtension name before extension → (length before < length name) × (get_or name (length before) 0 ≡ 46) × (0 < length before)
 extension_dot {name} {before} {extension} h =
     let s = stands name before extension 46 h.joined in

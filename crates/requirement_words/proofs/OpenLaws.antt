@@ -1,4 +1,4 @@
--- What is left behind an opening character, where the closing one has not stood yet.
+-- The rest after an opening character, before the closing one.
 use Rattle.std.proofs.Common.{◌≡◌, ◌&&◌, ℕ, Bool, true, false, cond, eqb, not, List, [], ◌∷◌, ◌++◌, refl, sym, ap, ◌∙◌, append_assoc}
 use Rattle.std.specs.Char.{is_whitespace}
 use Rattle.std.specs.List.{list_all}
@@ -10,11 +10,11 @@ use Rattle.pep508_text.proofs.RunLaws.{run_of-after_run, run_all}
 use Rattle.pep508_text.specs.Class.{holds}
 use Rattle.pep508_text.specs.declared.classes.Class.{Class}
 
--- the character is none of the characters
+-- the character is not among the characters
 abbrev pub is_absent : ℕ → List ℕ → Bool
 is_absent c cs = list_all (λ d. not (eqb d c)) cs
 
--- `left` is the end of a text, and before it the character does not stand
+-- `left` is the end of a text, and the character is not before it
 pub record IsOpen (closing : ℕ) (inside left : List ℕ) : Type 0 where
   pub front : List ℕ
   pub joined : inside ≡ front ++ left
@@ -31,7 +31,7 @@ open_past {c} front rest o e absent = record {
   absent = list_all-append (λ d. not (eqb d c)) o.front front ∙ ap (λ (b : Bool). b && is_absent c front) o.absent ∙ absent;
 }
 
--- a character that is not of a kind is none of the characters of that kind
+-- a character that is not of a kind is not among the characters of that kind
 pub absent_of : (f : ℕ → Bool) (c : ℕ) (t : List ℕ) → f c ≡ false → list_all f t ≡ true → is_absent c t ≡ true
 absent_of f c [] none all = refl
 absent_of f c (d ∷ t) none all =

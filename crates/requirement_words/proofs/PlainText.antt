@@ -1,4 +1,5 @@
--- The text of a specifier is not changed where white space is dropped, with a space behind it or without.
+-- The text of a specifier does not change if white space is removed, with or without a space after
+-- it.
 use Rattle.std.proofs.Common.{◌≡◌, ℕ, ◌<◌, zero, suc, true, List, [], ◌∷◌, ◌++◌, refl, ap, arith}
 use Rattle.std.specs.List.{list_all}
 use Rattle.std.specs.Str.{IsAscii, drop_trailing_whitespace, skip_leading_whitespace, trim, trim_end, trim_start}
@@ -51,7 +52,7 @@ spaced-end (b ∷ t) h = let k = plain-first b t h in rw k.0.no_space (ap (λ (z
 spaced-start : (b : ℕ) (t : List ℕ) → IsPlain (b ∷ t) → skip_leading_whitespace ((b ∷ t) ++ (32 ∷ [])) ≡ (b ∷ t) ++ (32 ∷ [])
 spaced-start b t h = rw (plain-first b t h).0.no_space refl
 
--- a plain text and one space behind it
+-- a plain text and one space
 pub plain-spaced : (b : ℕ) (t : List ℕ) → IsPlain (b ∷ t) → trim ((b ∷ t) ++ (32 ∷ [])) ≡ b ∷ t
 unfolding trim_start trim_end
 plain-spaced b t h =

@@ -19,7 +19,7 @@ use Rattle.requirement_words.specs.Fault as faults
 use Rattle.requirement_words.specs.declared.fault.FaultKind.{FaultKind}
 use Rattle.requirement_words.specs.Specifiers.{piece_of, after_piece, begins_comma, Pieces, last, more, IsSpecifiers}
 
--- how the whole goes on: the specifiers so far, and then those that are left
+-- how the whole continues: the specifiers so far, and then those that are left
 pub record Reading (end : ℕ) (text left : List ℕ) (list : List Specifier) : Type 0 where
   pub suffix : IsSuffix text left
   pub found : (output : List ℕ) (others : List Specifier) → Pieces end (chars left) output others → Pieces end (chars text) output (list ++ others)
@@ -86,11 +86,11 @@ pieces_rest {end} {i} {o} {p} (more {next = n} {others = os} s comma h) (more {n
     let same : n ≡ k = tails 44 n k (after_run (classes.SpecifierPart end) i) (after_run (classes.SpecifierPart end) i) refl comma other in
     pieces_rest (subst (λ (x : List ℕ). Pieces end x o os) same h) g
 
--- a refusal that is a fault is no want of memory
+-- a refusal that is a fault is not an allocation failure
 pub not_memory : {E : Type 0} (r : Refusal E) (f : E) → r ≡ refusals.Fault f → r ≡ refusals.OutOfMemory → ⊥
 not_memory r f e g = cc
 
--- ---- where a piece stands
+-- ---- the place of a piece
 
 pub record Going (end : ℕ) (text left : List ℕ) (list : List Specifier) : Type 0 where
   pub reading : Reading end text left list
@@ -112,7 +112,7 @@ pub last_piece : {end : ℕ} {input i o : List ℕ} {l : List Specifier} → Pre
 last_piece {i = i} before (last s rest alone) = (i, before, rest)
 last_piece before (more s comma others) = last_piece (faults.more before s comma) others
 
--- a piece that is none, and goes on to the end of the text
+-- a piece that is not one, up to the end of the text
 pub ends_there : {end : ℕ} {input piece back : List ℕ} {kind : FaultKind} → IsUtf8 (piece ++ back) → back ≡ [] → FindsInSpecifiers end input kind piece back → (left : List ℕ) × Preceded end input left × (after_piece end left ≡ [])
 ends_there {end} {piece = piece} {back = back} utf8 none_ (no_specifier {left = left} before here is unread told) =
     let same : piece ++ back ≡ piece = ap (λ (x : List ℕ). piece ++ x) none_ ∙ append-nil piece in

@@ -1,4 +1,5 @@
--- A stable sort has one outcome: lists in order, whose elements that tie stand alike in both, are the same.
+-- A stable sort has one outcome: sorted lists, whose equal elements are in the same order in both,
+-- are the same.
 use Rattle.std.proofs.Common.{◌≡◌, ℕ, ◌≤◌, ◌<◌, zero, suc, Bool, true, false, not, List, [], ◌∷◌, get_or, length, filter, refl, sym, ap, ◌∙◌, inl, inr, suc-le-suc, zero-le}
 use Rattle.std.specs.Cmp.{IsStrictWeakOrder}
 use Rattle.std.specs.List.Sorted.{ties, IsSortedBy, IsStableBy}
@@ -56,7 +57,7 @@ module _ {X : Type 0} (lt : X → X → Bool) (o : IsStrictWeakOrder lt) where
   tied_itself : (x : X) → ties lt x x ≡ true
   tied_itself x = tied x x (not_below x) (not_below x)
 
-  -- what ties with one of them is no lower either
+  -- what is equal to one of them is no lower either
   no_lower_found : (y x : X) (ys : List X) (w : X) (ws : List X) → AreNoLower lt y ys → filter (ties lt x) ys ≡ w ∷ ws → lt x y ≡ false
   no_lower_found y x [] w ws h e = absurd (not_nothing w ws [] e refl)
   no_lower_found y x (z ∷ zs) w ws h e =

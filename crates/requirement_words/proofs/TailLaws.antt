@@ -34,6 +34,6 @@ unmarked_url semicolon hash mark e = ⊎_elim
     (λ is. hash e.front (e.joined ∙ ap (λ (x : List ℕ). e.front ++ x) is))
     e.mark
 
--- what stands behind a URL is the end of both
+-- the text after a URL is the end of both
 pub behind_url : (url rest end : List ℕ) → IsSuffix rest end → IsSuffix (url ++ rest) end
 behind_url url rest end s = record { front = url ++ s.front; joined = ap (λ (x : List ℕ). url ++ x) s.joined ∙ sym (append_assoc url s.front end); utf8 = s.utf8 }

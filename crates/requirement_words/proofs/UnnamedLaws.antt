@@ -65,7 +65,7 @@ opening_of place given rest url extras utf8 joined rest_utf8 s =
       suffix = record { front = url; joined = whole; utf8 = opening_utf8 };
     }
 
--- the URL is cut where its extras begin, and they are read there
+-- the URL is cut where its extras begin, and they are parsed there
 pub cut_by : (given rest url extras opening left : List ℕ) (names : List (List ℕ)) → IsUtf8 extras → SplitsExtras given url extras → chars opening ≡ chars extras ++ chars rest → IsExtras (chars opening) left names → IsCut given (chars rest) url names
 cut_by given rest url extras opening left names utf8 s e h =
     let here : IsExtras (chars extras ++ chars rest) left names = subst (λ (x : List ℕ). IsExtras x left names) e h in

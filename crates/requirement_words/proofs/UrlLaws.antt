@@ -1,4 +1,4 @@
--- Where a URL ends, step by step.
+-- The end of a URL, step by step.
 use Rattle.std.proofs.Common.{◌≡◌, ℕ, ◌+◌, ◌-◌, ◌≤◌, ◌<◌, ◌||◌, Bool, true, false, eqb, cond, not, List, [], ◌∷◌, ◌++◌, length, refl, sym, ap, ◌∙◌, subst, arith, IsUtf8}
 use Rattle.std.specs.Prelude.{◌&&◌, encode_utf8}
 use Rattle.std.specs.Char.{is_whitespace}

@@ -3,7 +3,7 @@
 use Rattle.std.specs.Prelude.{◌≡◌, ◌≢◌, ◌<◌, ◌||◌, ℕ, Bool, true, List, [], ◌∷◌, ◌++◌, codes, get_or, length}
 use Rattle.std.specs.Str.{bytes_eq}
 
--- the text is something, a dot (46) and this extension, in which there is no dot
+-- the text is a part that is not empty, a dot (46) and this extension, which has no dot
 pub record HasExtension (text before extension : List ℕ) : Type 0 where
   pub some : before ≢ []
   pub joined : text ≡ before ++ (46 ∷ extension)

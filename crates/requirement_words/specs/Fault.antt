@@ -1,6 +1,6 @@
--- What is wrong with a text in which the words of requirements are not found, and where. Each
--- relation says when a kind of fault is true: `piece` stands at its place, and `back` from there to
--- the end of the text, both as bytes; what is left of a text before it is a list of characters.
+-- What is wrong with a text that lacks the words of requirements, and where. Each relation says
+-- when a kind of fault is true: `piece` is at its place, and `back` is from there to the end of the
+-- text, both as bytes; the rest of a text before it is a list of characters.
 use Rattle.std.specs.Prelude.{◌≡◌, ◌≢◌, ℕ, ⊤, Bool, true, false, not, List, [], ◌∷◌, ◌++◌, ◌||◌, ◌==◌, ◌⊎◌, encode_utf8, encode_utf8_all}
 use Rattle.std.specs.Char.{is_ascii_alphanumeric, is_whitespace}
 use Rattle.std.specs.Str.{chars}
@@ -27,11 +27,11 @@ use Rattle.requirement_words.specs.declared.fault.Fault.{Fault}
 use Rattle.requirement_words.specs.declared.fault.FaultKind.{FaultKind}
 use Rattle.requirement_words.specs.declared.fault.FaultKind.TheVariants.{Blank, NoName, NameEnd, NoBody, LeadingComma, NoSeparator, NoExtra, InvalidExtra, ExtraEnd, UnclosedBracket, UnclosedParenthesis, Specifier, NoUrl, AmbiguousEnd, Trailing, PathWithoutName, UrlWithoutName, ArchiveWithoutName}
 
--- the piece begins where this is left of the text
+-- the piece begins at this rest of the text
 abbrev pub IsHere : List ℕ → List ℕ → List ℕ → Type 0
 IsHere left piece back = chars (piece ++ back) ≡ left
 
--- the piece is one character, of which this holds
+-- the piece is one character, of which this is true
 pub record IsCharacter (piece : List ℕ) (P : ℕ → Type 0) : Type 0 where
   pub c : ℕ
   pub is : piece ≡ encode_utf8 c
@@ -52,14 +52,14 @@ pub record EndsNoName (here piece : List ℕ) : Type 0 where
 
 -- ---- extras: 44 is `,`, 91 and 93 are the brackets
 
--- behind the bracket stand these names, each with a comma behind it, and another may stand here
+-- these names follow the bracket, each with a comma after it, and another may be here
 pub data Listed (inside : List ℕ) : List (List ℕ) → List ℕ → Type 0 where
   none : Listed inside [] (after_space inside)
   more : {names : List (List ℕ)} {here rest next n : List ℕ} → Listed inside names here
       → IsNameAt here rest n → after_space rest ≡ 44 ∷ next
       → Listed inside (names ++ n ∷ []) (after_space next)
 
--- a name stands in the brackets, and this is left behind it
+-- a name is in the brackets, and this follows it
 pub record IsBehindExtra (inside rest : List ℕ) : Type 0 where
   pub names : List (List ℕ)
   pub here : List ℕ
@@ -67,7 +67,7 @@ pub record IsBehindExtra (inside rest : List ℕ) : Type 0 where
   pub listed : Listed inside names here
   pub named : IsNameAt here rest n
 
--- no name begins with the character, and right behind the bracket it is no comma and no bracket
+-- no name begins with the character, and directly after the bracket it is neither comma nor bracket
 pub record BeginsNoExtra (names : List (List ℕ)) (c : ℕ) : Type 0 where
   pub no_letter : is_ascii_alphanumeric c ≡ false
   pub no_comma : names ≡ [] → c ≢ 44
@@ -82,7 +82,7 @@ abbrev pub ends_extra : List ℕ → Bool
 ends_extra [] = true
 ends_extra (c ∷ cs) = may_follow_extra c
 
--- the text ends before a name, or behind one
+-- the text ends before or after a name
 pub data IsCutOff (inside : List ℕ) : Type 0 where
   before_name : {names : List (List ℕ)} {here : List ℕ} → Listed inside names here → here ≡ []
       → IsCutOff inside
@@ -91,14 +91,14 @@ pub data IsCutOff (inside : List ℕ) : Type 0 where
 
 -- what is wrong with extras in brackets
 pub data FindsInExtras : List ℕ → FaultKind → List ℕ → List ℕ → Type 0 where
-  -- a comma stands first
+  -- a comma comes first
   leading_comma : {inside piece back : List ℕ} → IsHere (after_space inside) piece back
       → piece ≡ 44 ∷ [] → FindsInExtras (91 ∷ inside) LeadingComma piece back
-  -- a name may stand here, and another character does
+  -- a name may be here, and another character is
   no_extra : {inside here piece back : List ℕ} {names : List (List ℕ)} → Listed inside names here
       → IsHere here piece back → IsCharacter piece (BeginsNoExtra names)
       → FindsInExtras (91 ∷ inside) NoExtra piece back
-  -- another character stands right behind those of a name
+  -- another character directly follows those of a name
   invalid_extra : {inside here piece back : List ℕ} {names : List (List ℕ)}
       → Listed inside names here → begins_name here ≡ true
       → IsHere (after_run NamePart here) piece back
@@ -108,7 +108,7 @@ pub data FindsInExtras : List ℕ → FaultKind → List ℕ → List ℕ → Ty
   extra_end : {inside here piece back : List ℕ} {names : List (List ℕ)}
       → Listed inside names here → EndsNoName here piece → chars back ≡ after_run NamePart here
       → ends_extra (chars back) ≡ true → FindsInExtras (91 ∷ inside) ExtraEnd piece back
-  -- behind a name and white space stands neither a comma nor the bracket
+  -- neither a comma nor the bracket follows a name and white space
   no_separator : {inside here rest n piece back : List ℕ} {names : List (List ℕ)}
       → Listed inside names here → IsNameAt here rest n → begins_space rest ≡ true
       → IsHere (after_space rest) piece back → IsCharacter piece (λ c. (c ≢ 44) × (c ≢ 93))
@@ -117,29 +117,29 @@ pub data FindsInExtras : List ℕ → FaultKind → List ℕ → List ℕ → Ty
   unclosed : {inside piece back : List ℕ} → IsHere (91 ∷ inside) piece back → piece ≡ 91 ∷ []
       → IsCutOff inside → FindsInExtras (91 ∷ inside) UnclosedBracket piece back
 
--- ---- what is asked: 40 and 41 are the parentheses, 64 is `@`, 59 is `;`
+-- ---- versions or URL: 40 and 41 are the parentheses, 64 is `@`, 59 is `;`
 
--- specifiers stand at the front of a text, each with a comma behind it, and then this is left
+-- specifiers are at the front of a text, each with a comma after it, and then this is left
 pub data Preceded (end : ℕ) (input : List ℕ) : List ℕ → Type 0 where
   none : Preceded end input input
   more : {left next : List ℕ} {s : specifiers.Specifier} → Preceded end input left
       → IsSpecifierText (piece_of end left) s → after_piece end left ≡ 44 ∷ next
       → Preceded end input next
 
--- a piece between commas is no specifier, and this is what is wrong with it
+-- a piece between commas is an invalid specifier, and this is what is wrong with it
 pub data FindsInSpecifiers (end : ℕ) (input : List ℕ) : FaultKind → List ℕ → List ℕ → Type 0 where
   no_specifier : {left piece back : List ℕ} {error : VersionSpecifierError}
       → Preceded end input left → IsHere left piece back → piece ≡ piece_of end left
       → ((s : specifiers.Specifier) → ¬ IsSpecifierText piece s) → IsToldOf error piece
       → FindsInSpecifiers end input (Specifier error) piece back
 
--- what is wrong with what is asked
+-- what is wrong with the versions or URL
 pub data FindsInAsked : List ℕ → FaultKind → List ℕ → List ℕ → Type 0 where
-  -- no URL stands behind `@`
+  -- no URL follows `@`
   no_url : {behind piece back : List ℕ} → IsHere (after_space behind) piece back → piece ≡ []
       → url_of BehindName 0 (after_space behind) ≡ []
       → FindsInAsked (64 ∷ behind) NoUrl piece back
-  -- the parenthesis is never closed: the last piece goes on to the end of the text
+  -- the parenthesis is never closed: the last piece is the rest of the text
   unclosed : {behind left piece back : List ℕ} → IsHere (40 ∷ behind) piece back
       → piece ≡ 40 ∷ [] → Preceded 41 (after_space behind) left → after_piece 41 left ≡ []
       → FindsInAsked (40 ∷ behind) UnclosedParenthesis piece back
@@ -157,7 +157,7 @@ pub data FindsInAsked : List ℕ → FaultKind → List ℕ → List ℕ → Typ
 abbrev pub run_at_name : List ℕ → List ℕ
 run_at_name text = encode_utf8_all (run_of NotSpace (after_space (chars text)))
 
--- what may stand behind a name and its extras: `@`, `(`, a specifier, or `;`
+-- what may follow a name and its extras: `@`, `(`, a specifier, or `;`
 abbrev pub may_follow_name : ℕ → Bool
 may_follow_name c = c == 64 || (c == 40 || (c == 59 || is_comparison c))
 
@@ -171,38 +171,38 @@ pub record IsBehindExtras (text behind : List ℕ) : Type 0 where
   pub extras_are : IsExtras (after_space after_name) after_extras extras
   pub behind_is : after_space after_extras ≡ behind
 
--- a character that nothing of a requirement begins with stands behind the name and the extras
+-- the name and the extras are followed by a character with which nothing of a requirement begins
 pub record IsBroken (text : List ℕ) : Type 0 where
   pub c : ℕ
   pub others : List ℕ
   pub behind : IsBehindExtras text (c ∷ others)
   pub no_body : may_follow_name c ≡ false
 
--- what is wrong with a requirement up to its marker; `value` is what variables stand for
+-- what is wrong with a requirement up to its marker; `value` has the values of variables
 pub data FindsInHead (value : List ℕ → List ℕ) (text : List ℕ)
     : FaultKind → List ℕ → List ℕ → Type 0 where
   -- nothing but white space: its first character, or the end of an empty text
   blank : {piece back : List ℕ} → after_space (chars text) ≡ [] → text ≡ piece ++ back
       → (text ≡ []) ⊎ IsCharacter piece (λ c. ⊤) → FindsInHead value text Blank piece back
-  -- another character stands in place of a name, and no path or URL
+  -- another character is in place of a name, and no path or URL
   no_name : {piece back : List ℕ} → IsHere (after_space (chars text)) piece back
       → IsCharacter piece (λ c. is_ascii_alphanumeric c ≡ false)
       → ¬ NamesNoPackage value (run_at_name text) → FindsInHead value text NoName piece back
-  -- a path or URL that no name begins stands in its place
+  -- a path or URL with which no name begins is in place of a name
   unnamed_path : {piece back : List ℕ} → IsHere (after_space (chars text)) piece back
       → piece ≡ run_at_name text → NamesNoPackage value piece
       → begins_name (after_space (chars text)) ≡ false
       → FindsInHead value text PathWithoutName piece back
-  -- a separator stands last of the characters of the name
+  -- the last character of the name is a separator
   name_end : {piece back : List ℕ} → EndsNoName (after_space (chars text)) piece
       → chars back ≡ after_run NamePart (after_space (chars text))
       → FindsInHead value text NameEnd piece back
-  -- the extras behind the name
+  -- the extras after the name
   extras : {after_name name piece back : List ℕ} {kind : FaultKind}
       → IsNameAt (after_space (chars text)) after_name name
       → FindsInExtras (after_space after_name) kind piece back
       → FindsInHead value text kind piece back
-  -- another character stands behind the name and the extras, and all is no path or URL
+  -- another character follows the name and the extras, and the whole is not a path or URL
   no_body : {piece back : List ℕ} → IsBehindExtras text (chars (piece ++ back))
       → IsCharacter piece (λ c. may_follow_name c ≡ false)
       → ¬ NamesNoPackage value (run_at_name text) → FindsInHead value text NoBody piece back
@@ -210,17 +210,17 @@ pub data FindsInHead (value : List ℕ → List ℕ) (text : List ℕ)
   unnamed_url : {piece back : List ℕ} → IsHere (after_space (chars text)) piece back
       → piece ≡ run_at_name text → NamesNoPackage value piece → IsBroken text
       → FindsInHead value text UrlWithoutName piece back
-  -- the name is that of an archive, and nothing is asked
+  -- the name is that of an archive, without versions or URL
   unnamed_archive : {behind piece back : List ℕ} → IsHere (after_space (chars text)) piece back
       → piece ≡ written_name (chars text) → IsArchive piece → IsBehindExtras text behind
       → IsBare behind → FindsInHead value text ArchiveWithoutName piece back
-  -- what is asked behind the name and the extras
+  -- the versions or URL after the name and the extras
   asked : {behind piece back : List ℕ} {kind : FaultKind} → IsBehindExtras text behind
       → FindsInAsked behind kind piece back → FindsInHead value text kind piece back
 
 -- what is wrong with a requirement without a name, up to its marker
 pub data FindsInUnnamed (text : List ℕ) : FaultKind → List ℕ → List ℕ → Type 0 where
-  -- no URL stands there
+  -- there is no URL
   no_url : {piece back : List ℕ} → IsHere (after_space (chars text)) piece back → piece ≡ []
       → url_of Alone 0 (after_space (chars text)) ≡ [] → FindsInUnnamed text NoUrl piece back
   -- the extras at the end of the URL
@@ -242,19 +242,19 @@ pub record EndsWithMark (text piece : List ℕ) : Type 0 where
   pub joined : text ≡ front ++ piece
   pub mark : (piece ≡ 59 ∷ []) ⊎ (piece ≡ 35 ∷ [])
 
--- what is wrong with `rest` behind a URL, as it is written
+-- what is wrong with `rest` after a URL, as it is written
 pub data FindsInTail (url rest : List ℕ) : FaultKind → List ℕ → List ℕ → Type 0 where
   -- the URL ends with `;` or `#`, and no marker follows
   ambiguous : {piece back : List ℕ} → EndsWithMark url piece → back ≡ rest
       → goes_on (after_space (chars rest)) ≡ true → FindsInTail url rest AmbiguousEnd piece back
-  -- another character stands where the text ends, or its marker begins
+  -- another character is in place of the end or a marker
   trailing : {piece back : List ℕ} → IsHere (after_space (chars rest)) piece back
       → IsCharacter piece (λ c. c ≢ 59) → ((mark : List ℕ) → ¬ EndsWithMark url mark)
       → FindsInTail url rest Trailing piece back
 
 -- ---- faults of a text
 
--- a fault of this kind stands in the text, and this is found there
+-- the text has a fault of this kind, and this is found there
 pub record IsFaultAt (Finds : FaultKind → List ℕ → List ℕ → Type 0) (text : List ℕ)
     (kind : FaultKind) (piece : List ℕ) (left : ℕ) : Type 0 where
   pub place : IsPiece text piece left
@@ -271,7 +271,7 @@ IsExtrasFault text = IsFaultBy (FindsInExtras (chars text)) text
 abbrev pub IsSpecifiersFault : ℕ → List ℕ → Fault → Type 0
 IsSpecifiersFault end text = IsFaultBy (FindsInSpecifiers end (chars text)) text
 
--- of what is asked at its front
+-- of the versions or URL at its front
 abbrev pub IsAskedFault : List ℕ → Fault → Type 0
 IsAskedFault text = IsFaultBy (FindsInAsked (chars text)) text
 
@@ -304,7 +304,7 @@ abbrev pub RefusesSpecifiers : ℕ → List ℕ → Refusal Fault → Type 0
 RefusesSpecifiers end text =
     IsRefused (IsSpecifiersFault end text) (HasNoSpecifiers end (chars text))
 
--- with nothing that a requirement may ask
+-- without the versions or URL of a requirement
 abbrev pub RefusesAsked : List ℕ → Refusal Fault → Type 0
 RefusesAsked text = IsRefused (IsAskedFault text) (HasNoAsked (chars text))
 
@@ -312,7 +312,7 @@ RefusesAsked text = IsRefused (IsAskedFault text) (HasNoAsked (chars text))
 abbrev pub RefusesName : (List ℕ → List ℕ) → List ℕ → Refusal Fault → Type 0
 RefusesName value text = IsRefused (IsFault value text) (HasNoName (after_space (chars text)))
 
--- with a name and extras, behind which nothing stands that it may ask
+-- with a name and extras that no versions or URL follow
 abbrev pub RefusesAskedIn : (List ℕ → List ℕ) → List ℕ → List ℕ → Refusal Fault → Type 0
 RefusesAskedIn value text behind =
     IsRefused (IsFault value text) (HasNoAskedIn (chars text) (chars behind))

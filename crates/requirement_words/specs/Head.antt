@@ -1,6 +1,6 @@
 -- A requirement up to its marker: a name, extras, and version specifiers, a URL, or neither (PEP
--- 508, "Grammar"). Each relation goes from what is left of the text before a part to what is left
--- behind it; texts are lists of characters.
+-- 508, "Grammar"). Each relation goes from the text before a part to the rest after it; texts are
+-- lists of characters.
 use Rattle.std.specs.Prelude.{◌≡◌, ◌≢◌, ℕ, Bool, true, false, List, [], ◌∷◌, ◌++◌, encode_utf8_all}
 use Rattle.std.specs.Str.{chars}
 use Rattle.pep508_text.specs.Class.{is_comparison}
@@ -18,7 +18,8 @@ use Rattle.pep508_text.specs.declared.classes.Class.TheVariants.{NamePart}
 use Rattle.requirement_words.specs.declared.url.UrlPlace.{UrlPlace}
 use Rattle.requirement_words.specs.declared.url.UrlPlace.TheVariants.{BehindName}
 
--- what a requirement asks: nothing, specifiers as a set, or the text of a URL, as its bytes
+-- the versions or URL of a requirement: nothing, specifiers as a set, or the text of a URL, as its
+-- bytes
 pub data Asked : Type 0 where
   nothing : Asked
   specifiers : List Specifier → Asked
@@ -55,17 +56,17 @@ pub data IsAsked : List ℕ → List ℕ → Asked → Type 0 where
       → IsSpecifiers 41 (after_space input) (41 ∷ output) set
       → IsAsked (40 ∷ input) output (specifiers set)
 
--- the name at the front of a text, behind white space, as it is written
+-- the name at the front of a text, after white space, as it is written
 abbrev pub written_name : List ℕ → List ℕ
 written_name input = encode_utf8_all (run_of NamePart (after_space input))
 
--- this is asked behind the name and the extras of a text; where nothing is, the name as it is
--- written is none of an archive
+-- the versions or URL after the name and the extras of a text; without any, the name as it is
+-- written is not that of an archive
 pub record IsAskedIn (text behind output : List ℕ) (asked : Asked) : Type 0 where
   pub asks : IsAsked behind output asked
   pub no_archive : asked ≡ nothing → ¬ IsArchive (written_name text)
 
--- a name, extras and what is asked, with any white space before each
+-- a name, extras and versions or URL, with any white space before each
 pub record IsHead (input output : List ℕ) (name : List ℕ) (extras : List (List ℕ)) (asked : Asked)
     : Type 0 where
   pub after_name : List ℕ
@@ -74,7 +75,7 @@ pub record IsHead (input output : List ℕ) (name : List ℕ) (extras : List (Li
   pub extras_are : IsExtras (after_space after_name) after_extras extras
   pub asks : IsAskedIn input (after_space after_extras) output asked
 
--- what stands there is nothing that a requirement may ask
+-- the text begins with no versions or URL of a requirement
 abbrev pub HasNoAsked : List ℕ → Type 0
 HasNoAsked input = (output : List ℕ) (asked : Asked) → ¬ IsAsked input output asked
 
@@ -86,7 +87,7 @@ abbrev pub HasNoHead : List ℕ → Type 0
 HasNoHead input = (output name : List ℕ) (extras : List (List ℕ)) (asked : Asked)
     → ¬ IsHead input output name extras asked
 
--- a URL that is asked stands in the text, as bytes, right before what is left
+-- the URL of a requirement is in the text, as bytes, directly before the rest
 abbrev pub IsPlaced : List ℕ → Asked → List ℕ → Type 0
 IsPlaced text asked rest = (piece : List ℕ) → asked ≡ url piece → IsSuffix text (piece ++ rest)
 
@@ -95,8 +96,8 @@ abbrev pub IsHeadOf : List ℕ → declared_head.Head → List ℕ → Type 0
 IsHeadOf text head rest =
     IsHead (chars text) (chars rest) head.name head.extras.items (asked_of head.asked)
 
--- a text has one reading as a requirement: its name, its extras, what is asked, and where its
--- marker begins
+-- a text is parsed as a requirement in one way: its name, its extras, versions or URL, and where
+-- its marker begins
 abbrev pub HeadIsUnique : Type 0
 HeadIsUnique = (text rest left name other : List ℕ) (extras others : List (List ℕ))
     (asked wanted : Asked)

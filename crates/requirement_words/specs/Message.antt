@@ -20,7 +20,7 @@ missing_name_text example =
     codes "URL requirement must be preceded by a package name. Add the name of the package before the URL (e.g., `package_name @ "
     ++ (example ++ codes "`).")
 
--- the message of a fault; the piece is what stands at its place
+-- the message of a fault; the piece is the text at its place
 abbrev pub message_of : FaultKind → List ℕ → Option (List ℕ)
 message_of Blank piece = Some (codes "Empty field is not allowed for PEP508")
 message_of NoName piece = Some (expected_text (codes "package name starting with an alphanumeric character") piece)
@@ -41,7 +41,7 @@ message_of PathWithoutName piece = Some (missing_name_text (codes "/path/to/file
 message_of UrlWithoutName piece = Some (missing_name_text (codes "https://..."))
 message_of ArchiveWithoutName piece = Some (missing_name_text (codes "https://..."))
 
--- the fault is that a path, a URL or an archive stands without a name
+-- the fault is a path, a URL or an archive without a name
 abbrev pub is_unsupported : FaultKind → Bool
 is_unsupported PathWithoutName = true
 is_unsupported UrlWithoutName = true

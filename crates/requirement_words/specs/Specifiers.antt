@@ -41,12 +41,12 @@ pub record IsSpecifiers (end : ℕ) (input output : List ℕ) (set : List Specif
   pub pieces : Pieces end input output list
   pub is_set : IsSetOf list set
 
--- no specifiers stand there
+-- the text begins with no specifiers
 abbrev pub HasNoSpecifiers : ℕ → List ℕ → Type 0
 HasNoSpecifiers end input =
     (output : List ℕ) (set : List Specifier) → ¬ IsSpecifiers end input output set
 
--- a text has one reading as specifiers up to a character: the set, and where they end
+-- a text is parsed as specifiers up to a character in one way: the set, and where they end
 abbrev pub SpecifiersAreUnique : Type 0
 SpecifiersAreUnique = (end : ℕ) (text rest left : List ℕ) (set other : List Specifier)
     → IsSpecifiers end text rest set → IsSpecifiers end text left other

@@ -13,7 +13,7 @@ use Rattle.requirement_words.specs.Head.{Asked, nothing, specifiers, url, IsHead
 abbrev pub later_names : List (List ℕ) → List ℕ
 later_names names = flat_map (λ n. 44 ∷ n) names
 
--- extras in brackets (91 and 93), or nothing where there are none
+-- extras in brackets (91 and 93), or nothing without any
 abbrev pub extras_text : List (List ℕ) → List ℕ
 extras_text [] = []
 extras_text (n ∷ names) = 91 ∷ (n ++ (later_names names ++ (93 ∷ [])))
@@ -36,7 +36,7 @@ asked_text (url text) = 32 ∷ (64 ∷ (32 ∷ text))
 abbrev pub head_text : List ℕ → List (List ℕ) → Asked → List ℕ
 head_text name extras asked = name ++ (extras_text extras ++ asked_text asked)
 
--- what is printed behind it: nothing, or a space, `;` (59) and the marker; and that without the
+-- what is printed after it: nothing, or a space, `;` (59) and the marker; and that without the
 -- space
 pub data IsTailText : List ℕ → List ℕ → Type 0 where
   no_marker : IsTailText [] []
@@ -53,13 +53,13 @@ IsPrintedAs (specifiers []) = ⊥
 IsPrintedAs (specifiers (s ∷ others)) = IsSet (s ∷ others)
 IsPrintedAs (url text) = ⊥
 
--- a requirement whose text is read back: with a name and extras in their normal forms
+-- a requirement whose text parses back: with a name and extras in their normal forms
 pub record IsPrintable (name : List ℕ) (extras : List (List ℕ)) (asked : Asked) : Type 0 where
   pub named : IsNormal name
   pub extras_are : AllByRecursion IsNormal extras
   pub asks : IsPrintedAs asked
 
--- such a text is read back, whatever is printed behind it
+-- such a text parses back, whatever is printed after it
 abbrev pub HeadTextReadsBack : Type 0
 HeadTextReadsBack = (name : List ℕ) (extras : List (List ℕ)) (asked : Asked) (tail left : List ℕ)
     → IsPrintable name extras asked → IsTailText tail left

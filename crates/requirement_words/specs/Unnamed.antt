@@ -8,7 +8,7 @@ use Rattle.requirement_words.specs.Head.{IsUrl}
 use Rattle.requirement_words.specs.declared.unnamed.UnnamedHead as declared
 use Rattle.requirement_words.specs.declared.url.UrlPlace.TheVariants.{Alone}
 
--- the URL as it is written, as its bytes, is a URL and extras behind it, which end where it does;
+-- the URL as it is written, as its bytes, is a URL and extras after it, which end where it does;
 -- `output` follows it
 pub data IsCut (given output url : List ℕ) (names : List (List ℕ)) : Type 0 where
   bare : ((before extras : List ℕ) → ¬ SplitsExtras given before extras) → url ≡ given
@@ -30,8 +30,8 @@ abbrev pub IsUnnamedHeadOf : List ℕ → declared.UnnamedHead → List ℕ → 
 IsUnnamedHeadOf text head rest =
     IsUnnamedHead (chars text) (chars rest) head.given.now head.url.now head.extras.items
 
--- a text has one reading as one: the URL as it is written, the URL without its extras, those, and
--- where the marker begins
+-- a text is parsed as one in one way: the URL as it is written, the URL without its extras, the
+-- extras, and where the marker begins
 abbrev pub UnnamedHeadIsUnique : Type 0
 UnnamedHeadIsUnique = (text rest left given written url other : List ℕ)
     (extras others : List (List ℕ))

@@ -1,4 +1,4 @@
--- Where the URL of a requirement ends. (This project's own; PEP 508 leaves it open.)
+-- The end of the URL of a requirement. (This project's own; PEP 508 leaves it open.)
 use Rattle.std.specs.Prelude.{ℕ, ◌+◌, ◌-◌, Bool, true, false, List, [], ◌∷◌, ◌||◌, ◌&&◌, ◌==◌, if◌then◌else◌}
 use Rattle.std.specs.Char.{is_whitespace}
 use Rattle.pep508_text.specs.Run.{after_space}
@@ -6,14 +6,14 @@ use Rattle.pep508_text.specs.Class.{is_line_break}
 use Rattle.requirement_words.specs.declared.url.UrlPlace.{UrlPlace}
 use Rattle.requirement_words.specs.declared.url.UrlPlace.TheVariants.{BehindName, Alone}
 
--- How many `[` (91) are open behind a character, where so many were before it. A `]` (93) with none
--- open does not count, and behind a name no bracket counts.
+-- How many `[` (91) are open after a character, if so many were before it. A `]` (93) with none
+-- open does not count, and after a name no bracket counts.
 abbrev pub open_behind : UrlPlace → ℕ → ℕ → ℕ
 open_behind BehindName c brackets = brackets
 open_behind Alone c brackets =
     if c == 91 then brackets + 1 else (if c == 93 then brackets - 1 else brackets)
 
--- what may stand behind white space that ends a URL: the end, `;` (59) or `#` (35)
+-- what may follow white space that ends a URL: the end, `;` (59) or `#` (35)
 abbrev pub is_url_stop : List ℕ → Bool
 is_url_stop [] = true
 is_url_stop (c ∷ cs) = c == 59 || c == 35
@@ -22,8 +22,8 @@ is_url_stop (c ∷ cs) = c == 59 || c == 35
 abbrev pub may_end_before : ℕ → ℕ → Bool
 may_end_before brackets c = brackets == 0 && is_whitespace c
 
--- A URL ends before this: at the end, at a line break, and with no bracket open at white space
--- behind which the end, `;` or `#` stands.
+-- A URL ends before this: at the end, at a line break, and with no bracket open at white space that
+-- the end, `;` or `#` follows.
 abbrev pub stops : ℕ → List ℕ → Bool
 stops brackets [] = true
 stops brackets (c ∷ cs) =
@@ -33,11 +33,11 @@ abbrev pub begins_space : List ℕ → Bool
 begins_space [] = false
 begins_space (c ∷ cs) = is_whitespace c
 
--- a URL ends behind this character: with no bracket open at a `;` or `#` that white space follows
+-- a URL ends after this character: with no bracket open at a `;` or `#` that white space follows
 abbrev pub closes : ℕ → ℕ → List ℕ → Bool
 closes brackets c cs = (brackets == 0 && (c == 59 || c == 35)) && begins_space cs
 
--- the URL at the front, with so many brackets open: it goes on up to the first place where it ends
+-- the URL at the front, with so many brackets open: it extends to the first place where it ends
 abbrev pub url_of : UrlPlace → ℕ → List ℕ → List ℕ
 url_of place brackets [] = []
 url_of place brackets (c ∷ cs) =

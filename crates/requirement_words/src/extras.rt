@@ -16,7 +16,7 @@ use pep508_text::{Class, Place, first, skip_space, split_run, strip};
 use refusal::Refusal;
 use std::alloc::Global;
 
-// Whether the character is a comma that no name stands before.
+// Whether the character is a comma before the first name.
 fn is_leading_comma(found: char, names: &[ExtraName]) -> bool
     ensures yes { result ≡ true → (found ≡ 44) × (names.now ≡ []) }
     ensures no { names.now ≡ [] → found ≡ 44 → result ≡ true }
@@ -24,7 +24,7 @@ fn is_leading_comma(found: char, names: &[ExtraName]) -> bool
     found == ',' && names.is_empty()
 }
 
-// What is wrong where a name may stand behind these, and this character does.
+// The fault where a name may follow these, and this character does.
 fn extra_fault<'a>(found: char, here: &'a str, after: &str, names: &[ExtraName]) -> Fault<'a>
     requires first { here.now ≡ encode_utf8 found ++ after.now }
     requires suffix { IsSuffix here.now after.now }
@@ -45,7 +45,7 @@ fn may_follow_extra(c: char) -> bool
     c == ',' || c == ']' || c.is_whitespace()
 }
 
-// What is wrong with a run at the front of `here` that begins as a name and is none.
+// The fault of a run at the front of `here` that begins like a name and is invalid.
 fn extra_end_fault<'a>(here: &'a str, run: &'a str, rest: &'a str) -> Fault<'a>
     requires joined { here.now ≡ run.now ++ rest.now }
     requires run { Run NamePart (chars here.now) (chars run.now) (chars rest.now) }
@@ -63,8 +63,8 @@ fn extra_end_fault<'a>(here: &'a str, run: &'a str, rest: &'a str) -> Fault<'a>
     FaultKind::ExtraEnd.at(Place::at_last(run, rest))
 }
 
-// What is wrong where neither a comma nor the bracket follows a name. `behind` is what follows the
-// name without white space in front, and this character stands in front of it.
+// The fault where neither a comma nor the bracket follows a name. `behind` is the text after the
+// name and white space, which begins with this character.
 fn separator_fault<'a>(found: char, rest: &'a str, behind: &'a str, after: &str) -> Fault<'a>
     requires skipped { chars behind.now ≡ after_space (chars rest.now) }
     requires behind { IsSuffix rest.now behind.now }
@@ -83,13 +83,12 @@ fn separator_fault<'a>(found: char, rest: &'a str, behind: &'a str, after: &str)
     }
 }
 
-/// The extras at the front of a text, and what follows them. There are none, and all of the text
-/// follows, where no bracket stands in front.
+/// Parses the extras at the front of a text. Returns them and the rest; without a bracket there are
+/// none, and the rest is the text.
 ///
 /// # Errors
-///
-/// A fault where a bracket stands in front and no extras do: the kind of it that is true of the
-/// text, at its place.
+/// - The fault that applies to the text, with its place, if it begins with a bracket and an invalid
+///   list.
 pub fn read_extras<'a>(
     alloc: Global,
     text: &'a str,

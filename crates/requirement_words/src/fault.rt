@@ -1,4 +1,4 @@
-//! What is wrong with a requirement, and where.
+//! Faults in requirements, and their places.
 
 ghost use Rattle.std.specs.Prelude.{◌≡◌};
 ghost use Rattle.requirement_words.specs.Message.{is_unsupported, message_of};
@@ -11,21 +11,21 @@ use std::fmt::Display;
 /// What is wrong with a requirement.
 #[derive(Debug, Drop, PartialEq, Eq)]
 pub enum FaultKind {
-    /// The text is white space alone, or empty.
+    /// The text is empty or only white space.
     Blank,
-    /// This character stands where a name is expected.
+    /// There is this character instead of a name.
     NoName,
     /// The name ends with this character.
     NameEnd,
-    /// This character stands behind the name and its extras.
+    /// This character follows the name and its extras.
     NoBody,
-    /// A comma stands where the first extra or the bracket is expected.
+    /// There is a comma instead of the first extra or the bracket.
     LeadingComma,
-    /// This character stands where a comma or the bracket is expected.
+    /// There is this character instead of a comma or the bracket.
     NoSeparator,
-    /// This character stands where the name of an extra is expected.
+    /// There is this character instead of the name of an extra.
     NoExtra,
-    /// This character stands right behind the name of an extra.
+    /// This character directly follows the name of an extra.
     InvalidExtra,
     /// The name of an extra ends with this character.
     ExtraEnd,
@@ -33,24 +33,24 @@ pub enum FaultKind {
     UnclosedBracket,
     /// This parenthesis is never closed.
     UnclosedParenthesis,
-    /// What stands there is no version specifier.
+    /// There is an invalid version specifier.
     Specifier(VersionSpecifierError),
-    /// No URL stands there.
+    /// There is no URL.
     NoUrl,
-    /// The URL ends with this character, no marker follows, and the text goes on.
+    /// The URL ends with this character and no marker follows, but the text goes on.
     AmbiguousEnd,
-    /// This character stands where the text ends, or its marker begins.
+    /// There is this character instead of the end or a marker.
     Trailing,
-    /// A path or URL whose first character no name begins with stands in place of a name.
+    /// There is a path or URL instead of a name, and no name begins with its first character.
     PathWithoutName,
-    /// A path or URL stands in place of a name.
+    /// There is a path or URL instead of a name.
     UrlWithoutName,
-    /// The name is that of an archive, and nothing is asked of it.
+    /// The name is that of an archive, and neither a version nor a URL follows.
     ArchiveWithoutName,
 }
 
 impl FaultKind {
-    // This fault, at a place of the text.
+    // The fault at a place of the text.
     pub(crate) fn at(self, place: Place<'_>) -> Fault<'_>
         ensures kind { result.kind ≡ self }
         ensures place { result.place ≡ place.entry }
@@ -58,8 +58,8 @@ impl FaultKind {
         Fault { kind: self, place }
     }
 
-    /// Whether the fault is a path, a URL or an archive without a name, which a requirement has to
-    /// have.
+    /// Returns whether the fault is a path, a URL or an archive without a name, which a requirement
+    /// must have.
     pub fn is_unsupported(&self) -> bool
         ensures { result ≡ is_unsupported self.now }
     {
@@ -73,9 +73,9 @@ impl FaultKind {
 /// What is wrong with a requirement, and where. It prints as its message.
 #[derive(Debug, Drop, PartialEq, Eq)]
 pub struct Fault<'a> {
-    /// What is wrong there.
+    /// What is wrong.
     pub kind: FaultKind,
-    /// Where the text is wrong.
+    /// Where it is wrong.
     pub place: Place<'a>,
 }
 

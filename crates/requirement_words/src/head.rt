@@ -23,30 +23,29 @@ use pep508_text::{Class, Place, first, skip_space, split_run, strip};
 use refusal::Refusal;
 use std::alloc::Global;
 
-/// What a requirement asks.
+/// The wanted versions or URL of a requirement.
 #[derive(Debug, Drop)]
 pub enum Asked<'a> {
-    /// Nothing: any version will do.
+    /// Any version.
     Nothing,
-    /// Specifiers that all have to hold.
+    /// Specifiers that must all match.
     Specifiers(VersionSpecifiers),
     /// The text of a URL.
     Url(&'a str),
 }
 
-/// A requirement up to its marker (PEP 508, "Grammar"): what stands before `;`, or before the end
-/// of the text.
+/// A requirement up to its marker (PEP 508, "Grammar"): the text before `;`, or all of it.
 #[derive(Debug, Drop)]
 pub struct Head<'a> {
     /// The name of the package.
     pub name: PackageName,
-    /// The extras in brackets behind the name, in the order of the text.
+    /// The extras in brackets after the name, in the order of the text.
     pub extras: Vec<ExtraName>,
-    /// What is asked.
+    /// The wanted versions or URL.
     pub asked: Asked<'a>,
 }
 
-// A text of white space alone.
+// The fault of a text of only white space.
 fn blank_fault(text: &str) -> Fault<'_>
     requires { after_space (chars text.now) ≡ [] }
     ensures { (value : List ℕ → List ℕ) → IsFault value text.now result }
@@ -57,8 +56,8 @@ fn blank_fault(text: &str) -> Fault<'_>
     }
 }
 
-// Why a text is refused where this character stands in place of a name; `start` is the text without
-// white space in front.
+// The refusal of a text with this character instead of a name. `start` is the text without white
+// space at the front.
 fn name_refusal<'a>(
     alloc: Global,
     text: &'a str,
@@ -85,8 +84,7 @@ fn name_refusal<'a>(
     Refusal::Fault(FaultKind::NoName.at(Place::before(start, after)))
 }
 
-// Why a text is refused where this character stands behind the name and the extras, in front of
-// `behind`.
+// The refusal of a text with this character after the name and the extras, before `behind`.
 fn asked_refusal<'a>(
     alloc: Global,
     text: &'a str,
@@ -120,7 +118,7 @@ fn may_follow_name(c: char) -> bool
     matches!(c, '@' | '(' | ';' | '<' | '=' | '>' | '~' | '!')
 }
 
-// The URL behind an `@`, with any white space before it.
+// Parses the URL after an `@` and any white space.
 fn read_url<'a>(text: &'a str, behind: &'a str) -> Result<(Asked<'a>, &'a str), Refusal<Fault<'a>>>
     requires at { chars text.now ≡ 64 ∷ chars behind.now }
     requires suffix { IsSuffix text.now behind.now }
@@ -138,8 +136,8 @@ fn read_url<'a>(text: &'a str, behind: &'a str) -> Result<(Asked<'a>, &'a str), 
     }
 }
 
-// The specifiers between parentheses, with any white space before them. Where the text ends within
-// the last of them, the fault is the parenthesis.
+// Parses the specifiers between parentheses, after any white space. If the text ends within the
+// last of them, the fault is the parenthesis.
 fn read_enclosed<'a>(
     alloc: Global,
     text: &'a str,
@@ -169,7 +167,7 @@ fn read_enclosed<'a>(
     }
 }
 
-// What is asked, and what follows it, where this is not nothing.
+// Parses the versions or URL of a requirement that has some, and returns the rest.
 fn read_something<'a>(
     alloc: Global,
     text: &'a str,
@@ -194,7 +192,7 @@ fn read_something<'a>(
     }
 }
 
-// Nothing is asked, unless the name is that of an archive.
+// Accepts a requirement without versions or URL, unless the name is that of an archive.
 fn read_nothing<'a>(
     text: &'a str,
     behind: &'a str,
@@ -217,7 +215,7 @@ fn read_nothing<'a>(
     Ok((Asked::Nothing, behind))
 }
 
-// What is asked behind the name and the extras, and what follows it.
+// Parses what follows the name and the extras, and returns the rest.
 fn read_asked<'a>(
     alloc: Global,
     text: &'a str,
@@ -248,7 +246,7 @@ fn read_asked<'a>(
     }
 }
 
-// The name at the front of a text, with any white space before it, and what follows it.
+// Parses the name at the front of a text, after any white space, and returns the rest.
 fn read_name<'a>(
     alloc: Global,
     text: &'a str,
@@ -276,12 +274,11 @@ fn read_name<'a>(
     }
 }
 
-/// A requirement up to its marker, and what follows it. The surroundings say what variables stand
-/// for: a path or URL in place of a name is refused as such.
+/// Parses a requirement up to its marker, and returns the rest. The surroundings have the values of
+/// variables: a path or URL instead of a name is rejected as such.
 ///
 /// # Errors
-///
-/// A fault where no requirement begins: the kind of it that is true of the text, at its place.
+/// - The fault that applies to the text, with its place, if no requirement begins there.
 pub fn read_head<'a>(
     alloc: Global,
     text: &'a str,

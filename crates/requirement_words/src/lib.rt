@@ -1,9 +1,11 @@
-//! The words of a requirement (PEP 508): its name, its extras, its version specifiers, where its
-//! URL ends, and what is wrong with a text in which they are not found.
+//! The words of a requirement (PEP 508): its name, extras, version specifiers and where its URL
+//! ends, and the faults of texts without them.
 //!
-//! A reader of a part goes from a text to the part at its front and to what is left behind it. A
-//! fault is known by its place from the end of the text, so that a fault of what is left is one of
-//! the whole.
+//! A parser of a part takes a text and returns the part at its front and the rest. The place of a
+//! fault is counted from the end of the text, so a fault of the rest is one of the whole.
+//!
+//! Calls that allocate return `AllocError` or `OutOfMemory` when memory runs out. No call returns
+//! `SegmentAtEnd`.
 #![tactic(auto)]
 
 mod extras;

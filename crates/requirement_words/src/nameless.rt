@@ -1,4 +1,4 @@
-//! Paths, URLs and archives that stand in place of a name.
+//! Paths, URLs and archives instead of a name.
 
 ghost use Rattle.std.specs.Prelude.{◌≡◌, ◌↔◌, codes, IfNone, IfOk, IfSome, IsTrue, List, ℕ};
 ghost use Rattle.pep508_urls.specs.Variables.{value_of};
@@ -9,8 +9,8 @@ use pep508_errors::Surroundings;
 use pep508_urls::{expand_env_vars, split_extras, split_scheme};
 use std::alloc::{AllocError, Global};
 
-// What stands before the last dot of a file's name, and its extension behind it. There is none
-// where nothing stands before the dot.
+// The part of a file's name before its last dot, and the extension after it. `None` if nothing is
+// before the dot.
 fn split_extension(name: &str) -> Option<(&str, &str)>
     ensures found { IfSome result (λ x. HasExtension name.now x.0.now x.1.now) }
     ensures none { IfNone result ((before extension : List ℕ)
@@ -46,8 +46,8 @@ fn is_tar(extension: &str) -> bool
     extension == "tar"
 }
 
-/// Whether this is the name of an archive: by its extension, as `whl`, `zip` or `tar`, or as `gz`
-/// where the rest has the extension `tar`.
+/// Returns whether this is the name of an archive: by its extension, such as `whl`, `zip` or `tar`,
+/// or `gz` after the extension `tar`.
 pub fn is_archive(name: &str) -> bool
     ensures yes { IsTrue result → IsArchive name.now }
     ensures no { IsArchive name.now → IsTrue result }
@@ -96,10 +96,8 @@ fn is_path_or_url(text: &str) -> bool
     }
 }
 
-/// Whether a run without white space is a path, a URL or an archive that stands without a name. Its
-/// variables are expanded and the extras at its end taken off before it is looked at.
-///
-/// It is refused for want of memory alone.
+/// Returns whether a run without white space is a path, a URL or an archive instead of a name. Its
+/// variables are expanded and the extras at its end are removed first.
 pub fn is_nameless(
     alloc: Global,
     run: &str,

@@ -12,13 +12,11 @@ use pep508_text::{Class, Place, split_run, strip};
 use refusal::Refusal;
 use std::alloc::Global;
 
-/// The specifiers at the front of a text, with a comma between each two, and what follows them.
-/// They go up to the character that ends them, which is no comma, or to the end of the text.
+/// Parses the specifiers at the front of a text, separated by commas, and returns the rest. They
+/// end at the character `end`, which is not a comma, or at the end of the text.
 ///
 /// # Errors
-///
-/// A fault at the first piece that is no specifier, where the empty one is none, with what is wrong
-/// with it.
+/// - The fault of the first piece that is an invalid specifier; an empty piece is one.
 pub fn read_specifiers<'a>(
     alloc: Global,
     text: &'a str,

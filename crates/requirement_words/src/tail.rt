@@ -10,14 +10,12 @@ ghost use Rattle.requirement_words.specs.Tail.{HasNoTail, IsTail};
 use crate::fault::{Fault, FaultKind};
 use pep508_text::{Place, first, skip_space};
 
-/// The text of the marker at the end of a requirement, behind `;`, or `None` where nothing but
-/// white space is left. `url` is the URL that stands in front of it as it is written, or empty
-/// where none does.
+/// Returns the text of the marker after the `;` at the end of a requirement, or `None` if only
+/// white space is left. `url` is the URL before it as it is written, or empty without one.
 ///
 /// # Errors
-///
-/// A fault where anything else is left: at the last character of a URL that ends with `;` or `#`,
-/// and else at the first that is no white space.
+/// - A fault if anything else is left: at the last character of a URL that ends with `;` or `#`,
+///   otherwise at the first character that is not white space.
 pub fn read_tail<'a>(url: &'a str, rest: &'a str) -> Result<Option<&'a str>, Fault<'a>>
     ensures found { IfOk result (λ marker.
         IsTail (chars rest.now) (option_map (λ text. chars text.now) marker)) }

@@ -1,4 +1,4 @@
-//! The texts of extras and of specifiers, as a requirement has them.
+//! The texts of extras and of specifiers in a requirement.
 
 ghost use Rattle.std.specs.Prelude.{Some};
 ghost use Rattle.std.specs.Fmt.{DisplaysOnOk};
@@ -17,7 +17,7 @@ fn write_later_names<W: fmt::Write>(names: &[ExtraName], f: &mut fmt::Formatter<
     Ok(())
 }
 
-/// Writes extras as `[dev,test]`, and nothing where there is none.
+/// Writes extras as `[dev,test]`, and nothing if there are none.
 pub fn write_extras<W: fmt::Write>(extras: &[ExtraName], f: &mut fmt::Formatter<W>) -> fmt::Result
     ensures { DisplaysOnOk W.write_str_gives f.old result (Some (extras_text extras.now)) f.new }
 {
@@ -44,8 +44,7 @@ fn write_later_specifiers<W: fmt::Write>(
     Ok(())
 }
 
-/// Writes specifiers as `>=3.8,<4`, with a comma alone between each two, and nothing where there is
-/// none.
+/// Writes specifiers as `>=3.8,<4`, with only a comma between them, and nothing if there are none.
 pub fn write_specifiers<W: fmt::Write>(
     set: &VersionSpecifiers,
     f: &mut fmt::Formatter<W>,

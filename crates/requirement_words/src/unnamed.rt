@@ -14,7 +14,7 @@ use pep508_urls::split_extras;
 use refusal::Refusal;
 use std::alloc::Global;
 
-/// A requirement without a name, up to its marker: what stands before the end of its URL.
+/// A requirement without a name, up to its marker.
 #[derive(Debug, Drop)]
 pub struct UnnamedHead<'a> {
     /// The URL as it is written, with its extras.
@@ -25,12 +25,11 @@ pub struct UnnamedHead<'a> {
     pub extras: Vec<ExtraName>,
 }
 
-/// A requirement without a name up to its marker, and what follows it: a URL, with any white space
-/// before it and extras in brackets at its end.
+/// Parses a requirement without a name up to its marker, and returns the rest: a URL, after any
+/// white space and with extras in brackets at its end.
 ///
 /// # Errors
-///
-/// A fault where no URL stands there, or at what is wrong with the extras at its end.
+/// - A fault if there is no URL, or the extras at its end are invalid.
 pub fn read_unnamed_head<'a>(
     alloc: Global,
     text: &'a str,
@@ -39,7 +38,7 @@ pub fn read_unnamed_head<'a>(
     ensures refused { IfErr result (RefusesUnnamed text.now) }
     ensures suffix { IfOk result (λ x. IsSuffix text.now x.1.now) }
 
-    // The URL as it is written stands right before what follows it.
+    // The URL as it is written comes directly before the rest.
     ensures placed { IfOk result (λ x. IsSuffix text.now (x.0.given.now ++ x.1.now)) }
 {
     let place = skip_space(text);

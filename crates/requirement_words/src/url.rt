@@ -8,18 +8,17 @@ ghost use Rattle.requirement_words.specs.Url.{after_url, closes, is_url_stop, ma
 
 use pep508_text::{Class, first, is_line_break, skip_space, split_run};
 
-/// Where a URL stands in a requirement.
+/// Where a URL is in a requirement.
 #[derive(Clone, Copy, Debug, PartialEq, Eq)]
 pub enum UrlPlace {
-    /// Behind a name and `@`.
+    /// After a name and `@`.
     BehindName,
-    /// In place of a name. White space, `;` and `#` do not end such a URL while a `[` is open in
-    /// it.
+    /// Instead of a name. White space, `;` and `#` do not end such a URL inside of brackets.
     Alone,
 }
 
 impl UrlPlace {
-    // How many brackets are open behind the character, where so many were before it.
+    // How many brackets are open after the character, if `brackets` were open before it.
     fn open_behind(self, c: char, brackets: usize) -> usize
         requires { brackets < 18446744073709551615 }
         ensures { result ≡ open_behind self c brackets }
@@ -32,7 +31,7 @@ impl UrlPlace {
     }
 }
 
-// Whether a URL that has white space behind it ends there.
+// Whether a URL that is followed by white space ends there.
 fn is_url_stop(text: &str) -> bool
     ensures { result ≡ is_url_stop (chars text.now) }
 {
@@ -42,14 +41,14 @@ fn is_url_stop(text: &str) -> bool
     }
 }
 
-// Whether a URL with so many open brackets may end before this character: it is white space.
+// Whether a URL with `brackets` open brackets may end before this character, which is white space.
 fn may_end_before(brackets: usize, c: char) -> bool
     ensures { result ≡ may_end_before brackets c }
 {
     brackets == 0 && c.is_whitespace()
 }
 
-// Whether a URL with so many open brackets ends behind this character.
+// Whether a URL with `brackets` open brackets ends after this character.
 fn closes(brackets: usize, c: char, after: &str) -> bool
     ensures { result ≡ closes brackets c (chars after.now) }
 {
@@ -62,11 +61,11 @@ fn closes(brackets: usize, c: char, after: &str) -> bool
     }
 }
 
-/// The URL at the front of the text, and what follows it. Either may be empty.
+/// Returns the URL at the front of the text, and the rest. Either may be empty.
 ///
-/// It ends at a line break, before white space behind which the text ends or a `;` or `#` stands,
-/// right behind a `;` or `#` that white space follows, and else at the end. Each run of white space
-/// is looked past once.
+/// It ends at a line break; before white space that is followed by the end, `;` or `#`; after a `;`
+/// or `#` that is followed by white space; or else at the end. Each run of white space is scanned
+/// once.
 pub fn split_url(text: &str, place: UrlPlace) -> (&str, &str)
     ensures joined { text.now ≡ result.0.now ++ result.1.now }
     ensures bytes { result.0.now ≡ encode_utf8_all (url_of place 0 (chars text.now)) }

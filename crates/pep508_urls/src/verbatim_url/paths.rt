@@ -20,8 +20,8 @@ use std::alloc::Global;
 use url::{ParseError, ParseResult, Url};
 
 impl VerbatimUrl {
-    /// The `file` URL of a path, without a given text. A relative path starts from the folder
-    /// `base`, which must be absolute even if the path is.
+    /// Returns the `file` URL of a path, without a given text. A relative path starts from the
+    /// folder `base`, which must be absolute even if the path is.
     ///
     /// # Errors
     /// - [`VerbatimUrlError::WorkingDirectory`] with the base if that is not absolute.
@@ -52,7 +52,7 @@ impl VerbatimUrl {
         from_whole_path(alloc, whole.as_str())
     }
 
-    /// The `file` URL of an absolute path, without a given text.
+    /// Returns the `file` URL of an absolute path, without a given text.
     ///
     /// # Errors
     /// - [`VerbatimUrlError::WorkingDirectory`] with the path if that is not absolute.
@@ -73,7 +73,7 @@ impl VerbatimUrl {
         from_whole_path(alloc, path)
     }
 
-    /// The path of a `file` URL without a host, with its percent-escapes decoded.
+    /// Returns the path of a `file` URL without a host, with its percent-escapes decoded.
     ///
     /// # Errors
     /// - [`VerbatimUrlError::UrlConversion`] with the URL's text for any other URL, and if the

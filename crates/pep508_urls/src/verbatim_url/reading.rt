@@ -38,7 +38,7 @@ impl Pep508Url for VerbatimUrl {
             (spec.TextMayOverflow text.now surroundings.now) }
         ensures no_end { IfErr result (λ refusal. refusal ≢ SegmentAtEnd) }
 
-        // A fault is the one of the URL or the path that the text stands for.
+        // A fault is that of the URL or path that the text denotes.
         ensures told { FaultIs result (spec.IsFaultIn text.now surroundings.now) }
     {
         let expanded = expand_env_vars(alloc, text, surroundings)?;
@@ -50,7 +50,7 @@ impl Pep508Url for VerbatimUrl {
     }
 }
 
-// The URL of what a text stands for. A path starts from the folder, if there is one.
+// The URL of a target. A relative path starts from the folder, if there is one.
 fn url_of(
     alloc: Global,
     target: &Target<'_>,
