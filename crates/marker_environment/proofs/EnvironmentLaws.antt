@@ -27,7 +27,7 @@ unread {old} {new} extras sets =
     let versions : (variable : VersionVariable) → new.version (version_variable_key variable) ≡ old.version (version_variable_key variable) = λ variable. sets.others (version_variable_key variable) (not_python_version variable) in
     λ i. record (valuation_of (record { text = texts i; version = old.version }) extras) { version = λ variable. at (versions variable i).version }
 
--- a text of a version key is refused as no version, or for want of memory
+-- the text of a version key is refused as an invalid version, or because memory ran out
 pub refused : (b : MarkerEnvironmentBuilder) (key : MarkerValueVersion) (refusal : Refusal VersionParseError)
     → ((v : Parts) → IsVersionText (version_texts_of b key) v → refusal ≡ OutOfMemory) → refusal ≢ SegmentAtEnd
     → IfFault refusal (λ fault. string_bytes fault.text ≡ version_texts_of b key) → IsRefusal b refusal

@@ -1,4 +1,4 @@
--- A part of a text by its place is a part by what stands before and behind it.
+-- A substring at a place is one between a front and a back.
 use Rattle.std.proofs.Common.{◌≡◌, ◌⊎◌, ◌==◌, ℕ, Bool, true, false, List, [], ◌∷◌, ◌++◌, refl, sym, ap, ◌∙◌, inl, inr}
 use Rattle.std.proofs.lemmas.Bool.{and_parts, and_from, or_left, or_right, or_cases, eqb-true, eq-eqb}
 use Rattle.std.proofs.lemmas.Str.Pattern.{contains_text}
@@ -44,7 +44,7 @@ same_truth true b there back = sym (there refl)
 same_truth false true there back = back refl
 same_truth false false there back = refl
 
--- what `contains` of a text answers for a text
+-- the result of `contains` for a text
 pub contains_is_part_of : (found : Bool) (part text : List ℕ) → MatchBool found (HasMatch (FindsText part) text) (FindsText part text None) → found ≡ is_part_of part text
 contains_is_part_of found part text h =
     let decides = contains_text found part text h in

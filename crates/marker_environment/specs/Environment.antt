@@ -67,7 +67,7 @@ version_texts_of b ImplementationVersion = b.implementation_version.now
 version_texts_of b PythonFullVersion = b.python_full_version.now
 version_texts_of b PythonVersion = b.python_version.now
 
--- memory ran out, or the text of a version key is no version, which is told as that text's fault
+-- memory ran out, or the text of a version key is an invalid version, with its fault
 abbrev pub IsRefusal : MarkerEnvironmentBuilder → Refusal VersionParseError → Type 0
 IsRefusal b OutOfMemory = ⊤
 IsRefusal b SegmentAtEnd = ⊥

@@ -6,7 +6,7 @@ begins_with [] text = true
 begins_with (c ∷ front) [] = false
 begins_with (c ∷ front) (d ∷ text) = c == d && begins_with front text
 
--- whether the first text stands somewhere in the second
+-- whether the first text is a substring of the second
 abbrev pub is_part_of : List ℕ → List ℕ → Bool
 is_part_of part [] = begins_with part []
 is_part_of part (c ∷ text) = begins_with part (c ∷ text) || is_part_of part text

@@ -1,4 +1,4 @@
--- What a marker asks about, and the answers.
+-- The variables of markers, and their values.
 use Rattle.std.specs.Prelude.{ℕ, Bool, List}
 use Rattle.version_ranges.specs.Point.{Point}
 use Rattle.pep440_version.specs.Parts.{Parts}
@@ -16,5 +16,5 @@ pub record Valuation : Type 0 where
   pub contains : TextVariable → List ℕ → Bool
   -- a valid extra, by its normal name
   pub extra : List ℕ → Bool
-  -- an extra that is no name, by its text
+  -- an extra that is an invalid name, by its text
   pub arbitrary : List ℕ → Bool

@@ -6,9 +6,9 @@ use pep440_version::VersionParseError;
 use refusal::Refusal;
 use std::alloc::Global;
 
-/// The texts from which an environment is made, one for each modern key (PEP 508, "Environment
-/// Markers"). They are lent. Those of the three version keys have to be texts of versions, and
-/// [`MarkerEnvironment::try_from`](crate::MarkerEnvironment::try_from) refuses one that is none.
+/// The texts of an environment, one for each modern key (PEP 508, "Environment Markers").
+/// [`MarkerEnvironment::try_from`](crate::MarkerEnvironment::try_from) copies them, and rejects an
+/// invalid version of one of the three version keys.
 ///
 /// ```
 /// const LINUX: MarkerEnvironmentBuilder<'static> = MarkerEnvironmentBuilder {
@@ -27,28 +27,28 @@ use std::alloc::Global;
 /// ```
 #[derive(Clone, Copy, Debug, PartialEq, Eq, Hash)]
 pub struct MarkerEnvironmentBuilder<'a> {
-    /// Python's `sys.implementation.name`, as `cpython`.
+    /// Python's `sys.implementation.name`, such as `cpython`.
     pub implementation_name: &'a str,
-    /// Python's `sys.implementation.version`, the text of a version.
+    /// Python's `sys.implementation.version`, as the text of a version.
     pub implementation_version: &'a str,
-    /// Python's `os.name`, as `posix`.
+    /// Python's `os.name`, such as `posix`.
     pub os_name: &'a str,
-    /// Python's `platform.machine()`, as `x86_64`.
+    /// Python's `platform.machine()`, such as `x86_64`.
     pub platform_machine: &'a str,
-    /// Python's `platform.python_implementation()`, as `CPython`.
+    /// Python's `platform.python_implementation()`, such as `CPython`.
     pub platform_python_implementation: &'a str,
-    /// Python's `platform.release()`, as `6.1`.
+    /// Python's `platform.release()`, such as `6.1`.
     pub platform_release: &'a str,
-    /// Python's `platform.system()`, as `Linux`.
+    /// Python's `platform.system()`, such as `Linux`.
     pub platform_system: &'a str,
     /// Python's `platform.version()`.
     pub platform_version: &'a str,
-    /// Python's `platform.python_version()`, the text of a version.
+    /// Python's `platform.python_version()`, as the text of a version.
     pub python_full_version: &'a str,
-    /// The first two numbers of Python's version, the text of a version. Markers do not ask for it:
-    /// their comparisons of `python_version` ask for `python_full_version`.
+    /// The first two numbers of Python's version, as the text of a version. Markers do not read it:
+    /// they compare `python_version` through `python_full_version`.
     pub python_version: &'a str,
-    /// Python's `sys.platform`, as `linux`.
+    /// Python's `sys.platform`, such as `linux`.
     pub sys_platform: &'a str,
 }
 
@@ -57,7 +57,7 @@ impl MarkerEnvironmentBuilder<'_> {
     ghost use Rattle.marker_environment.specs.Written.{written, Says};
     ghost use Rattle.marker_environment.specs.Environment.{version_texts_of, IsRefusal};
 
-    // The version that the text of the key says.
+    // The version of the key's text.
     #[tactic(auto, using(crate::proofs::EnvironmentLaws::refused))]
     pub(crate) fn version(
         &self,

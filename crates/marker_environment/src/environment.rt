@@ -48,10 +48,12 @@ impl MarkerEnvironment {
     ghost use Rattle.marker_environment.specs.Written.{written, Says};
     ghost use Rattle.marker_environment.specs.Environment.{text_of, version_of, values_of, texts_of, version_texts_of, IsRefusal, SetsText, SetsVersion};
 
-    /// An environment with copies of the builder's texts, and the versions that those of the
-    /// version keys say.
+    /// Returns an environment with copies of the builder's texts, and the versions of the version
+    /// keys.
     ///
-    /// Where one of these is no version, its fault is the refusal. `SegmentAtEnd` never comes.
+    /// # Errors
+    /// - [`Refusal::Fault`] if the text of a version key is an invalid version, with its fault.
+    /// - [`Refusal::OutOfMemory`] when memory runs out.
     pub fn try_from(
         alloc: Global,
         builder: MarkerEnvironmentBuilder<'_>,
@@ -83,7 +85,7 @@ impl MarkerEnvironment {
         })
     }
 
-    /// The value of the variable.
+    /// Returns the value of the variable.
     pub fn text(&self, variable: TextVariable) -> &str
         ensures { result.now ≡ text_of self.now variable }
     {
@@ -99,7 +101,7 @@ impl MarkerEnvironment {
         }
     }
 
-    /// The value of the version key.
+    /// Returns the value of the version key.
     pub fn string_version(&self, key: MarkerValueVersion) -> &StringVersion
         ensures { written result.now ≡ version_of self.now key }
     {
@@ -110,28 +112,29 @@ impl MarkerEnvironment {
         }
     }
 
-    /// The version that is the value of the key: of `python_version` the environment's own.
+    /// Returns the value of the version key as a version; of `python_version`, the environment's
+    /// own.
     pub fn get_version(&self, key: &MarkerValueVersion) -> &Version
         ensures { result.now ≡ (version_of self.now key.now).version }
     {
         &self.string_version(*key).version
     }
 
-    /// The value of the key. A deprecated key has the value of the modern one.
+    /// Returns the value of the key; of a deprecated key, that of the modern one.
     pub fn get_string(&self, key: &MarkerValueString) -> &str
         ensures { result.now ≡ text_of self.now (variable_of key.now) }
     {
         self.text(key.variable())
     }
 
-    /// The value of `implementation_name`, as of Python's `sys.implementation.name`.
+    /// Returns the value of `implementation_name`, Python's `sys.implementation.name`.
     pub fn implementation_name(&self) -> &str
         ensures { result.now ≡ text_of self.now TextVariable.ImplementationName }
     {
         &self.implementation_name
     }
 
-    /// The value of `implementation_version`, as of Python's `sys.implementation.version`.
+    /// Returns the value of `implementation_version`, Python's `sys.implementation.version`.
     pub fn implementation_version(&self) -> &StringVersion
         ensures { written result.now
             ≡ version_of self.now MarkerValueVersion.ImplementationVersion }
@@ -139,21 +142,21 @@ impl MarkerEnvironment {
         &self.implementation_version
     }
 
-    /// The value of `os_name`, as of Python's `os.name`.
+    /// Returns the value of `os_name`, Python's `os.name`.
     pub fn os_name(&self) -> &str
         ensures { result.now ≡ text_of self.now TextVariable.OsName }
     {
         &self.os_name
     }
 
-    /// The value of `platform_machine`, as of Python's `platform.machine()`.
+    /// Returns the value of `platform_machine`, Python's `platform.machine()`.
     pub fn platform_machine(&self) -> &str
         ensures { result.now ≡ text_of self.now TextVariable.PlatformMachine }
     {
         &self.platform_machine
     }
 
-    /// The value of `platform_python_implementation`, as of Python's
+    /// Returns the value of `platform_python_implementation`, Python's
     /// `platform.python_implementation()`.
     pub fn platform_python_implementation(&self) -> &str
         ensures { result.now ≡ text_of self.now TextVariable.PlatformPythonImplementation }
@@ -161,35 +164,35 @@ impl MarkerEnvironment {
         &self.platform_python_implementation
     }
 
-    /// The value of `platform_release`, as of Python's `platform.release()`.
+    /// Returns the value of `platform_release`, Python's `platform.release()`.
     pub fn platform_release(&self) -> &str
         ensures { result.now ≡ text_of self.now TextVariable.PlatformRelease }
     {
         &self.platform_release
     }
 
-    /// The value of `platform_system`, as of Python's `platform.system()`.
+    /// Returns the value of `platform_system`, Python's `platform.system()`.
     pub fn platform_system(&self) -> &str
         ensures { result.now ≡ text_of self.now TextVariable.PlatformSystem }
     {
         &self.platform_system
     }
 
-    /// The value of `platform_version`, as of Python's `platform.version()`.
+    /// Returns the value of `platform_version`, Python's `platform.version()`.
     pub fn platform_version(&self) -> &str
         ensures { result.now ≡ text_of self.now TextVariable.PlatformVersion }
     {
         &self.platform_version
     }
 
-    /// The value of `python_full_version`, as of Python's `platform.python_version()`.
+    /// Returns the value of `python_full_version`, Python's `platform.python_version()`.
     pub fn python_full_version(&self) -> &StringVersion
         ensures { written result.now ≡ version_of self.now MarkerValueVersion.PythonFullVersion }
     {
         &self.python_full_version
     }
 
-    /// The value of `python_version`, as of the first two of Python's
+    /// Returns the value of `python_version`, the first two of Python's
     /// `platform.python_version_tuple()`.
     pub fn python_version(&self) -> &StringVersion
         ensures { written result.now ≡ version_of self.now MarkerValueVersion.PythonVersion }
@@ -197,7 +200,7 @@ impl MarkerEnvironment {
         &self.python_version
     }
 
-    /// The value of `sys_platform`, as of Python's `sys.platform`.
+    /// Returns the value of `sys_platform`, Python's `sys.platform`.
     pub fn sys_platform(&self) -> &str
         ensures { result.now ≡ text_of self.now TextVariable.SysPlatform }
     {
@@ -233,7 +236,7 @@ impl MarkerEnvironment {
         }
     }
 
-    /// The same environment with another value of the variable.
+    /// Returns the environment with another value of the variable.
     pub fn with_string(self, variable: TextVariable, value: String) -> MarkerEnvironment
         ensures { SetsText (values_of self) (values_of result) variable (string_bytes value) }
     {
@@ -242,7 +245,7 @@ impl MarkerEnvironment {
         environment
     }
 
-    /// The same environment with another value of the version key.
+    /// Returns the environment with another value of the version key.
     pub fn with_version(self, key: MarkerValueVersion, value: StringVersion) -> MarkerEnvironment
         ensures { SetsVersion (values_of self) (values_of result) key (written value) }
     {
@@ -251,7 +254,7 @@ impl MarkerEnvironment {
         environment
     }
 
-    /// The same environment with another value of `implementation_name`.
+    /// Returns the environment with another value of `implementation_name`.
     pub fn with_implementation_name(self, value: String) -> MarkerEnvironment
         ensures { SetsText (values_of self) (values_of result)
             TextVariable.ImplementationName (string_bytes value) }
@@ -259,7 +262,7 @@ impl MarkerEnvironment {
         self.with_string(TextVariable::ImplementationName, value)
     }
 
-    /// The same environment with another value of `implementation_version`.
+    /// Returns the environment with another value of `implementation_version`.
     pub fn with_implementation_version(self, value: StringVersion) -> MarkerEnvironment
         ensures { SetsVersion (values_of self) (values_of result)
             MarkerValueVersion.ImplementationVersion (written value) }
@@ -267,7 +270,7 @@ impl MarkerEnvironment {
         self.with_version(MarkerValueVersion::ImplementationVersion, value)
     }
 
-    /// The same environment with another value of `os_name`.
+    /// Returns the environment with another value of `os_name`.
     pub fn with_os_name(self, value: String) -> MarkerEnvironment
         ensures { SetsText (values_of self) (values_of result)
             TextVariable.OsName (string_bytes value) }
@@ -275,7 +278,7 @@ impl MarkerEnvironment {
         self.with_string(TextVariable::OsName, value)
     }
 
-    /// The same environment with another value of `platform_machine`.
+    /// Returns the environment with another value of `platform_machine`.
     pub fn with_platform_machine(self, value: String) -> MarkerEnvironment
         ensures { SetsText (values_of self) (values_of result)
             TextVariable.PlatformMachine (string_bytes value) }
@@ -283,7 +286,7 @@ impl MarkerEnvironment {
         self.with_string(TextVariable::PlatformMachine, value)
     }
 
-    /// The same environment with another value of `platform_python_implementation`.
+    /// Returns the environment with another value of `platform_python_implementation`.
     pub fn with_platform_python_implementation(self, value: String) -> MarkerEnvironment
         ensures { SetsText (values_of self) (values_of result)
             TextVariable.PlatformPythonImplementation (string_bytes value) }
@@ -291,7 +294,7 @@ impl MarkerEnvironment {
         self.with_string(TextVariable::PlatformPythonImplementation, value)
     }
 
-    /// The same environment with another value of `platform_release`.
+    /// Returns the environment with another value of `platform_release`.
     pub fn with_platform_release(self, value: String) -> MarkerEnvironment
         ensures { SetsText (values_of self) (values_of result)
             TextVariable.PlatformRelease (string_bytes value) }
@@ -299,7 +302,7 @@ impl MarkerEnvironment {
         self.with_string(TextVariable::PlatformRelease, value)
     }
 
-    /// The same environment with another value of `platform_system`.
+    /// Returns the environment with another value of `platform_system`.
     pub fn with_platform_system(self, value: String) -> MarkerEnvironment
         ensures { SetsText (values_of self) (values_of result)
             TextVariable.PlatformSystem (string_bytes value) }
@@ -307,7 +310,7 @@ impl MarkerEnvironment {
         self.with_string(TextVariable::PlatformSystem, value)
     }
 
-    /// The same environment with another value of `platform_version`.
+    /// Returns the environment with another value of `platform_version`.
     pub fn with_platform_version(self, value: String) -> MarkerEnvironment
         ensures { SetsText (values_of self) (values_of result)
             TextVariable.PlatformVersion (string_bytes value) }
@@ -315,7 +318,7 @@ impl MarkerEnvironment {
         self.with_string(TextVariable::PlatformVersion, value)
     }
 
-    /// The same environment with another value of `python_full_version`.
+    /// Returns the environment with another value of `python_full_version`.
     pub fn with_python_full_version(self, value: StringVersion) -> MarkerEnvironment
         ensures { SetsVersion (values_of self) (values_of result)
             MarkerValueVersion.PythonFullVersion (written value) }
@@ -323,7 +326,7 @@ impl MarkerEnvironment {
         self.with_version(MarkerValueVersion::PythonFullVersion, value)
     }
 
-    /// The same environment with another value of `python_version`.
+    /// Returns the environment with another value of `python_version`.
     pub fn with_python_version(self, value: StringVersion) -> MarkerEnvironment
         ensures { SetsVersion (values_of self) (values_of result)
             MarkerValueVersion.PythonVersion (written value) }
@@ -331,7 +334,7 @@ impl MarkerEnvironment {
         self.with_version(MarkerValueVersion::PythonVersion, value)
     }
 
-    /// The same environment with another value of `sys_platform`.
+    /// Returns the environment with another value of `sys_platform`.
     pub fn with_sys_platform(self, value: String) -> MarkerEnvironment
         ensures { SetsText (values_of self) (values_of result)
             TextVariable.SysPlatform (string_bytes value) }
@@ -340,7 +343,7 @@ impl MarkerEnvironment {
     }
 }
 
-/// A clone has each value of its source. It is refused for want of memory alone.
+/// A clone has each value of its source.
 impl Clone for MarkerEnvironment {
     ghost use Rattle.marker_environment.specs.Environment.{values_of, HasSameValues};
 

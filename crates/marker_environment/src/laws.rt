@@ -12,30 +12,30 @@ ghost use Rattle.marker_environment.specs.declared.string_version.StringVersion.
 use crate::environment::MarkerEnvironment;
 use crate::string_version::StringVersion;
 
-/// A text is a part of another where that is a front, the text and a back.
+/// A text is a substring of another exactly if that is the text between a front and a back.
 pub fn a_part_stands_between_a_front_and_a_back()
     ensures { (part text : List ℕ) → (is_part_of part text ≡ true) ↔ HasSubslice text part }
 {}
 
-/// What a marker sees of an environment does not change with the value of `python_version`.
+/// What a marker sees of an environment does not depend on the value of `python_version`.
 pub fn python_version_is_not_read()
     ensures { (old new : Values) (value : Written) (extras : List (List ℕ)) →
         SetsVersion old new PythonVersion value →
         valuation_of new extras ≡ valuation_of old extras }
 {}
 
-/// Values that are the same key by key are the same.
+/// Values that are equal key by key are equal.
 pub fn values_are_what_the_keys_show()
     ensures { (v w : Values) → HasSameValues v w → v ≡ w }
 {}
 
-/// Versions with the same text that say the same are equal.
+/// Versions with the same text and equal parts are equal.
 pub fn same_written_versions_are_equal()
     ensures { (v w : StringVersion) →
         written v ≡ written w → ⟦<StringVersion as PartialEq>⟧.eq v w ≡ true }
 {}
 
-/// Environments whose values are the same key by key are equal.
+/// Environments whose values are equal key by key are equal.
 pub fn same_values_make_equal_environments()
     ensures { (e f : MarkerEnvironment) → HasSameValues (values_of e) (values_of f) →
         ⟦<MarkerEnvironment as PartialEq>⟧.eq e f ≡ true }

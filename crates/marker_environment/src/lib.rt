@@ -1,7 +1,10 @@
-//! The values that the keys of markers stand for (PEP 508, "Environment Markers").
+//! Environments: the values of the keys of markers (PEP 508, "Environment Markers").
 //!
-//! An environment has a text or a version for each modern key. A valuation is what a marker sees of
-//! it.
+//! A [`MarkerEnvironment`] has a text or a version for each modern key. A valuation is what a
+//! marker reads of it.
+//!
+//! Calls that allocate return `AllocError` or `OutOfMemory` when memory runs out. No call returns
+//! `SegmentAtEnd`.
 #![tactic(auto)]
 
 mod builder;

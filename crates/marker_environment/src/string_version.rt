@@ -1,4 +1,4 @@
-//! A version together with its text.
+//! Versions with their texts.
 
 ghost use Rattle.std.specs.Prelude.{◌≡◌, ◌≢◌, ℕ, List, Some, IfErr, IfOk, string_bytes};
 ghost use Rattle.refusal.specs.declared.Refusal.TheVariants.{SegmentAtEnd};
@@ -18,25 +18,26 @@ use std::alloc::{AllocError, Global};
 use std::fmt;
 use std::fmt::Display;
 
-/// A version and the text that it was read from, which prints as that text.
+/// A version and the text that it was parsed from, which it prints as.
 #[derive(Debug, PartialEq, Eq, Hash, Drop)]
 pub struct StringVersion {
     /// The text as it was given.
     pub string: String,
-    /// The version that the text says.
+    /// The version of the text.
     pub version: Version,
 }
 
 impl StringVersion {
-    /// Reads a version as `Version::parse` does, and keeps the text as it is.
+    /// Parses a version as [`Version::parse`] does, and keeps the text as it is.
     ///
-    /// A text that is no version is a `Fault`, which says what was expected at which byte.
-    /// `SegmentAtEnd` never comes.
+    /// # Errors
+    /// - [`Refusal::Fault`] if the text is an invalid version: what was expected at which byte.
+    /// - [`Refusal::OutOfMemory`] when memory runs out.
     pub fn parse(alloc: Global, text: &str) -> Result<StringVersion, Refusal<VersionParseError>>
-        // The text is kept, and the version is what it says.
+        // The text is kept, and the version is what it denotes.
         ensures found { IfOk result (λ version. Says text.now (written version)) }
 
-        // What the text says is read, unless memory runs out.
+        // A valid text is parsed, unless memory runs out.
         ensures only { (v : Parts) →
             IsVersionText text.now v → IsSaidUnlessMemory result text.now v }
         ensures at_end { IfErr result (λ e. e ≢ SegmentAtEnd) }
@@ -48,7 +49,7 @@ impl StringVersion {
         Ok(StringVersion { string, version })
     }
 
-    /// The version with its normal text. It is refused for want of memory alone.
+    /// Returns the version with its normal text.
     pub fn from_version(alloc: Global, version: Version) -> Result<StringVersion, AllocError>
         ensures { IfOk result (λ made. written made ≡ normal version) }
     {
@@ -65,7 +66,7 @@ impl Display for StringVersion {
     }
 }
 
-/// A clone has the text and the version of its source. It is refused for want of memory alone.
+/// A clone has the text and the version of its source.
 impl Clone for StringVersion {
     ghost is_clone = { λ version clone. written clone ≡ written version };
 
@@ -88,8 +89,8 @@ impl Serialize for StringVersion {
     }
 }
 
-/// Reads a text that is a version, as `StringVersion::parse` does. The error tells want of memory,
-/// or what was expected and where.
+/// Parses a text as [`StringVersion::parse`] does. The error is an allocation failure, or what was
+/// expected and where.
 impl DeserializeOwned for StringVersion {
     fn deserialize_owned<F: Format>(
         alloc: Global,

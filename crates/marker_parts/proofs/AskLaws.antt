@@ -1,4 +1,4 @@
--- A version key, an operator and a text ask one thing at most.
+-- A version key, an operator and a text have at most one test.
 use Rattle.std.proofs.Common.{◌≡◌, ℕ, Bool, false, List, refl, sym, ap, ◌∙◌, subst}
 use Rattle.pep440_version.specs.Parts.{Parts}
 use Rattle.pep440_version.specs.Grammar.{IsVersionText, IsPatternText}

@@ -1,4 +1,4 @@
--- One comparison at most stands at the front of a text, and it comes to one meaning.
+-- A text begins with at most one comparison, which has one meaning.
 use Rattle.std.proofs.Common.{◌≡◌, ℕ, List, [], ◌++◌, refl, ap, subst}
 use Rattle.pep508_names.proofs.NameLaws.{normal_form-unique}
 use Rattle.marker_words.specs.declared.key.MarkerValueVersion.{MarkerValueVersion}
@@ -23,7 +23,7 @@ IsExtra-same (unnamed g) (unnamed h) = (refl, refl)
 extra_meaning-same : (operator : MarkerOperator) {t : List ℕ} {x y : Extra} {kinds others : List MarkerWarningKind} → IsExtra t x kinds → IsExtra t y others → extra_meaning operator x kinds ≡ extra_meaning operator y others
 extra_meaning-same operator g h = let e = IsExtra-same g h in λ i. extra_meaning operator (e.0 i) (e.1 i)
 
--- a version key asks one thing of a text, or nothing
+-- a version key has one test with a text, or none
 MeansBehind-same : {key : MarkerValueVersion} {operator : MarkerOperator} {t : List ℕ} {m n : Meaning} → MeansBehind key operator t m → MeansBehind key operator t n → m ≡ n
 MeansBehind-same (asks g) (asks h) = ap (λ (x : Test). kept_with x []) (Asks-same g h)
 MeansBehind-same (asks g) (asks_nothing h) = absurd (h _ g)
@@ -65,7 +65,7 @@ compared_same (compared d means) (compared d' means') =
     let h = sides_same d d' in
     (h.rest, Means-same (Means-moved h.left h.operator h.right means) means')
 
--- where no sides stand, no comparison does
+-- a text without two sides at its front has no comparison there
 pub no_comparison : {i : List ℕ} → ((output : List ℕ) (left right : Value) (operator : MarkerOperator) → Sides i output left operator right → ⊥) → HasNoComparison i
 no_comparison h = record { no_sides = h; no_compared = λ o m c. from_none h c }
   where

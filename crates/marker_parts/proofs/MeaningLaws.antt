@@ -107,7 +107,7 @@ pub ruleset sides_mean = (
   extra_then_version,
 )
 
--- what a text behind a version key means, before one, and beside `extra`
+-- the meaning of a text after a version key, before one, and with `extra`
 pub ruleset meant_behind = (asked_behind, nothing_behind)
 
 pub ruleset meant_before = (asked_before, nothing_before)

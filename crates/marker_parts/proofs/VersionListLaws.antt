@@ -19,7 +19,7 @@ not-false : (b : Bool) → not b ≡ true → b ≡ false
 not-false true e = cc
 not-false false e = refl
 
--- an entry begins right behind all white space
+-- an entry begins directly after all white space
 pub record EntryAt (input word rest : List ℕ) : Type 0 where
   pub first : ℕ
   pub others : List ℕ
@@ -54,7 +54,7 @@ version_list_same e (entry {v = v} d p l) (entry d' q m) =
     let rest = version_list_same h.1 l m in
     λ i. same i ∷ rest i
 
--- the versions `read` stand before `rest`
+-- the versions `read` come before `rest`
 pub record HasRead (text rest : List ℕ) (read : List Parts) : Type 0 where
   pub behind : (versions : List Parts) → IsVersionList rest versions → IsVersionList text (read ++ versions)
   pub only : (versions : List Parts) → IsVersionList text versions → (others : List Parts) × (versions ≡ read ++ others) × IsVersionList rest others
@@ -82,7 +82,7 @@ read_more {text} {rest} {word} {after} {read} {v} h d p = record {
 pub read_all : {text rest : List ℕ} {read : List Parts} → HasRead text rest read → Spaces rest [] → IsVersionList text read
 read_all {text} {read = read} h s = subst (IsVersionList text) (append-nil read) (h.behind [] (no_entry s))
 
--- an entry that is no version makes the text no list
+-- an entry that is an invalid version makes the text an invalid list
 no_list_here : {i w r : List ℕ} {vs : List Parts} → IsEntry i w r → ((v : Parts) → ¬ IsVersionText w v) → IsVersionList i vs → ⊥
 no_list_here d none (no_entry s) = spaces_no_entry s d
 no_list_here d none (entry {v = w} d' q l) = none w (subst (λ (x : List ℕ). IsVersionText x w) (entry_same refl d' d).0 q)
@@ -90,7 +90,7 @@ no_list_here d none (entry {v = w} d' q l) = none w (subst (λ (x : List ℕ). I
 pub no_list : {text rest word after : List ℕ} {read : List Parts} → HasRead text rest read → IsEntry rest word after → ((v : Parts) → ¬ IsVersionText word v) → (versions : List Parts) → ¬ IsVersionList text versions
 no_list h d none versions l = no_list_here d none (h.only versions l).2
 
--- the longest run behind white space, where it is not empty
+-- the longest run after white space, if it is not empty
 entry_from : {input space rest : List ℕ} (word : List ℕ) → space ≡ after_space input → run_of NotSpace space ≡ word → rest ≡ after_run NotSpace space → 0 < length (encode_utf8_all word) → IsEntry input (encode_utf8_all word) rest
 entry_from [] e f g h = let k : 0 < 0 = h in absurd (omega arith)
 entry_from (c ∷ word) e f g h = run (spaces_from (sym e)) (record { run_is = f; rest_is = sym g })
@@ -99,7 +99,7 @@ pub entry_here : {input space word rest : List ℕ} → space ≡ after_space in
 entry_here {input} {space} {word} {rest} e f g h =
     subst (λ (x : List ℕ). IsEntry input x rest) (sym f) (entry_from (run_of NotSpace space) e refl g (subst (λ (x : List ℕ). 0 < length x) f h))
 
--- what follows all white space begins with a run, where it is not empty
+-- the text after all white space begins with a run, if it is not empty
 nothing_left : (i : List ℕ) → run_of NotSpace (after_space i) ≡ [] → after_space i ≡ []
 nothing_left [] e = refl
 nothing_left (c ∷ i) e = go (is_whitespace c) refl (nothing_left i)

@@ -1,4 +1,4 @@
--- A text is one comparison where one is read and white space alone follows.
+-- A text is one comparison if it begins with one and only white space follows.
 use Rattle.std.proofs.Common.{◌≡◌, ◌≢◌, ℕ, ◌-◌, Bool, true, false, List, [], ◌∷◌, ◌++◌, length, refl, sym, ap, ◌∙◌, subst, append_assoc, append-nil, Option, Some, None}
 use Rattle.std.specs.Prelude.{IsUtf8, encode_utf8, ◌&&◌}
 use Rattle.std.specs.Str.{chars}
@@ -39,7 +39,7 @@ last_scalar (x ∷ xs) c p = last_scalar xs c (second_of _ _ p)
 last_utf8 : (text front : List ℕ) (c : ℕ) → IsUtf8 text → chars text ≡ chars front ++ (c ∷ []) → IsUtf8 (encode_utf8 c)
 last_utf8 text front c utf8 e = ((c ∷ []), (last_scalar (chars front) c (ap scalars (sym e) ∙ scalars-chars text utf8), append-nil (encode_utf8 c)))
 
--- a text that goes on behind a comparison
+-- a text with more after a comparison
 pub trailing_at : (rest text piece others : List ℕ) (c last : ℕ) → IsUtf8 text → IsSuffix rest text → chars text ≡ after_space (chars rest) → text ≡ encode_utf8 c ++ others → text ≡ piece ++ encode_utf8 last → chars text ≡ chars piece ++ (last ∷ []) → IsFaultAt NoneOpen rest (Trailing c) piece (length text)
 trailing_at rest text piece others c last utf8 suffix space_is begins ends last_is =
     let found : IsAllButLast c piece (encode_utf8 last) = record { others = others; last = last; begins = sym ends ∙ begins; ends = refl } in
@@ -68,7 +68,7 @@ none_at_front text (errors.Fault fault) h = (λ m whole. h.0.no_compared whole.r
 pub unread_behind : {text rest : List ℕ} {expression : Option MarkerExpression} {old new : List MarkerWarningKind} (fault : Fault) → ReadsComparison text rest expression old new → IsSuffix text rest → after_space (chars rest) ≢ [] → IsWordFault rest fault → whole.IsRefusal text (errors.Fault fault)
 unread_behind fault read suffix some at = (more_follows read.compared some, fault_of_suffix suffix at)
 
--- an error that tells a fault of the text
+-- the error of a fault of the text
 pub told_fault : {T E : Type 0} {Open : List ℕ → Type 0} {text : List ℕ} {fault : Fault} {error : Pep508Error T E} → IsFault Open text fault → Tells text fault error → IsErrorOf Open text error
 told_fault {Open = Open} {text} {fault} {error} at tells =
     let said = message_of fault.kind fault.place.piece.now in
@@ -79,7 +79,7 @@ told_fault {Open = Open} {text} {fault} {error} at tells =
       place = subst (λ (n : ℕ). IsMarkerFault Open text n error.len said) (sym tells.start) (subst (λ (n : ℕ). IsMarkerFault Open text (length text - fault.place.left) n said) (sym tells.len) (fault_told text fault at));
     }
 
--- a text that is no comparison is refused
+-- a text that is not a comparison is refused
 pub refused_text : {T E : Type 0} (text : List ℕ) (error : ComparisonError) (refusal : Refusal (Pep508Error T E)) → whole.IsRefusal text error → Becomes text error refusal → IsRefusal text refusal
 refused_text text error refusals.OutOfMemory unread told = tt
 refused_text text error refusals.SegmentAtEnd unread told = told
@@ -91,7 +91,7 @@ pub adds_nothing : (kinds : Option (List MarkerWarningKind)) → Adds kinds kind
 adds_nothing None = tt
 adds_nothing (Some told) = ap Some (sym (append-nil told))
 
--- what is refused leaves what was told
+-- a refused call keeps what was reported
 pub adds_kept : (a b c : Option (List MarkerWarningKind)) (ks : List MarkerWarningKind) → Adds a b ks → Keeps b c → Adds a c ks
 adds_kept None b c ks h k = tt
 adds_kept (Some told) b c ks h k = subst (λ (x : Option (List MarkerWarningKind)). Keeps x c) h k

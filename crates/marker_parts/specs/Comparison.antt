@@ -1,5 +1,5 @@
--- One comparison of a marker: how it is written, what it asks, and which kinds of warnings it gives
--- (PEP 508, "Environment Markers"; which comparisons are dropped is not in it).
+-- One comparison of a marker: its text, its test, and the kinds of its warnings (PEP 508,
+-- "Environment Markers"; which comparisons are dropped is not in it).
 use Rattle.std.specs.Prelude.{◌≡◌, ℕ, List, [], ◌∷◌, ◌++◌, Option, Some, None, if◌then◌else◌}
 use Rattle.pep508_names.specs.Name.{NormalizesTo, IsName}
 use Rattle.marker_words.specs.declared.key.MarkerValueString.{MarkerValueString}
@@ -19,7 +19,7 @@ use Rattle.marker_parts.specs.VersionComparison.{version_operator, Asks, AsksBef
 abbrev Kinds : Type 0
 Kinds = List MarkerWarningKind
 
--- what a comparison asks, or nothing where it is dropped, and the kinds of its warnings in order
+-- the test of a comparison, or nothing if it is dropped, and the kinds of its warnings in order
 pub record Meaning : Type 0 where
   pub test : Option Test
   pub kinds : Kinds
@@ -30,33 +30,32 @@ dropped_with kinds = record { test = None; kinds = kinds }
 abbrev pub kept_with : Test → Kinds → Meaning
 kept_with t kinds = record { test = Some t; kinds = kinds }
 
--- a deprecated spelling is warned of where it stands
+-- the warning of a deprecated spelling
 abbrev pub key_kinds : MarkerValueString → Kinds
 key_kinds key = if is_deprecated key then DeprecatedMarkerName ∷ [] else []
 
--- what a text that is no name is warned of
+-- the warning of a text that is an invalid name
 abbrev pub extra_kinds : Extra → Kinds
 extra_kinds (name n) = []
 extra_kinds (arbitrary t) = ExtraInvalidComparison ∷ []
 
--- a text key beside a quoted text: texts are not compared by `~=`
+-- a text key and a quoted text: texts are not compared by `~=`
 abbrev pub text_meaning : MarkerValueString → MarkerOperator → List ℕ → Meaning
 text_meaning key TildeEqual value = dropped_with (key_kinds key ++ (LexicographicComparison ∷ []))
 text_meaning key operator value = kept_with (text key operator value) (key_kinds key)
 
--- which extra a quoted text is, and the kinds of warnings of it: a text that is no name is an
--- arbitrary extra
+-- the extra of a quoted text, and the kinds of its warnings: an invalid name is an arbitrary extra
 pub data IsExtra : List ℕ → Extra → Kinds → Type 0 where
   named : {t n : List ℕ} → NormalizesTo t n → IsExtra t (name n) []
   unnamed : {t : List ℕ} → ¬ IsName t → IsExtra t (arbitrary t) (ExtraInvalidComparison ∷ [])
 
--- `extra` beside a quoted text: extras are only equal or not
+-- `extra` and a quoted text: extras are only equal or not
 abbrev pub extra_meaning : MarkerOperator → Extra → Kinds → Meaning
 extra_meaning Equal x kinds = kept_with (extra extra_operators.Equal x) kinds
 extra_meaning NotEqual x kinds = kept_with (extra extra_operators.NotEqual x) kinds
 extra_meaning operator x kinds = dropped_with (kinds ++ (ExtraInvalidComparison ∷ []))
 
--- a version key and a text behind it
+-- a version key and a text after it
 pub data MeansBehind (key : MarkerValueVersion) (operator : MarkerOperator) (t : List ℕ) :
     Meaning → Type 0 where
   asks : {test : Test} →
@@ -116,7 +115,7 @@ pub data Means : Value → MarkerOperator → Value → Meaning → Type 0 where
   extra_and_version : {key : MarkerValueVersion} {operator : MarkerOperator} →
       Means lexical.extra operator (version_key key) (dropped_with (ExtraInvalidComparison ∷ []))
 
--- a comparison at the front of the text, and what is left behind it
+-- a comparison at the front of the text, and the rest
 pub data Compared : List ℕ → List ℕ → Meaning → Type 0 where
   compared : {input output : List ℕ} {left right : Value} {operator : MarkerOperator}
       {m : Meaning} →

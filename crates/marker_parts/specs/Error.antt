@@ -1,4 +1,4 @@
--- How a text that is not read is told: a message, its place, and the text.
+-- The error of an invalid text: a message, its place, and the text.
 use Rattle.std.specs.Prelude.{◌≡◌, ℕ, ◌-◌, List, length, string_bytes, ⊤}
 use Rattle.refusal.specs.declared.Refusal.{Refusal}
 use Rattle.refusal.specs.declared.Refusal.TheVariants as refusals
@@ -26,7 +26,7 @@ module _ {T E : Type 0} where
     pub start : error.start ≡ length text - fault.place.left
     pub len : error.len ≡ span_len fault.place
 
-  -- memory ran out, or the fault is told
+  -- memory ran out, or this is the error of the fault
   abbrev pub Becomes : List ℕ → ComparisonError → Refusal (Pep508Error T E) → Type 0
   Becomes text error refusals.OutOfMemory = ⊤
   Becomes text error refusals.SegmentAtEnd = ⊥
@@ -41,14 +41,8 @@ module _ {T E : Type 0} where
     pub message : IsMessage error.message said
     pub place : IsMarkerFault Open text error.start error.len said
 
-  -- why no comparison is read of a text: for want of memory, or since it is none, and is told so
+  -- why no comparison is parsed: memory ran out, or the text is not one and the error says so
   abbrev pub IsRefusal : List ℕ → Refusal (Pep508Error T E) → Type 0
   IsRefusal text refusals.OutOfMemory = ⊤
   IsRefusal text refusals.SegmentAtEnd = ⊥
   IsRefusal text (refusals.Fault error) = IsNoComparison text × IsErrorOf NoneOpen text error
-
-  -- a fact of a text that is at fault
-  abbrev pub OnFault : Refusal (Pep508Error T E) → Type 0 → Type 0
-  OnFault refusals.OutOfMemory P = ⊤
-  OnFault refusals.SegmentAtEnd P = ⊤
-  OnFault (refusals.Fault error) P = P

@@ -25,15 +25,15 @@ use Rattle.marker_parts.specs.declared.expression.MarkerExpression.TheVariants a
 use Rattle.marker_parts.specs.declared.extra.MarkerValueExtra.{MarkerValueExtra}
 use Rattle.marker_parts.specs.declared.extra.MarkerValueExtra.TheVariants as extra_values
 
--- an extra by its normal name, or a text that is no name
+-- an extra by its normal name, or a text that is an invalid name
 pub data Extra : Type 0 where
   name : List ℕ → Extra
   arbitrary : List ℕ → Extra
 
--- what one comparison asks; texts are bytes
+-- the test of one comparison; texts are bytes
 pub data Test : Type 0 where
   version : MarkerValueVersion → Specifier → Test
-  -- whether the version is one of these, or where the test is negated, none of them
+  -- whether the version is one of these, or if the test is negated, none of them
   version_in : MarkerValueVersion → List Parts → Bool → Test
   text : MarkerValueString → MarkerOperator → List ℕ → Test
   extra : ExtraOperator → Extra → Test
@@ -48,20 +48,20 @@ test_of (expressions.VersionIn key versions negated) = version_in key versions.i
 test_of (expressions.String key operator value) = text key operator (string_bytes value)
 test_of (expressions.Extra operator x) = extra operator (extra_of x)
 
--- `python_version` is no variable: its comparisons are comparisons of the full version
+-- `python_version` has no variable: its comparisons are comparisons of the full version
 abbrev pub version_variable_of : MarkerValueVersion → VersionVariable
 version_variable_of ImplementationVersion = variables.ImplementationVersion
 version_variable_of PythonFullVersion = variables.PythonFullVersion
 version_variable_of PythonVersion = variables.PythonFullVersion
 
--- the version variable that is asked about, if one is
+-- the version variable of the test, if it has one
 abbrev pub asked_version : Test → Option VersionVariable
 asked_version (version key specifier) = Some (version_variable_of key)
 asked_version (version_in key versions negated) = Some (version_variable_of key)
 asked_version (text key operator value) = None
 asked_version (extra operator x) = None
 
--- whether the variable of the key may stand at a point
+-- whether a point satisfies a comparison of the key's variable
 abbrev pub holds_version : MarkerValueVersion → Specifier → Point Parts → Bool
 holds_version ImplementationVersion s point = is_in s.operator s.version.release point
 holds_version PythonFullVersion s point = is_in s.operator s.version.release point
@@ -94,7 +94,7 @@ holds (text key operator value) v = holds_text operator key value v
 holds (extra extra_operators.Equal x) v = holds_extra x v
 holds (extra extra_operators.NotEqual x) v = not (holds_extra x v)
 
--- the bounds of the set would raise the largest number of a version
+-- a bound of the set would be above 2^64 - 1
 abbrev pub Overflows : Test → Type 0
 Overflows (version ImplementationVersion s) = releases.Overflows s.operator s.version.release
 Overflows (version PythonFullVersion s) = releases.Overflows s.operator s.version.release

@@ -22,15 +22,15 @@ abbrev pub extra_text : MarkerValueExtra → List ℕ
 extra_text (extra_values.Extra n) = n
 extra_text (extra_values.Arbitrary t) = string_bytes t
 
--- a key, an operator and what is quoted behind them
+-- a key, an operator and a quoted text after them
 abbrev pub compared_text : List ℕ → List ℕ → List ℕ → List ℕ
 compared_text key operator quoted = key ++ (codes " " ++ (operator ++ (codes " " ++ quoted)))
 
--- the version of a specifier, with `.*` where the operator is a star
+-- the version of a specifier, with `.*` if the operator is a star
 abbrev pub pattern_text : Specifier → List ℕ
 pattern_text s = version_text s.version ++ (if is_star s.operator then codes ".*" else [])
 
--- a version behind a space
+-- a version after a space
 abbrev pub next_version_text : Parts → List ℕ
 next_version_text v = codes " " ++ version_text v
 

@@ -1,10 +1,7 @@
--- What the reader of one comparison answers. Texts are bytes here, and the grammar speaks of their
--- characters.
+-- The results of the parser of one comparison. Texts are bytes here, and characters in the grammar.
 use Rattle.std.specs.Prelude.{◌≡◌, ℕ, List, ◌++◌, Option, option_map, ⊤}
 use Rattle.std.specs.Str.{chars}
-use Rattle.marker_words.specs.declared.operator.MarkerOperator.{MarkerOperator}
 use Rattle.marker_words.specs.declared.parts.ComparisonRef.{ComparisonRef}
-use Rattle.marker_words.specs.Lexical.{Value, Sides}
 use Rattle.marker_words.specs.Part.{value_of}
 use Rattle.marker_words.specs.Fault.{HasNoSides, IsWordFault}
 use Rattle.pep508_errors.specs.declared.warning.MarkerWarningKind.{MarkerWarningKind}
@@ -25,8 +22,8 @@ meaning_of outcome = record {
 abbrev pub IsMeaningOf : ComparisonRef → Meaning → Type 0
 IsMeaningOf c = Means (value_of c.left) c.operator (value_of c.right)
 
--- A comparison stands at the front of the text, and `rest` behind it. The expression is what it
--- asks, or nothing where it is dropped, and the kinds of its warnings stand behind the old ones.
+-- The text begins with a comparison, and `rest` follows it. The expression is its test, or nothing
+-- if it is dropped, and the kinds of its warnings are appended to the old ones.
 pub record ReadsComparison (text rest : List ℕ) (expression : Option MarkerExpression)
     (old new : List MarkerWarningKind) : Type 0 where
   pub meaning : Meaning
@@ -34,13 +31,13 @@ pub record ReadsComparison (text rest : List ℕ) (expression : Option MarkerExp
   pub test : option_map test_of expression ≡ meaning.test
   pub kinds : new ≡ old ++ meaning.kinds
 
--- no comparison stands there
+-- the text does not begin with a comparison
 pub record HasNoComparison (input : List ℕ) : Type 0 where
   pub no_sides : HasNoSides input
   pub no_compared : (output : List ℕ) (m : Meaning) → Compared input output m → ⊥
 
--- why a comparison is not read: for want of memory, or since none stands there, which is told as a
--- fault of the text
+-- why no comparison is parsed: memory ran out, or the text does not begin with one, as the fault
+-- says
 abbrev pub IsRefusal : List ℕ → ComparisonError → Type 0
 IsRefusal text OutOfMemory = ⊤
 IsRefusal text (Fault fault) = HasNoComparison (chars text) × IsWordFault text fault

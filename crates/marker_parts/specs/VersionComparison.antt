@@ -1,5 +1,5 @@
--- A version key beside a quoted text: what is asked, if anything is (PEP 508, "Environment
--- Markers", and PEP 440, "Version specifiers", which have no lists of versions).
+-- A version key and a quoted text: their test, if they have one (PEP 508, "Environment Markers",
+-- and PEP 440, "Version specifiers", which have no lists of versions).
 use Rattle.std.specs.Prelude.{ℕ, Bool, true, false, List, [], ◌∷◌}
 use Rattle.std.specs.Str.{chars}
 use Rattle.pep440_version.specs.Parts.{Parts}
@@ -32,8 +32,8 @@ version_operator NotIn = Among true
 version_operator Contains = Neither
 version_operator NotContains = Neither
 
--- a version key and a text behind it ask this: the text is a pattern that the operator makes a
--- specifier of, or a list
+-- the test of a version key and a text after it: the text is a pattern that makes a specifier with
+-- the operator, or a list
 pub data Asks (key : MarkerValueVersion) (t : List ℕ) : VersionOperator → Test → Type 0 where
   compares : {operator : Operator} {v : Parts} {star : Bool} {s : Specifier} →
       IsPatternText t v star → Makes operator v star s →
@@ -41,14 +41,14 @@ pub data Asks (key : MarkerValueVersion) (t : List ℕ) : VersionOperator → Te
   lists : {negated : Bool} {versions : List Parts} → IsVersionList (chars t) versions →
       Asks key t (Among negated) (version_in key versions negated)
 
--- a version key and a text before it ask this, where the operator stands between them turned: the
--- text is a version
+-- the test of a version key and a text before it, with the operator turned around: the text is a
+-- version
 pub data AsksBefore (key : MarkerValueVersion) (t : List ℕ) : VersionOperator → Test → Type 0 where
   compares_before : {operator : Operator} {v : Parts} {s : Specifier} →
       IsVersionText t v → Makes operator v false s →
       AsksBefore key t (Compare operator) (version key s)
 
--- what is warned of a version key that asks nothing of a text behind it: a list is warned of twice
+-- the warnings of a version key without a test for the text after it: a list has two
 abbrev pub refused_kinds : VersionOperator → List MarkerWarningKind
 refused_kinds (Compare operator) = Pep440Error ∷ []
 refused_kinds (Among negated) = Pep440Error ∷ Pep440Error ∷ []

@@ -5,8 +5,7 @@ use Rattle.pep508_text.specs.declared.classes.Class.TheVariants.{NotSpace}
 use Rattle.pep440_version.specs.Parts.{Parts}
 use Rattle.pep440_version.specs.Grammar.{IsVersionText}
 
--- an entry, as its bytes: behind white space, if there is any, the longest run of characters that
--- are no white space
+-- an entry, as its bytes: after any white space, the longest run of other characters
 pub data IsEntry : List ℕ → List ℕ → List ℕ → Type 0 where
   run : {input start word rest : List ℕ} {c : ℕ} →
       Spaces input start → Run NotSpace start (c ∷ word) rest →

@@ -19,7 +19,7 @@ pub record IsComparison (text : List ℕ) (m : Meaning) : Type 0 where
 abbrev Kinds : Type 0
 Kinds = List MarkerWarningKind
 
--- the expression is what the text asks, or nothing where it is dropped, and these are the kinds of
+-- the expression is the test of the text, or nothing if it is dropped, and these are the kinds of
 -- its warnings
 pub record IsRead (text : List ℕ) (expression : Option MarkerExpression) (kinds : Kinds) :
     Type 0 where
@@ -31,8 +31,7 @@ pub record IsRead (text : List ℕ) (expression : Option MarkerExpression) (kind
 abbrev pub IsNoComparison : List ℕ → Type 0
 IsNoComparison text = (m : Meaning) → ¬ IsComparison text m
 
--- why the text is not read: for want of memory, or since it is no comparison, which is told as a
--- fault of it
+-- why the text is not parsed: memory ran out, or it is not a comparison, as the fault says
 abbrev pub IsRefusal : List ℕ → ComparisonError → Type 0
 IsRefusal text OutOfMemory = ⊤
 IsRefusal text (Fault fault) = IsNoComparison text × IsWordFault text fault

@@ -1,4 +1,4 @@
-//! The reader of one comparison (PEP 508, "Grammar").
+//! The parser of one comparison (PEP 508, "Grammar").
 
 ghost use Rattle.std.specs.Prelude.{◌≡◌, ◌<◌, IfErr, IfOk, OnErr, length};
 ghost use Rattle.pep508_text.specs.Suffix.{IsSuffix};
@@ -10,12 +10,12 @@ use marker_words::{Fault, sides};
 use pep508_errors::MarkerWarningKind;
 use std::alloc::{AllocError, Global};
 
-/// Why a comparison was not read.
+/// Why a comparison could not be parsed.
 #[derive(Clone, Copy, Debug, PartialEq, Eq)]
 pub enum ComparisonError<'a> {
     /// Memory ran out.
     OutOfMemory,
-    /// No comparison stands there.
+    /// The text does not begin with a comparison.
     Fault(Fault<'a>),
 }
 
@@ -39,10 +39,9 @@ impl<'a> From<Fault<'a>> for ComparisonError<'a> {
     }
 }
 
-/// Reads the comparison at the front of the text: its expression, or nothing where it is dropped,
-/// and the text that is left. The kinds of its warnings are put at the end of the list.
-///
-/// A refusal leaves the list as it was.
+/// Parses the comparison at the front of the text. Returns its expression, or `None` if it is
+/// dropped, and the rest of the text. The kinds of its warnings are appended to `kinds`; an error
+/// leaves that list as it was.
 #[tactic(auto, using(crate::proofs::ComparisonLaws::no_comparison))]
 pub fn read_comparison<'a>(
     alloc: Global,

@@ -43,7 +43,7 @@ fn write_others<W: fmt::Write>(versions: &[Version], f: &mut fmt::Formatter<W>) 
     Ok(())
 }
 
-// The versions with a space between each two.
+// The versions, separated by spaces.
 fn write_list<W: fmt::Write>(versions: &[Version], f: &mut fmt::Formatter<W>) -> fmt::Result
     ensures { DisplaysOnOk W.write_str_gives f.old result (Some (list_text versions.now)) f.new }
 {
@@ -56,9 +56,9 @@ fn write_list<W: fmt::Write>(versions: &[Version], f: &mut fmt::Formatter<W>) ->
     }
 }
 
-/// Writes the key by its modern name, the operator and the value in `'`, or in `"` where it holds a
-/// `'`, as `os_name == 'posix'`. `Contains` and `NotContains` have the value first. A version has
-/// `.*` inside the quotes for a star, and the versions of a list are joined by one space.
+/// Writes the key by its modern name, the operator, and the value in `'`, or in `"` if it contains
+/// a `'`: `os_name == 'posix'`. `Contains` and `NotContains` have the value first. A star is
+/// written as `.*` inside the quotes, and the versions of a list are separated by one space.
 impl fmt::Display for MarkerExpression {
     ghost output = { λ expression. Some (expression_text expression) };
 

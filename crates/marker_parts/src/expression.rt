@@ -9,25 +9,25 @@ use std::alloc::AllocError;
 /// One comparison of a marker.
 #[derive(Debug, PartialEq, Eq, PartialOrd, Ord, Hash, Drop)]
 pub enum MarkerExpression {
-    /// A version key compared with a version, as `python_version >= '3.8'`.
+    /// A version key compared with a version, such as `python_version >= '3.8'`.
     Version {
         key: MarkerValueVersion,
         specifier: VersionSpecifier,
     },
-    /// A version key looked for in a list of versions, as `python_version in '3.8 3.9'`. Where it
-    /// is negated, it holds where the version is not found.
+    /// A version key looked up in a list of versions, such as `python_version in '3.8 3.9'`. If
+    /// negated, it is true if the version is not in the list.
     VersionIn {
         key: MarkerValueVersion,
         versions: Vec<Version>,
         negated: bool,
     },
-    /// A text key compared with a text, as `os_name == 'posix'`.
+    /// A text key compared with a text, such as `os_name == 'posix'`.
     String {
         key: MarkerValueString,
         operator: MarkerOperator,
         value: String,
     },
-    /// `extra` compared with a name, as `extra == 'dev'`.
+    /// `extra` compared with a name, such as `extra == 'dev'`.
     Extra {
         operator: ExtraOperator,
         name: MarkerValueExtra,

@@ -1,4 +1,4 @@
-//! What stands beside `extra`.
+//! The text that `extra` is compared with.
 
 ghost use Rattle.std.specs.Prelude.{◌≡◌};
 
@@ -7,12 +7,12 @@ use std::alloc::AllocError;
 use std::fmt;
 use std::fmt::Display;
 
-/// What stands beside `extra`.
+/// The text that `extra` is compared with.
 #[derive(Debug, PartialEq, Eq, PartialOrd, Ord, Hash, Drop)]
 pub enum MarkerValueExtra {
     /// A name of an extra.
     Extra(ExtraName),
-    /// A text that is no name, which no list of extras has.
+    /// A text that is an invalid name, which no list of extras contains.
     Arbitrary(String),
 }
 

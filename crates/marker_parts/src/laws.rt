@@ -4,7 +4,7 @@ ghost use Rattle.std.specs.Prelude.{◌≡◌, List, ℕ};
 ghost use Rattle.marker_parts.specs.Comparison.{Compared, Meaning};
 ghost use Rattle.marker_parts.specs.Whole.{IsComparison};
 
-/// One comparison at most stands at the front of a text, and it has one meaning.
+/// A text begins with at most one comparison, which has one meaning.
 pub fn comparison_is_unique()
     ensures { (i o p : List ℕ) (m n : Meaning) →
         Compared i o m → Compared i p n → (o ≡ p) × (m ≡ n) }

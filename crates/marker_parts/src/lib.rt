@@ -1,12 +1,17 @@
-//! What a marker is made of, and how one comparison is read (PEP 508, "Environment Markers").
+//! The parts of a marker, and the parser of one comparison (PEP 508, "Environment Markers").
 //!
-//! An expression is one comparison.
+//! A [`MarkerExpression`] is one comparison. A comparison that PEP 508 allows but that has no
+//! meaning, such as `'a' == 'b'`, is dropped with a warning.
+//!
+//! Calls that allocate return `AllocError` or `OutOfMemory` when memory runs out; every existing
+//! value keeps its meaning.
 #![tactic(auto)]
 
 mod comparison;
 mod display;
 mod expression;
 mod extra;
+pub mod internal;
 pub mod laws;
 mod meaning;
 mod parse;
@@ -14,15 +19,13 @@ mod version_comparison;
 mod version_operator;
 mod version_range;
 
-pub use comparison::{ComparisonError, read_comparison};
 pub use expression::MarkerExpression;
 pub use extra::MarkerValueExtra;
 pub use marker_environment::{MarkerEnvironment, MarkerEnvironmentBuilder, StringVersion};
 pub use marker_words::{
-    ExtraOperator, Fault, FaultKind, MarkerOperator, MarkerOperatorBounds, MarkerValue,
-    MarkerValueString, MarkerValueVersion, TextVariable, VersionVariable,
+    ExtraOperator, MarkerOperator, MarkerOperatorBounds, MarkerValue, MarkerValueString,
+    MarkerValueVersion, TextVariable, VersionVariable,
 };
-pub use parse::report_kinds;
 pub use pep440_rs::{Version, VersionSpecifier};
 pub use pep508_errors::{
     MarkerWarningKind, Pep508Error, Pep508ErrorSource, Pep508Url, ReportTo, Reporter, Surroundings,

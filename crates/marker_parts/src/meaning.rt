@@ -1,4 +1,4 @@
-//! What a comparison comes to: its expression, or nothing where it is dropped, and its warnings.
+//! The meaning of a comparison: its expression, or nothing if it is dropped, and its warnings.
 
 ghost use Rattle.std.specs.Prelude.{◌≡◌};
 ghost use Rattle.marker_words.specs.Key.{is_deprecated};
@@ -16,7 +16,7 @@ use pep508_names::ExtraName;
 use refusal::unless_fault;
 use std::alloc::{AllocError, Global};
 
-// What a comparison comes to: its expression, or nothing where it is dropped, and the kinds of its
+// The meaning of a comparison: its expression, or nothing if it is dropped, and the kinds of its
 // warnings in order.
 #[derive(Debug, Drop)]
 pub(crate) struct Outcome {
@@ -32,7 +32,7 @@ impl Outcome {
     ghost use Rattle.marker_parts.specs.VersionComparison.{refused_kinds};
     ghost use Rattle.marker_parts.specs.Read.{meaning_of, IsMeaningOf};
 
-    // What two sides and the operator between them come to.
+    // The meaning of two sides and the operator between them.
     #[tactic(auto, using(crate::proofs::MeaningLaws::sides_mean))]
     pub(crate) fn of(alloc: Global, comparison: ComparisonRef<'_>) -> Result<Outcome, AllocError>
         ensures { IfOk result (λ outcome. IsMeaningOf comparison.entry (meaning_of outcome)) }
@@ -94,7 +94,7 @@ impl Outcome {
         }
     }
 
-    // A deprecated spelling is warned of.
+    // Adds a warning for a deprecated spelling.
     fn warn_of(kinds: &mut Vec<MarkerWarningKind>, key: MarkerValueString) -> Result<(), AllocError>
         ensures { OnOk result (kinds.new.items ≡ kinds.old.items ++ key_kinds key) }
     {
@@ -112,7 +112,7 @@ impl Outcome {
         Ok(kinds)
     }
 
-    // A comparison that is left out, for a reason of its own.
+    // A comparison that is dropped with a further warning.
     fn dropped_with(
         mut kinds: Vec<MarkerWarningKind>,
         reason: MarkerWarningKind,
@@ -127,7 +127,7 @@ impl Outcome {
         })
     }
 
-    // A comparison of a text key with something else that is not quoted.
+    // A text key compared with something that is not quoted.
     fn dropped_key(
         alloc: Global,
         key: MarkerValueString,
@@ -139,7 +139,7 @@ impl Outcome {
         Outcome::dropped_with(Outcome::kinds_of(alloc, key)?, reason)
     }
 
-    // A version key and a quoted text behind it. A list is warned of twice.
+    // A version key compared with a quoted text. A list has two warnings.
     #[tactic(auto, using(crate::proofs::MeaningLaws::meant_behind))]
     fn of_version(
         alloc: Global,
@@ -161,7 +161,7 @@ impl Outcome {
         Ok(Outcome { expression, kinds })
     }
 
-    // A version key and a quoted text before it, with the operator turned.
+    // A quoted text compared with a version key: the operator is turned around.
     #[tactic(auto, using(crate::proofs::MeaningLaws::meant_before))]
     fn of_turned_version(
         alloc: Global,
@@ -179,7 +179,7 @@ impl Outcome {
         Ok(Outcome { expression, kinds })
     }
 
-    // A text key beside a quoted text.
+    // A text key and a quoted text.
     fn of_text(
         alloc: Global,
         key: MarkerValueString,
@@ -203,7 +203,7 @@ impl Outcome {
         })
     }
 
-    // A text that is no name is an arbitrary extra.
+    // A text that is an invalid name is an arbitrary extra.
     #[tactic(auto, using(crate::proofs::MeaningLaws::extra_of_text))]
     fn extra(alloc: Global, text: &str) -> Result<MarkerValueExtra, AllocError>
         ensures { IfOk result (λ extra. IsExtra text.now
@@ -215,7 +215,7 @@ impl Outcome {
         }
     }
 
-    // `extra` beside a quoted text.
+    // `extra` and a quoted text.
     fn of_extra(alloc: Global, operator: MarkerOperator, text: &str) -> Result<Outcome, AllocError>
         ensures { IfOk result (λ outcome. MeansExtra text.now operator (meaning_of outcome)) }
     {

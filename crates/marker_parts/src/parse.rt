@@ -1,4 +1,4 @@
-//! One comparison as a whole text.
+//! Parsing a whole text as one comparison.
 
 ghost use Rattle.std.specs.Prelude.{◌≡◌, ◌≢◌, ◌++◌, [], List, IfOk, IfErr, IfSome, IfNone, OnErr, OnOk};
 ghost use Rattle.std.specs.Str.{chars};
@@ -9,7 +9,8 @@ ghost use Rattle.marker_words.specs.Fault.{IsWordFault};
 ghost use Rattle.marker_parts.specs.Whole as whole;
 ghost use Rattle.marker_parts.specs.Whole.{IsRead};
 ghost use Rattle.marker_parts.specs.Reporting.{HasBegun, ReportsSome};
-ghost use Rattle.marker_parts.specs.Error.{Tells, Becomes, IsRefusal, OnFault};
+ghost use Rattle.refusal.specs.Refused.{FaultIs};
+ghost use Rattle.marker_parts.specs.Error.{Tells, Becomes, IsRefusal};
 
 use crate::comparison::{ComparisonError, read_comparison};
 use crate::expression::MarkerExpression;
@@ -19,8 +20,8 @@ use pep508_text::{Place, first, last, skip_space};
 use refusal::Refusal;
 use std::alloc::{AllocError, Global};
 
-// What is wrong where more than white space follows the comparison of a text. The last character is
-// left out of the span.
+// The fault of a text that has more than white space after its comparison. The span ends before the
+// last character.
 fn trailing_fault(rest: &str) -> Option<Fault<'_>>
     ensures none { IfNone result (after_space (chars rest.now) ≡ []) }
     ensures some { IfSome result (λ fault. after_space (chars rest.now) ≢ []) }
@@ -32,7 +33,7 @@ fn trailing_fault(rest: &str) -> Option<Fault<'_>>
     Some(FaultKind::Trailing(found).at(Place::at_run(piece, text)))
 }
 
-// The comparison that the whole text is, and the kinds of its warnings.
+// Parses a whole text as a comparison. Returns it with the kinds of its warnings.
 fn read_whole(
     alloc: Global,
     text: &str,
@@ -51,7 +52,7 @@ fn read_whole(
     }
 }
 
-// The fault with its message, its place and its text.
+// The error for a fault: its message, its place and the text.
 fn error_of_fault<T: Pep508Url>(
     alloc: Global,
     text: &str,
@@ -69,8 +70,8 @@ fn error_of_fault<T: Pep508Url>(
 }
 
 impl ComparisonError<'_> {
-    /// The refusal of a text with this fault: its message, its place, and a copy of the text. It is
-    /// `OutOfMemory` where there is no memory for them.
+    /// Returns the refusal of a text with this fault: its message, its place, and a copy of the
+    /// text. `OutOfMemory` if there is no memory for them.
     pub fn refusal<T: Pep508Url>(self, alloc: Global, text: &str) -> Refusal<Pep508Error<T>>
         ensures { Becomes text.now self.entry result }
     {
@@ -101,8 +102,7 @@ fn warning_of(kind: MarkerWarningKind) -> &'static str {
     }
 }
 
-/// Tells each kind with a warning of its own, in order. Where one is refused those before it have
-/// been told.
+/// Reports a warning of each kind, in order. When memory runs out, earlier ones stay reported.
 #[tactic(auto, using(crate::proofs::WholeLaws::adds_nothing, crate::proofs::WholeLaws::adds_more))]
 pub fn report_kinds<R: Reporter>(
     alloc: Global,
@@ -123,11 +123,13 @@ pub fn report_kinds<R: Reporter>(
 }
 
 impl MarkerExpression {
-    /// Reads one comparison with white space around it, which reports nothing. `None` where it is
-    /// dropped.
+    /// Parses one comparison, with white space around it, without reporting warnings. `None` if it
+    /// is dropped.
     ///
-    /// Where no comparison stands there, or more follows it, the fault has the message, the place
-    /// and the text. A refusal is never `SegmentAtEnd`.
+    /// # Errors
+    /// - [`Refusal::Fault`] if the text is not exactly one comparison: what is wrong, where, and
+    ///   the text.
+    /// - [`Refusal::OutOfMemory`] when memory runs out.
     pub fn parse<T: Pep508Url>(
         alloc: Global,
         text: &str,
@@ -142,9 +144,12 @@ impl MarkerExpression {
         }
     }
 
-    /// The same, with the warnings reported in the order of the text. A text that is at fault has
-    /// reported nothing, and where memory runs out the first of the warnings, or none, have been
-    /// reported.
+    /// Parses one comparison as [`MarkerExpression::parse`] does, and reports its warnings in
+    /// order.
+    ///
+    /// # Errors
+    /// - The errors of [`MarkerExpression::parse`]. Nothing was reported, except that the first
+    ///   warnings may have been when memory runs out.
     pub fn parse_reporter<T: Pep508Url, R: Reporter>(
         alloc: Global,
         text: &str,
@@ -155,8 +160,8 @@ impl MarkerExpression {
             × IsRead text.now expression kinds
             × Adds (R.kinds reporter.old) (R.kinds reporter.new) kinds) }
         ensures refused { IfErr result (IsRefusal text.now) }
-        ensures unreported { IfErr result (λ refusal.
-            OnFault refusal (Keeps (R.kinds reporter.old) (R.kinds reporter.new))) }
+        ensures unreported { FaultIs result (λ _.
+            Keeps (R.kinds reporter.old) (R.kinds reporter.new)) }
         ensures begun { IfErr result (λ _.
             HasBegun IsRead text.now (R.kinds reporter.old) (R.kinds reporter.new)) }
         ensures again { R.can_report reporter.new }

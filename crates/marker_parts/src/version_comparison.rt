@@ -1,4 +1,4 @@
-//! A version key beside a quoted text.
+//! A version key and a quoted text.
 
 ghost use Rattle.std.specs.Prelude.{◌≡◌, ◌<◌, ℕ, List, [], Bool, false, IfOk, IfSome, IfNone, length};
 ghost use Rattle.std.specs.Str.{chars};
@@ -17,10 +17,9 @@ use marker_words::MarkerValueVersion;
 use pep440_specifier::{Operator, VersionSpecifier};
 use pep440_version::{Version, VersionPattern};
 use pep508_text::{Class, skip_space, split_run};
-use refusal::unless_fault;
 use std::alloc::{AllocError, Global};
 
-// What a version key and a text behind it ask, if anything.
+// The expression of a version key compared with a text, if they can be compared.
 pub(crate) fn asked_behind(
     alloc: Global,
     key: MarkerValueVersion,
@@ -34,7 +33,7 @@ pub(crate) fn asked_behind(
 {
     match operator {
         VersionOperator::Compare(operator) => {
-            let Some(pattern) = pattern(alloc, text)? else {
+            let Some(pattern) = VersionPattern::read(alloc, text)? else {
                 return Ok(None);
             };
             let Some(specifier) = specifier(operator, pattern) else {
@@ -56,7 +55,8 @@ pub(crate) fn asked_behind(
     }
 }
 
-// What a version key and a text before it ask, if anything, where the operator is turned.
+// The expression of a text compared with a version key, if they can be compared. The operator is
+// turned around.
 pub(crate) fn asked_before(
     alloc: Global,
     key: MarkerValueVersion,
@@ -70,7 +70,7 @@ pub(crate) fn asked_before(
 {
     match operator {
         VersionOperator::Compare(operator) => {
-            let Some(version) = version(alloc, text)? else {
+            let Some(version) = Version::read(alloc, text)? else {
                 return Ok(None);
             };
             let Some(specifier) = plain_specifier(operator, version) else {
@@ -82,23 +82,7 @@ pub(crate) fn asked_before(
     }
 }
 
-fn pattern(alloc: Global, text: &str) -> Result<Option<VersionPattern>, AllocError>
-    ensures found { IfOk result (λ found. IfSome found (λ pattern.
-        IsPatternText text.now pattern.version pattern.wildcard)) }
-    ensures none { IfOk result (λ found. IfNone found (
-        (v : Parts) (star : Bool) → ¬ IsPatternText text.now v star)) }
-{
-    unless_fault(VersionPattern::parse(alloc, text))
-}
-
-fn version(alloc: Global, text: &str) -> Result<Option<Version>, AllocError>
-    ensures found { IfOk result (λ found. IfSome found (IsVersionText text.now)) }
-    ensures none { IfOk result (λ found. IfNone found ((v : Parts) → ¬ IsVersionText text.now v)) }
-{
-    unless_fault(Version::parse(alloc, text))
-}
-
-// The specifier of an operator and a pattern, or `None` where they do not go together.
+// The specifier of an operator and a pattern, or `None` if they do not fit.
 fn specifier(operator: Operator, pattern: VersionPattern) -> Option<VersionSpecifier>
     ensures found { IfSome result (λ s. Makes operator pattern.version pattern.wildcard s) }
     ensures none { IfNone result (
@@ -110,7 +94,7 @@ fn specifier(operator: Operator, pattern: VersionPattern) -> Option<VersionSpeci
     }
 }
 
-// The same of a version with no star.
+// The specifier of an operator and a version without a star, or `None` if they do not fit.
 fn plain_specifier(operator: Operator, version: Version) -> Option<VersionSpecifier>
     ensures found { IfSome result (λ s. Makes operator version false s) }
     ensures none { IfNone result ((s : Specifier) → Makes operator version false s → ⊥) }
@@ -121,7 +105,7 @@ fn plain_specifier(operator: Operator, version: Version) -> Option<VersionSpecif
     }
 }
 
-// The next run of characters that are no white space, and what follows it.
+// The next run of characters other than white space, and the rest.
 #[tactic(auto, using(crate::proofs::VersionListLaws::next_entry))]
 fn next_entry(text: &str) -> Option<(&str, &str)>
     ensures found { IfSome result (λ x. IsEntry (chars text.now) x.0.now (chars x.1.now)) }
@@ -137,7 +121,7 @@ fn next_entry(text: &str) -> Option<(&str, &str)>
     }
 }
 
-// The versions of a list, or `None` where an entry is no version.
+// The versions of a list, or `None` if an entry is an invalid version.
 fn version_list(alloc: Global, text: &str) -> Result<Option<Vec<Version>>, AllocError>
     ensures found { IfOk result (λ found. IfSome found (λ versions.
         IsVersionList (chars text.now) versions.items)) }
@@ -147,7 +131,7 @@ fn version_list(alloc: Global, text: &str) -> Result<Option<Vec<Version>>, Alloc
     let mut versions = Vec::new(alloc);
     let mut rest = text;
     'entries: while let Some((entry, after)) = next_entry(rest) {
-        let Some(version) = version(alloc, entry)? else {
+        let Some(version) = Version::read(alloc, entry)? else {
             return Ok(None);
         };
         versions.push(version)?;

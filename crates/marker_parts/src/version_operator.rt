@@ -9,11 +9,11 @@ use pep440_specifier::Operator;
 // What an operator does with versions.
 #[derive(Clone, Copy, Debug, PartialEq, Eq)]
 pub(crate) enum VersionOperator {
-    // It compares with a version.
+    // Compares with a version.
     Compare(Operator),
-    // It looks in a list.
+    // Looks the version up in a list.
     Among { negated: bool },
-    // A version is no part of another.
+    // Nothing: a version is not a substring of another.
     Neither,
 }
 

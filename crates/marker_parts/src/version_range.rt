@@ -1,4 +1,4 @@
-//! The points at which a version comparison holds.
+//! The versions that satisfy a comparison.
 
 ghost use Rattle.std.specs.Prelude.{◌≡◌, IfOk, IfErr, IfSome, IfNone, OnOk, Some, None};
 ghost use Rattle.version_ranges.specs.Point.{Point};
@@ -25,11 +25,12 @@ use std::convert::Infallible;
 use version_ranges::Ranges;
 
 impl MarkerExpression {
-    /// The variable of a comparison with versions, and the points of that variable at which the
-    /// comparison holds. `None` for a comparison with a text or an extra.
+    /// Returns the variable of a comparison with versions, and the set of its values that satisfy
+    /// the comparison. `None` for a comparison with a text or an extra.
     ///
-    /// It is refused as `SegmentAtEnd` where a bound of the set would raise 18446744073709551615,
-    /// and else for want of memory alone.
+    /// # Errors
+    /// - [`Refusal::SegmentAtEnd`] if the set has a bound above 2^64 - 1.
+    /// - [`Refusal::OutOfMemory`] when memory runs out.
     pub fn version_range(
         &self,
         alloc: Global,
@@ -41,7 +42,7 @@ impl MarkerExpression {
         ensures none { IfOk result (λ found. IfNone found (
             asked_version (test_of self.now) ≡ None)) }
 
-        // Only where the largest number would be raised is there none.
+        // There is no set only if a bound would be above 2^64 - 1.
         ensures no_overflow { OnOk result (¬ Overflows (test_of self.now)) }
         ensures refused { IfErr result (IsRefusal (Overflows (test_of self.now))) }
     {
@@ -63,7 +64,7 @@ impl MarkerExpression {
     }
 }
 
-// The points of a key's variable at which a specifier holds.
+// The values of a key's variable that satisfy a specifier.
 fn specifier_range(
     alloc: Global,
     key: MarkerValueVersion,
@@ -82,7 +83,7 @@ fn specifier_range(
     }
 }
 
-// The points of a key's variable at which it is in a list, or where that is negated, is in none.
+// The values of a key's variable that are in a list, or if negated, those that are not.
 fn list_range(
     alloc: Global,
     key: MarkerValueVersion,

@@ -15,7 +15,7 @@ first_here (x ∷ xs) (suc i) t l e =
     let n : suc (i + 1) ≡ suc i + 1 = omega arith in
     first_here xs i t (omega arith) e ∙ ap (λ k. or_else (asked_extra t) (first_extra (drop k (x ∷ xs)))) n
 
--- there is none behind the end
+-- there is none after the end
 pub first_none : (xs : List MarkerExpression) (i : ℕ) → length xs ≤ i → first_extra (drop i xs) ≡ None
 first_none [] zero l = refl
 first_none [] (suc i) l = refl

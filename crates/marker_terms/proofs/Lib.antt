@@ -1,8 +1,12 @@
 pub mod ListLaws
-pub mod ClauseLaws
 pub mod TermLaws
 pub mod SetLaws
 pub mod TextLaws
 pub mod ExtraLaws
 pub mod PlainLaws
-pub mod TermsOf
+pub mod Places
+pub mod LeftLaws
+pub mod NearLaws
+pub mod KeptLaws
+pub mod MeaningLaws
+pub mod NumberLaws

@@ -1,4 +1,4 @@
--- Terms that are read back as they are printed.
+-- Terms that parse back from their text.
 use Rattle.std.proofs.Common.{◌≡◌, ◌≢◌, ℕ, Bool, true, false, cond, ◌&&◌, List, [], ◌∷◌, ◌++◌, string_bytes, refl, sym, ap, ◌∙◌, subst}
 use Rattle.std.specs.Prelude.{String, Vec, IfSome, Option, None, Some}
 use Rattle.std.specs.Borrow.{Bor}
@@ -41,7 +41,7 @@ module _ {X : Type 0} (P : X → Type 0) where
   pub each_pushed : (old new : List X) (x : X) → new ≡ old ++ (x ∷ []) → AllByRecursion P old → P x → AllByRecursion P new
   each_pushed old new x e h p = subst (AllByRecursion P) (sym e) (behind old x h p)
 
-  -- the first element, and those behind it
+  -- the first element, and those after it
   pub each_parts : (left rest : List X) (x : X) → left ≡ x ∷ rest → AllByRecursion P left → P x × AllByRecursion P rest
   each_parts left rest x e h = let q = subst (AllByRecursion P) e h in (q.0, q.1)
 
@@ -53,7 +53,7 @@ clauses_pushed {A} old new c e h p = subst (λ x. HavePrintableTerms (clauses_of
     by_list [] h = (p, tt)
     by_list (x ∷ xs) h = (h.0, by_list xs h.1)
 
--- one clause alone
+-- a single clause
 pub clause_printable : {A : Type 0} (old new : List (Vec MarkerExpression A)) (c : Vec MarkerExpression A) → old ≡ [] → new ≡ old ++ (c ∷ []) → AllPrintable c.items → HavePrintableTerms (clauses_of new)
 clause_printable old new c n e p = clauses_pushed old new c e (subst (λ x. HavePrintableTerms (clauses_of x)) (sym n) tt) p
 

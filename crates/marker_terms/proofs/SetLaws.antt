@@ -41,7 +41,7 @@ clauses_more {A} old new c e v = ap (λ x. clauses_hold (clauses_of x) v) e ∙ 
     behind [] = or_end (clause_holds c.items v)
     behind (x ∷ xs) = ap (λ b. clause_holds x.items v || b) (behind xs) ∙ sym (or_assoc (clause_holds x.items v) (clauses_hold (clauses_of xs) v) (clause_holds c.items v))
 
--- one clause alone
+-- a single clause
 pub clauses_one : {A : Type 0} (old new : List (Vec MarkerExpression A)) (c : Vec MarkerExpression A) → old ≡ [] → new ≡ old ++ (c ∷ []) → (v : Valuation) →
     clauses_hold (clauses_of new) v ≡ clause_holds c.items v
 clauses_one old new c n e v = clauses_more old new c e v ∙ ap (λ x. clauses_hold (clauses_of x) v || clause_holds c.items v) n
@@ -107,7 +107,7 @@ pub none_left : {X I : Type 0} (view : X → I) (r : Option X) (s t : List I) �
 none_left view None s t e h = h.0
 none_left view (Some x) s t e h = cc e
 
--- what one specifier alone excludes
+-- what a single specifier excludes
 pub excluded_range : (found : Option Specifier) (s : Specifier) (lower upper : Bound (Bor Parts)) (left : List Specifier) → bound_specifiers lower upper ≡ s ∷ left → left ≡ [] →
     ((lower upper : Bound (Bor Parts)) (p : Point Parts) → IsAtRelease lower → IsAtRelease upper → is_in_all (bound_specifiers lower upper) p ≡ is_within lower upper p) →
     IfSome found (λ t. (p : Point Parts) → is_in t.operator t.version.release p ≡ not (is_in s.operator s.version.release p)) →
@@ -123,7 +123,7 @@ pub found_exclusion : (found : Option Specifier) (s : Specifier) (lower upper : 
 found_exclusion None s lower upper e h a b p = cc e
 found_exclusion (Some t) s lower upper e h a b p = let q : t ≡ s = cc e in ap (λ (x : Specifier). is_in x.operator x.version.release p) (sym q) ∙ h a b p
 
--- the terms of what is outside of a set, where they were found
+-- the terms outside of a set, if they were found
 pub found_terms : {A : Type 0} (found : Option (Vec MarkerExpression A)) (terms : Vec MarkerExpression A) (outside : Valuation → Bool) → found ≡ Some terms →
     IfSome found (λ t. (v : Valuation) → clause_holds t.items v ≡ not (outside v)) → (v : Valuation) → clause_holds terms.items v ≡ not (outside v)
 found_terms None terms outside e h v = cc e

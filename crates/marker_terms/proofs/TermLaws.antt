@@ -33,7 +33,7 @@ abbrev pub NegatedPythons : Type 0
 NegatedPythons = (o n : Operator) (r : List ℕ) (p : Point Parts) → negated o ≡ Some n → python_is_in n r p ≡ not (python_is_in o r p)
 
 module _ (s t : Specifier) (some : 0 < length s.version.release) (other : 0 < length t.version.release) (releases : EqualReleases) (pythons : EqualPythons) where
-  -- equal specifiers stand for one set
+  -- equal specifiers have the same set
   pub equal_hold : eq_by_cmp specifier_cmp s t ≡ true → (key : MarkerValueVersion) (p : Point Parts) → holds_version key s p ≡ holds_version key t p
   equal_hold e ImplementationVersion p = releases s t ((Equal-is (specifier_cmp s t)).0 e) p
   equal_hold e PythonFullVersion p = releases s t ((Equal-is (specifier_cmp s t)).0 e) p
@@ -45,7 +45,7 @@ not_not false true e = refl
 not_not true false e = refl
 not_not false false e = e
 
--- the operator of a negation counts the numbers of a release where the operator does
+-- the number of release numbers counts for the operator of a negation if it does for the operator
 counted_alike : (o n : Operator) (k l : ℕ) → negated o ≡ Some n → (is_star o ≡ true → k ≡ l) → counted_of n k ≡ counted_of n l
 counted_alike o operators.Equal k l e h = refl
 counted_alike o operators.ExactEqual k l e h = refl

@@ -58,7 +58,7 @@ module _ {T : Type 0} {cmp : T → T → Ordering} (o : IsTotalOrder cmp) where
   any_cond t true i is = refl
   any_cond t false i is = refl
 
-  -- a point is in the set where it is in an interval
+  -- a point is in the set if it is in an interval
   pub held_covers : (p : Point T) (low : Option (Cut T)) (lower : Bound T) (v : Bool) (xs : List (Cut T × Bool)) → ascends (cut_cmp cmp) low xs ≡ true → is_from cmp lower p ≡ true →
       value_at (stands_before (λ v. v) cmp p) v xs ≡ list_any (λ i. is_within cmp i p) (intervals_among (parts_from lower v xs))
   held_covers p low lower true [] a e = ap (λ b. (b && true) || false) (sym e)
@@ -124,7 +124,7 @@ any_map t f [] = refl
 any_map t f (x ∷ xs) = ap (λ b. t (f x) || b) (any_map t f xs)
 
 module _ {a : _} {b : _} {c : _} (set : Ranges (String Global) a b c) where
-  -- a point is in a set of texts where it is in an interval
+  -- a point is in a set of texts if it is in an interval
   pub text_covers : ascends (cut_cmp string_cmp) None set.cuts.rest.items ≡ true → (q : Point (List ℕ)) →
       contains_by string_bytes text_cmp set q ≡ list_any (λ i. is_within text_cmp (interval_bytes i) q) (intervals_of set)
   text_covers asc q =
@@ -150,9 +150,9 @@ pub interval_is : (lower upper : Bound (Bor (String Global))) (q : Point (List �
 interval_is lower upper q =
     ap (λ l. is_in_bounds text_cmp l (bound_map string_bytes (bound_map (λ v. v.now) upper)) q) (text_bound_is lower) ∙ ap (λ u. is_in_bounds text_cmp (text_bound lower) u q) (text_bound_is upper)
 
--- ---- comparisons that ask for an order
+-- ---- comparisons by order
 
--- whether the operator asks for no more than an order
+-- whether the operator is about order
 abbrev pub orders : MarkerOperator → Bool
 orders In = false
 orders NotIn = false

@@ -13,14 +13,14 @@ clauses_of clauses = map (λ c. c.items) clauses
 abbrev pub term_holds : MarkerExpression → Valuation → Bool
 term_holds term v = holds (test_of term) v
 
--- whether each term of a clause holds: all do where there is none
+-- whether each term of a clause is true; an empty clause is true
 abbrev pub clause_holds : List MarkerExpression → Valuation → Bool
 clause_holds clause v = list_all (λ t. term_holds t v) clause
 
--- whether one of the clauses holds: none does where there is none
+-- whether one of the clauses is true; without clauses none is
 abbrev pub clauses_hold : List (List MarkerExpression) → Valuation → Bool
 clauses_hold clauses v = list_any (λ c. clause_holds c v) clauses
 
--- the clauses hold together where others do
+-- the clauses are true exactly where others are
 abbrev pub MeanTheSame : List (List MarkerExpression) → List (List MarkerExpression) → Type 0
 MeanTheSame clauses others = (v : Valuation) → clauses_hold clauses v ≡ clauses_hold others v

@@ -1,11 +1,11 @@
--- The extra that each of some clauses asks for.
+-- The extra that all clauses have in common.
 use Rattle.std.specs.Prelude.{◌≡◌, ◌≢◌, List, [], ◌∷◌, Option, Some, None}
 use Rattle.std.specs.List.{AllByRecursion}
 use Rattle.marker_words.specs.declared.operator.ExtraOperator.TheVariants as operators
 use Rattle.marker_parts.specs.declared.expression.MarkerExpression.{MarkerExpression}
 use Rattle.marker_parts.specs.Expression.{Extra, Test, extra, test_of, text, version, version_in}
 
--- the extra that a comparison asks for by `==`
+-- the extra that a comparison compares with by `==`
 abbrev pub extra_of_test : Test → Option Extra
 extra_of_test (version key specifier) = None
 extra_of_test (version_in key versions negated) = None

@@ -1,4 +1,4 @@
--- The comparisons whose printed text is read back, in the grammar of markers (PEP 508).
+-- The comparisons whose printed text parses back, in the grammar of markers (PEP 508).
 use Rattle.std.specs.Prelude.{◌≡◌, ◌≢◌, ◌==◌, ◌&&◌, ℕ, Bool, true, not, List, []}
 use Rattle.std.specs.List.{AllByRecursion, list_any}
 use Rattle.pep440_specifier.specs.Specifier.{IsWellFormed, Specifier}
@@ -9,16 +9,16 @@ use Rattle.marker_words.specs.declared.operator.MarkerOperator.TheVariants.{Tild
 use Rattle.marker_parts.specs.declared.expression.MarkerExpression.{MarkerExpression}
 use Rattle.marker_parts.specs.Expression.{Extra, Overflows, Test, arbitrary, extra, name, test_of, text, version, version_in}
 
--- one of the two quotes is not in the text, 39 and 34, and so can stand around it
+-- one of the two quotes, 39 and 34, is not in the text, and so can enclose it
 abbrev pub is_plain : List ℕ → Bool
 is_plain t = not (list_any (λ c. c == 39) t && list_any (λ c. c == 34) t)
 
--- a name by its normal form, or a plain text that is no name
+-- a name by its normal form, or a plain text that is an invalid name
 abbrev pub IsPlainExtra : Extra → Type 0
 IsPlainExtra (name n) = NormalizesTo n n
 IsPlainExtra (arbitrary t) = ¬ IsName t × (is_plain t ≡ true)
 
--- the text of the comparison is read back: markers have no `===`, texts are not compared by `~=`,
+-- the text of the comparison parses back: markers have no `===`, texts are not compared by `~=`,
 -- and lists of versions are left out
 abbrev pub IsPlain : Test → Type 0
 IsPlain (version key s) = IsWellFormed s × (s.operator ≢ ExactEqual)
@@ -27,7 +27,7 @@ IsPlain (text key TildeEqual value) = ⊥
 IsPlain (text key operator value) = is_plain value ≡ true
 IsPlain (extra operator x) = IsPlainExtra x
 
--- a term that is read back and has a set
+-- a term that parses back and has a set
 pub record IsPrintable (e : MarkerExpression) : Type 0 where
   pub plain : IsPlain (test_of e)
   pub fits : ¬ Overflows (test_of e)

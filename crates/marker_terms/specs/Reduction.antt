@@ -1,43 +1,58 @@
--- What the terms and the clauses of a disjunction make up for.
-use Rattle.std.specs.Prelude.{◌≡◌, ◌<◌, ℕ, true, false, List, [], get_or, length}
-use Rattle.std.specs.List.{Contains, remove}
-use Rattle.marker_environment.specs.Valuation.{Valuation}
-use Rattle.marker_parts.specs.declared.expression.MarkerExpression.{MarkerExpression}
-use Rattle.marker_terms.specs.Clauses.{term_holds, clause_holds, clauses_hold}
+-- Redundant terms and clauses of a disjunction. The terms are distinguished by numbers: a term and
+-- its negation have two numbers that differ in their last bit.
+use Rattle.std.specs.Prelude.{◌==◌, ◌&&◌, ◌||◌, ◌++◌, ℕ, Bool, not, List, [], ◌∷◌, Option, Some, None, bit_xor, if◌then◌else◌}
+use Rattle.std.specs.List.{list_all, list_any}
+use Rattle.std.specs.Option.{option_to_list}
 
--- where only the term at k keeps a clause from holding, the term t holds
-abbrev pub Covers : MarkerExpression → List MarkerExpression → ℕ → Type 0
-Covers t clause k = (v : Valuation) → clause_holds (remove clause k) v ≡ true
-    → clause_holds clause v ≡ false → term_holds t v ≡ true
+-- a term of the clause has the number
+abbrev pub has_number : {X : Type 0} → (X → ℕ) → ℕ → List X → Bool
+has_number number n clause = list_any (λ t. number t == n) clause
 
--- where only the term at k keeps a clause from holding, the other clause holds
-abbrev pub MakesUp : List MarkerExpression → List MarkerExpression → ℕ → Type 0
-MakesUp other clause k = (v : Valuation) → clause_holds (remove clause k) v ≡ true
-    → clause_holds clause v ≡ false → clause_holds other v ≡ true
+-- the negation of a term of the clause, or another term of the clause
+abbrev pub is_covered : {X : Type 0} → (X → ℕ) → X → List X → X → Bool
+is_covered number term clause own = (number own == bit_xor (number term) 1)
+    || (not (number own == number term) && has_number number (number own) clause)
 
--- the clause at i may do without its term at k
-abbrev pub IsRedundant : List (List MarkerExpression) → ℕ → ℕ → Type 0
-IsRedundant clauses i k = (v : Valuation) → clause_holds (remove (get_or clauses i []) k) v ≡ true
-    → clauses_hold clauses v ≡ true
+-- each term of the other clause is the negation of the term, or another term of its clause
+abbrev pub stands_for : {X : Type 0} → (X → ℕ) → X → List X → List X → Bool
+stands_for number term clause other = list_all (is_covered number term clause) other
 
--- a clause holds only where the other does
-abbrev pub IsWithin : List MarkerExpression → List MarkerExpression → Type 0
-IsWithin clause other = (v : Valuation) → clause_holds clause v ≡ true
-    → clause_holds other v ≡ true
+-- a term that one of the others makes redundant
+abbrev pub is_redundant : {X : Type 0} → (X → ℕ) → List (List X) → List X → X → Bool
+is_redundant number others clause term = list_any (stands_for number term clause) others
 
--- a clause holds only where the term does
-abbrev pub HasTerm : List MarkerExpression → MarkerExpression → Type 0
-HasTerm clause term = (v : Valuation) → clause_holds clause v ≡ true → term_holds term v ≡ true
+-- a clause beside others, without its redundant terms: each term is judged by those that are kept
+-- and those that are still to come
+abbrev pub without_terms : {X : Type 0} → (X → ℕ) → List (List X) → List X → List X → List X
+without_terms number others kept [] = kept
+without_terms number others kept (t ∷ rest) = if is_redundant number others (kept ++ t ∷ rest) t
+    then without_terms number others kept rest
+    else without_terms number others (kept ++ t ∷ []) rest
 
--- the others hold where the clause at i does
-abbrev pub IsSpare : List (List MarkerExpression) → ℕ → Type 0
-IsSpare clauses i = (v : Valuation) → clause_holds (get_or clauses i []) v ≡ true
-    → clauses_hold (remove clauses i) v ≡ true
+-- each clause in turn as it is judged beside the others: those before it as they are then, and
+-- those after it
+abbrev pub judged : {X : Type 0} → (List (List X) → List X → Option (List X)) → List (List X)
+    → List (List X) → List (List X)
+judged judge done [] = done
+judged judge done (clause ∷ rest) =
+    judged judge (done ++ option_to_list (judge (done ++ rest) clause)) rest
 
--- the term stands in one of the clauses
-abbrev pub IsTermOf : List (List MarkerExpression) → MarkerExpression → Type 0
-IsTermOf clauses t = (i : ℕ) × (i < length clauses) × Contains (get_or clauses i []) t
+-- a clause without its redundant terms
+abbrev pub shortened : {X : Type 0} → (X → ℕ) → List (List X) → List X → Option (List X)
+shortened number others clause = Some (without_terms number others [] clause)
 
--- each term of the clauses is one of the others
-abbrev pub HasTermsOf : List (List MarkerExpression) → List (List MarkerExpression) → Type 0
-HasTermsOf clauses others = (t : MarkerExpression) → IsTermOf clauses t → IsTermOf others t
+-- a clause has all terms of another one
+abbrev pub has_all : {X : Type 0} → (X → ℕ) → List X → List X → Bool
+has_all number clause other = list_all (λ t. has_number number (number t) clause) other
+
+-- a clause that has all terms of one of the others
+abbrev pub is_spare : {X : Type 0} → (X → ℕ) → List (List X) → List X → Bool
+is_spare number others clause = list_any (has_all number clause) others
+
+-- a clause that is not spare
+abbrev pub needed : {X : Type 0} → (X → ℕ) → List (List X) → List X → Option (List X)
+needed number others clause = if is_spare number others clause then None else Some clause
+
+-- the clauses first without redundant terms, and then without spare clauses
+abbrev pub reduced : {X : Type 0} → (X → ℕ) → List (List X) → List (List X)
+reduced number clauses = judged (needed number) [] (judged (shortened number) [] clauses)

@@ -1,4 +1,4 @@
-//! The extra that every clause asks for.
+//! The extra that all clauses have in common.
 
 ghost use Rattle.std.specs.Prelude.{◌≡◌, ◌↔◌, IfNone, IfSome, IsTrue};
 ghost use Rattle.std.specs.Option.{option_map};
@@ -9,7 +9,8 @@ ghost use Rattle.marker_terms.specs.Extra.{asked_extra, first_extra, HasCommonEx
 use marker_parts::{MarkerExpression, MarkerValueExtra};
 use marker_words::ExtraOperator;
 
-/// The extra of the first `extra ==` of every clause, where there is a clause and all are the same.
+/// Returns the extra of the first `extra ==` of each clause, if there is a clause and all are the
+/// same.
 pub fn common_extra(clauses: &[Vec<MarkerExpression>]) -> Option<&MarkerValueExtra>
     ensures found { IfSome result (λ extra.
         HasCommonExtra (clauses_of clauses.now) (extra_of extra.now)) }

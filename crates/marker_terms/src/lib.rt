@@ -1,8 +1,14 @@
-//! Clauses: disjunctions of conjunctions of comparisons. Which clauses a set of versions or of
-//! texts is, and what a disjunction can do without.
+//! Clauses: disjunctions of conjunctions of comparisons. The clauses of a set of versions or texts,
+//! and the reduction of a disjunction.
+//!
+//! Calls that allocate return `AllocError` when memory runs out; every existing value keeps its
+//! meaning.
 #![tactic(auto)]
 
+mod endings;
 mod extra;
+mod numbered;
+mod numbering;
 mod reduction;
 mod term;
 mod text_set;
@@ -10,5 +16,6 @@ mod version_set;
 
 pub use extra::common_extra;
 pub use reduction::reduce;
-pub use text_set::text_clauses;
-pub use version_set::version_clauses;
+pub use term::one_clause;
+pub use text_set::{text_clauses, text_range_terms};
+pub use version_set::{version_clauses, version_range_terms};

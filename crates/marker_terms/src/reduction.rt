@@ -1,152 +1,247 @@
-//! Terms and clauses that a disjunction can do without.
+//! Redundant terms and clauses of a disjunction.
 
-ghost use Rattle.std.specs.Prelude.{◌≡◌, ◌<◌, true, length, vec_len};
-ghost use Rattle.std.specs.List.{remove};
-ghost use Rattle.marker_terms.specs.Clauses.{clauses_of, MeanTheSame};
-ghost use Rattle.marker_terms.specs.Reduction.{Covers, HasTermsOf, HasTerm, IsRedundant, IsSpare, IsWithin, MakesUp};
+ghost use Rattle.std.specs.Prelude.{◌≡◌, ◌++◌, ◌≤◌, ◌<◌, true, false, length, take, drop, set, vec_len, ℕ, List, [], None, Some, slice_get, Contains, OnOk, IfOk};
+ghost use Rattle.std.specs.Option.{option_map_or};
+ghost use Rattle.marker_terms.specs.Clauses.{MeanTheSame, clauses_of};
+ghost use Rattle.marker_terms.specs.Numbering.{IsReductionOf};
+ghost use Rattle.marker_terms.specs.Numbered.{FailAt, IsJudged, clause_at, left_of, number_of, terms_left};
+ghost use Rattle.marker_terms.specs.Endings.{AreEndingsOf, AreNear};
+ghost use Rattle.marker_terms.specs.Reduction.{has_all, is_redundant, is_spare, needed, reduced, shortened, stands_for, without_terms};
 
-use crate::term::{is_negation, is_same};
+use crate::endings::{Endings, always_listed, ending_with, endings_of, list_clause, near_places};
+use crate::numbered::{NumberedTerm, has_all, negation, stands_for};
+use crate::numbering::{clauses_left, count, no_numbers, numbered_clauses};
 use marker_parts::MarkerExpression;
+use std::alloc::{AllocError, Global};
 
-/// Leaves out terms and then clauses that the others make up for: the disjunction means what it
-/// meant, and has no term that it had not. This takes no memory.
+/// Of fewer clauses all are compared, because finding the relevant ones takes longer.
+const FEW: usize = 8;
+
+/// Returns the clauses without redundant terms, and then without redundant clauses. The disjunction
+/// means the same, and each term that is left was in its clause.
 ///
-/// Going through the clauses and their terms in turn, a term goes where another clause holds it
-/// nowhere and each term of that clause is its negation or another term that is still in its
-/// clause. Then a clause goes where another one that is still there has all its terms in it.
-pub fn reduce(clauses: &mut Vec<Vec<MarkerExpression>>)
-    ensures means { MeanTheSame (clauses_of clauses.new.items) (clauses_of clauses.old.items) }
-    ensures terms { HasTermsOf (clauses_of clauses.new.items) (clauses_of clauses.old.items) }
+/// Terms are checked in turn: one is removed if another clause lacks it, and each term of that
+/// clause is its negation or another term still in its clause. Then a clause is removed if it has
+/// all terms of another one that is still there.
+pub fn reduce(
+    alloc: Global,
+    clauses: Vec<Vec<MarkerExpression>>,
+) -> Result<Vec<Vec<MarkerExpression>>, AllocError>
+    ensures reduced { IfOk result (λ left. IsReductionOf (clauses_of left.items)
+        (clauses_of clauses.items)) }
+    ensures means { IfOk result (λ left. MeanTheSame (clauses_of left.items)
+        (clauses_of clauses.items)) }
+{
+    if clauses.len() < 2 {
+        return Ok(clauses);
+    }
+    let mut numbering = no_numbers(alloc);
+    let mut numbered = numbered_clauses(alloc, &mut numbering, clauses)?;
+    let count = if numbered.len() < FEW {
+        0
+    } else {
+        count(&numbering)
+    };
+    let mut endings = endings_of(alloc, &numbered, count)?;
+    reduce_listed(alloc, &mut numbered, &mut endings)?;
+    clauses_left(alloc, numbered)
+}
+
+// Whether there is a clause at a place that makes the term redundant.
+fn stands_at(
+    clauses: &[Option<Vec<NumberedTerm>>],
+    place: usize,
+    term: &NumberedTerm,
+    kept: &[NumberedTerm],
+    rest: &[NumberedTerm],
+) -> bool
+    ensures { result ≡ option_map_or (stands_for number_of term.now (kept.now ++ rest.now))
+        (clause_at clauses.now place) false }
+{
+    match clauses.get(place) {
+        Some(Some(other)) => stands_for(other, term, kept, rest),
+        _ => false,
+    }
+}
+
+// Whether a clause at one of the places makes the term redundant.
+fn is_made_up_for(
+    clauses: &[Option<Vec<NumberedTerm>>],
+    places: &[usize],
+    term: &NumberedTerm,
+    kept: &[NumberedTerm],
+    rest: &[NumberedTerm],
+) -> bool
+    ensures found { result ≡ true
+        → is_redundant number_of (left_of clauses.now) (kept.now ++ rest.now) term.now ≡ true }
+    ensures none { result ≡ false → FailAt (stands_for number_of term.now (kept.now ++ rest.now))
+        clauses.now places.now }
+{
+    for place in places {
+        if stands_at(clauses, *place, term, kept, rest) {
+            return true;
+        }
+    }
+    false
+}
+
+// Whether one of the clauses makes the term at an index of a clause redundant. Of the terms before
+// the index, the first `kept` are left.
+fn is_redundant(
+    clauses: &[Option<Vec<NumberedTerm>>],
+    endings: &Endings,
+    near: &[usize],
+    clause: &[NumberedTerm],
+    kept: usize,
+    index: usize,
+) -> bool
+    requires within { index < length clause.now }
+    requires order { kept ≤ index }
+    requires listed { AreEndingsOf endings.now clauses.now }
+    requires near { AreNear endings.now (terms_left kept index clause.now) near.now }
+    ensures { (t : NumberedTerm) → slice_get clause.now index ≡ Some t → result
+        ≡ is_redundant number_of (left_of clauses.now) (terms_left kept index clause.now) t }
+{
+    let term = &clause[index];
+    let before = &clause[..kept];
+    let rest = &clause[index..];
+    if is_made_up_for(clauses, always_listed(endings), term, before, rest) {
+        return true;
+    }
+    if is_made_up_for(clauses, near, term, before, rest) {
+        return true;
+    }
+    let opposite = ending_with(endings, negation(term.number));
+    is_made_up_for(clauses, opposite, term, before, rest)
+}
+
+// Removes the terms of a clause that the others make redundant.
+fn drop_terms(
+    alloc: Global,
+    clause: &mut Vec<NumberedTerm>,
+    others: &[Option<Vec<NumberedTerm>>],
+    endings: &Endings,
+) -> Result<(), AllocError>
+    requires { AreEndingsOf endings.now others.now }
+    ensures { OnOk result (clause.new.items
+        ≡ without_terms number_of (left_of others.now) [] clause.old.items) }
+{
+    let near = near_places(alloc, endings, clause)?;
+    let mut kept = 0;
+    for index in 0..clause.len() {
+        if !is_redundant(others, endings, &near, clause, kept, index) {
+            clause.swap(kept, index);
+            kept += 1;
+        }
+    }
+    clause.truncate(kept);
+    Ok(())
+}
+
+// Removes the redundant terms of the clause at a place.
+fn shorten(
+    alloc: Global,
+    clauses: &mut Vec<Option<Vec<NumberedTerm>>>,
+    place: usize,
+    endings: &mut Endings,
+) -> Result<(), AllocError>
+    requires within { place < vec_len clauses.old }
+    requires listed { AreEndingsOf endings.old clauses.old.items }
+    ensures judged { OnOk result (IsJudged (shortened number_of) clauses.old.items clauses.new.items
+        place) }
+    ensures listed { OnOk result (AreEndingsOf endings.new clauses.new.items) }
+{
+    let Some(mut clause) = clauses[place].take() else {
+        return Ok(());
+    };
+    drop_terms(alloc, &mut clause, clauses, endings)?;
+    list_clause(endings, &clause, place)?;
+    clauses[place] = Some(clause);
+    Ok(())
+}
+
+// Whether there is a clause at a place all of whose terms a clause has.
+fn has_all_at(clauses: &[Option<Vec<NumberedTerm>>], place: usize, clause: &[NumberedTerm]) -> bool
+    ensures { result ≡ option_map_or (has_all number_of clause.now) (clause_at clauses.now place)
+        false }
+{
+    match clauses.get(place) {
+        Some(Some(other)) => has_all(clause, other),
+        _ => false,
+    }
+}
+
+// Whether a clause has all terms of one of those at the places.
+fn has_all_of_one(
+    clauses: &[Option<Vec<NumberedTerm>>],
+    places: &[usize],
+    clause: &[NumberedTerm],
+) -> bool
+    ensures found { result ≡ true → is_spare number_of (left_of clauses.now) clause.now ≡ true }
+    ensures none { result ≡ false → FailAt (has_all number_of clause.now) clauses.now places.now }
+{
+    for place in places {
+        if has_all_at(clauses, *place, clause) {
+            return true;
+        }
+    }
+    false
+}
+
+// Whether a clause has all terms of one of the others.
+fn is_spare(
+    alloc: Global,
+    clause: &[NumberedTerm],
+    others: &[Option<Vec<NumberedTerm>>],
+    endings: &Endings,
+) -> Result<bool, AllocError>
+    requires { AreEndingsOf endings.now others.now }
+    ensures { IfOk result (λ b. b ≡ is_spare number_of (left_of others.now) clause.now) }
+{
+    if has_all_of_one(others, always_listed(endings), clause) {
+        return Ok(true);
+    }
+    let near = near_places(alloc, endings, clause)?;
+    Ok(has_all_of_one(others, &near, clause))
+}
+
+// Removes the clause at a place if it is redundant.
+fn drop_spare(
+    alloc: Global,
+    clauses: &mut Vec<Option<Vec<NumberedTerm>>>,
+    place: usize,
+    endings: &Endings,
+) -> Result<(), AllocError>
+    requires within { place < vec_len clauses.old }
+    requires listed { AreEndingsOf endings.now clauses.old.items }
+    ensures judged { OnOk result (IsJudged (needed number_of) clauses.old.items clauses.new.items
+        place) }
+    ensures listed { OnOk result (AreEndingsOf endings.now clauses.new.items) }
+{
+    let Some(clause) = clauses[place].take() else {
+        return Ok(());
+    };
+    if !is_spare(alloc, &clause, clauses, endings)? {
+        clauses[place] = Some(clause);
+    }
+    Ok(())
+}
+
+// Removes redundant terms, and then redundant clauses.
+fn reduce_listed(
+    alloc: Global,
+    clauses: &mut Vec<Option<Vec<NumberedTerm>>>,
+    endings: &mut Endings,
+) -> Result<(), AllocError>
+    requires { AreEndingsOf endings.old clauses.old.items }
+    ensures { OnOk result (left_of clauses.new.items
+        ≡ reduced number_of (left_of clauses.old.items)) }
 {
     for place in 0..clauses.len() {
-        drop_terms(clauses, place);
+        shorten(alloc, clauses, place, endings)?;
     }
-    drop_clauses(clauses);
-}
-
-// Leaves out the terms of one clause that another clause makes up for, one after another: a term
-// that is gone is not leaned on.
-fn drop_terms(clauses: &mut Vec<Vec<MarkerExpression>>, place: usize)
-    requires { place < vec_len clauses.old }
-    ensures count { vec_len clauses.new ≡ vec_len clauses.old }
-    ensures means { MeanTheSame (clauses_of clauses.new.items) (clauses_of clauses.old.items) }
-    ensures terms { HasTermsOf (clauses_of clauses.new.items) (clauses_of clauses.old.items) }
-{
-    let mut index = 0;
-    while index < clauses[place].len() {
-        if is_redundant(clauses, place, index) {
-            remove_term(&mut clauses[place], index);
-        } else {
-            index += 1;
-        }
+    for place in 0..clauses.len() {
+        drop_spare(alloc, clauses, place, endings)?;
     }
-}
-
-fn remove_term(clause: &mut Vec<MarkerExpression>, index: usize)
-    requires { index < vec_len clause.old }
-    ensures { clause.new.items ≡ remove clause.old.items index }
-{
-    clause.remove(index);
-}
-
-// Whether another clause makes up for a term of the clause at a place.
-fn is_redundant(clauses: &[Vec<MarkerExpression>], place: usize, index: usize) -> bool
-    requires { place < length clauses.now }
-    ensures { result ≡ true → IsRedundant (clauses_of clauses.now) place index }
-{
-    let clause = &clauses[place];
-    for (other_place, other) in clauses.iter().enumerate() {
-        if other_place != place && stands_for(other, clause, index) {
-            return true;
-        }
-    }
-    false
-}
-
-// Whether the other clause holds the term nowhere, and makes up for it.
-fn stands_for(other: &[MarkerExpression], clause: &[MarkerExpression], index: usize) -> bool
-    ensures { result ≡ true → MakesUp other.now clause.now index }
-{
-    match clause.get(index) {
-        Some(term) => !has_term(other, term) && makes_up(other, clause, index),
-        None => false,
-    }
-}
-
-// Whether each term of the other clause is the negation of the term, or another term of the clause.
-fn makes_up(other: &[MarkerExpression], clause: &[MarkerExpression], index: usize) -> bool
-    ensures { result ≡ true → MakesUp other.now clause.now index }
-{
-    for term in other {
-        if !covers(term, clause, index) {
-            return false;
-        }
-    }
-    true
-}
-
-fn covers(term: &MarkerExpression, clause: &[MarkerExpression], index: usize) -> bool
-    ensures { result ≡ true → Covers term.now clause.now index }
-{
-    for (place, own) in clause.iter().enumerate() {
-        if place == index {
-            if is_negation(term, own) {
-                return true;
-            }
-        } else if is_same(own, term) {
-            return true;
-        }
-    }
-    false
-}
-
-// Leaves out clauses all of whose cases another clause has.
-fn drop_clauses(clauses: &mut Vec<Vec<MarkerExpression>>)
-    ensures means { MeanTheSame (clauses_of clauses.new.items) (clauses_of clauses.old.items) }
-    ensures terms { HasTermsOf (clauses_of clauses.new.items) (clauses_of clauses.old.items) }
-{
-    let mut place = 0;
-    while place < clauses.len() {
-        if is_spare(clauses, place) {
-            clauses.remove(place);
-        } else {
-            place += 1;
-        }
-    }
-}
-
-fn is_spare(clauses: &[Vec<MarkerExpression>], place: usize) -> bool
-    requires { place < length clauses.now }
-    ensures { result ≡ true → IsSpare (clauses_of clauses.now) place }
-{
-    let clause = &clauses[place];
-    for (other_place, other) in clauses.iter().enumerate() {
-        if other_place != place && is_within(clause, other) {
-            return true;
-        }
-    }
-    false
-}
-
-// Whether each term of the other clause stands in the clause.
-fn is_within(clause: &[MarkerExpression], other: &[MarkerExpression]) -> bool
-    ensures { result ≡ true → IsWithin clause.now other.now }
-{
-    for term in other {
-        if !has_term(clause, term) {
-            return false;
-        }
-    }
-    true
-}
-
-fn has_term(clause: &[MarkerExpression], term: &MarkerExpression) -> bool
-    ensures { result ≡ true → HasTerm clause.now term.now }
-{
-    for own in clause {
-        if is_same(own, term) {
-            return true;
-        }
-    }
-    false
+    Ok(())
 }

@@ -1,4 +1,4 @@
-//! Comparisons that say the same, or the opposite.
+//! Comparisons that are equal, or each other's negation.
 
 ghost use Rattle.std.specs.Prelude.{◌≡◌, ℕ, IfOk, IfSome, List, Some, length, not, true};
 ghost use Rattle.std.specs.Ordering.{eq_by_cmp};
@@ -15,13 +15,14 @@ ghost use Rattle.marker_terms.specs.Plain.{AllPrintable, HavePrintableTerms};
 
 use marker_parts::MarkerExpression;
 use marker_words::MarkerOperator;
-use pep440_rs::VersionSpecifier;
 use pep440_rs::laws::{equal_specifiers_stand_for_one_set, negated_operator_is_complement};
+use pep440_rs::{Operator, VersionSpecifier};
 use pep440_version::laws::normal_text_reads_back;
 use std::alloc::{AllocError, Global};
+use std::cmp::Ordering;
 
-/// Whether two terms are the same comparison. Comparisons with a list of versions, which the
-/// clauses of a tree have none of, are the same as no other.
+/// Returns whether two terms are the same comparison. A comparison with a list of versions, which
+/// the clauses of a tree never have, is the same as no other.
 pub(crate) fn is_same(term: &MarkerExpression, other: &MarkerExpression) -> bool
     ensures { result ≡ true → (v : Valuation) → term_holds term.now v ≡ term_holds other.now v }
 {
@@ -56,8 +57,8 @@ pub(crate) fn is_same(term: &MarkerExpression, other: &MarkerExpression) -> bool
     }
 }
 
-/// Whether a term is written as the negation of another one: with the same key and value, for stars
-/// as many numbers, and the negated operator.
+/// Returns whether a term is written as the negation of another one: with the same key and value,
+/// as many numbers for stars, and the negated operator.
 pub(crate) fn is_negation(term: &MarkerExpression, other: &MarkerExpression) -> bool
     ensures { result ≡ true → (v : Valuation)
         → term_holds term.now v ≡ not (term_holds other.now v) }
@@ -97,7 +98,96 @@ pub(crate) fn is_negation(term: &MarkerExpression, other: &MarkerExpression) -> 
     }
 }
 
-// Equal specifiers stand for one set.
+/// Returns whether a term comes before another one, in an order in which only the same comparison
+/// and its negation have the same place: by kinds, keys, operators without their sign, and values.
+pub(crate) fn is_before(term: &MarkerExpression, other: &MarkerExpression) -> bool {
+    pair_cmp(term, other).is_lt()
+}
+
+fn pair_cmp(term: &MarkerExpression, other: &MarkerExpression) -> Ordering {
+    match (term, other) {
+        (
+            MarkerExpression::Version { key, specifier },
+            MarkerExpression::Version {
+                key: other_key,
+                specifier: other_specifier,
+            },
+        ) => key
+            .cmp(other_key)
+            .then_with(|| specifier_pair_cmp(specifier, other_specifier)),
+        (
+            MarkerExpression::String {
+                key,
+                operator,
+                value,
+            },
+            MarkerExpression::String {
+                key: other_key,
+                operator: other_operator,
+                value: other_value,
+            },
+        ) => key
+            .cmp(other_key)
+            .then_with(|| text_sign(*operator).cmp(&text_sign(*other_operator)))
+            .then_with(|| value.cmp(other_value)),
+        (
+            MarkerExpression::Extra { operator: _, name },
+            MarkerExpression::Extra {
+                operator: _,
+                name: other_name,
+            },
+        ) => name.cmp(other_name),
+        _ => kind(term).cmp(&kind(other)),
+    }
+}
+
+fn kind(term: &MarkerExpression) -> u8 {
+    match term {
+        MarkerExpression::Version { .. } => 0,
+        MarkerExpression::VersionIn { .. } => 1,
+        MarkerExpression::String { .. } => 2,
+        MarkerExpression::Extra { .. } => 3,
+    }
+}
+
+// The number of release numbers counts for stars.
+fn specifier_pair_cmp(specifier: &VersionSpecifier, other: &VersionSpecifier) -> Ordering {
+    let operator = specifier.operator();
+    let by_version = version_sign(operator)
+        .cmp(&version_sign(other.operator()))
+        .then_with(|| specifier.version().cmp(other.version()));
+    if operator.is_star() {
+        let count = specifier.version().release().len();
+        by_version.then_with(|| count.cmp(&other.version().release().len()))
+    } else {
+        by_version
+    }
+}
+
+// One number for an operator and its negation.
+fn version_sign(operator: Operator) -> u8 {
+    match operator {
+        Operator::Equal | Operator::NotEqual => 0,
+        Operator::EqualStar | Operator::NotEqualStar => 1,
+        Operator::LessThan | Operator::GreaterThanEqual => 2,
+        Operator::LessThanEqual | Operator::GreaterThan => 3,
+        Operator::TildeEqual => 4,
+        Operator::ExactEqual => 5,
+    }
+}
+
+fn text_sign(operator: MarkerOperator) -> u8 {
+    match operator {
+        MarkerOperator::Equal | MarkerOperator::NotEqual => 0,
+        MarkerOperator::LessThan | MarkerOperator::GreaterEqual => 1,
+        MarkerOperator::LessEqual | MarkerOperator::GreaterThan => 2,
+        MarkerOperator::In | MarkerOperator::NotIn => 3,
+        MarkerOperator::Contains | MarkerOperator::NotContains => 4,
+        MarkerOperator::TildeEqual => 5,
+    }
+}
+
+// Equal specifiers have the same set.
 fn is_same_specifier(specifier: &VersionSpecifier, other: &VersionSpecifier) -> bool
     ensures { result ≡ true → (key : MarkerValueVersion) (p : Point Parts)
         → holds_version key specifier.now p ≡ holds_version key other.now p }
@@ -135,7 +225,7 @@ fn has_negated_operator(specifier: &VersionSpecifier, other: &VersionSpecifier) 
     }
 }
 
-// A star counts the numbers of a release.
+// For a star the number of release numbers counts.
 fn counts_alike(specifier: &VersionSpecifier, other: &VersionSpecifier) -> bool
     ensures { result ≡ true → is_star specifier.now.operator ≡ true
         → length specifier.now.version.release ≡ length other.now.version.release }
@@ -157,7 +247,7 @@ fn is_negated_operator(operator: MarkerOperator, other: MarkerOperator) -> bool
     opposite(operator) == Some(other)
 }
 
-// The operator that holds where this one does not. There is none for `~=`.
+// The operator that is true where this one is false. `None` for `~=`.
 fn opposite(operator: MarkerOperator) -> Option<MarkerOperator>
     ensures { IfSome result (λ o. (key : MarkerValueString) (value : List ℕ) (v : Valuation)
         → holds_text operator key value v ≡ not (holds_text o key value v)) }
@@ -177,8 +267,8 @@ fn opposite(operator: MarkerOperator) -> Option<MarkerOperator>
     }
 }
 
-/// One clause alone.
-pub(crate) fn one_clause(
+/// One clause alone. Only memory can run out.
+pub fn one_clause(
     alloc: Global,
     terms: Vec<MarkerExpression>,
 ) -> Result<Vec<Vec<MarkerExpression>>, AllocError>

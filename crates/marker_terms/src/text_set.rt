@@ -1,4 +1,4 @@
-//! The clauses that a set of texts is.
+//! The clauses of a set of texts.
 
 ghost use Rattle.std.specs.Prelude.{◌≡◌, ℕ, IfOk, IfSome, List, not, string_bytes, true};
 ghost use Rattle.std.specs.Ordering.{is_eq};
@@ -20,11 +20,11 @@ use std::alloc::{AllocError, Global};
 use std::ops::Bound;
 use version_ranges::Ranges;
 
-/// The clauses that hold where the key's text is in a set.
+/// Returns the clauses that are true where the key's text is in a set.
 ///
-/// A set that leaves out single texts alone is one clause, of a `!=` for each of them. Of another
-/// set each interval is a clause: `==`, or what its bounds ask for. Each term is read back as it is
-/// printed where no text at a bound has both quotes. Only memory can run out.
+/// A set of all but single texts is one clause, with a `!=` for each of them. Of another set each
+/// interval is a clause: `==`, or the comparisons of its bounds. Each term parses back from its
+/// text if no text at a bound has both quotes.
 pub fn text_clauses(
     alloc: Global,
     key: MarkerValueString,
@@ -47,7 +47,7 @@ pub fn text_clauses(
     }
 }
 
-// Whether a set has no end in either direction, as each has that leaves out single values alone.
+// Whether a set has no end in either direction, as sets of all but single values.
 fn is_unbounded(set: &Ranges<String>) -> bool {
     matches!(
         set.bounding_range(),
@@ -70,13 +70,13 @@ fn interval_clauses(
 {
     let mut clauses = Vec::new(alloc);
     for bounds in set.iter() {
-        let terms = range_terms(alloc, key, bounds)?;
+        let terms = text_range_terms(alloc, key, bounds)?;
         clauses.push(terms)?;
     }
     Ok(clauses)
 }
 
-// The terms of the texts that are not in a set, where they leave out single texts.
+// The terms of the texts that are not in a set, if these are single texts.
 fn exclusions(
     alloc: Global,
     key: MarkerValueString,
@@ -99,7 +99,7 @@ fn exclusions(
     Ok(Some(terms))
 }
 
-// The text of a range that is a single one.
+// The text of a range of one text.
 fn single_text<'a>(bounds: (Bound<&'a String>, Bound<&'a String>)) -> Option<&'a String>
     ensures single { IfSome result (λ text. (q : Point (List ℕ))
         → is_in_bounds text_cmp (text_bound bounds.entry.0) (text_bound bounds.entry.1) q
@@ -116,8 +116,9 @@ fn single_text<'a>(bounds: (Bound<&'a String>, Bound<&'a String>)) -> Option<&'a
     }
 }
 
-// The terms that hold where the key's text lies in a range.
-fn range_terms(
+/// The terms that hold where the key's text lies in a range. They are read back as they are printed
+/// where no text at a bound has both quotes. Only memory can run out.
+pub fn text_range_terms(
     alloc: Global,
     key: MarkerValueString,
     bounds: (Bound<&String>, Bound<&String>),

@@ -1,4 +1,4 @@
-//! The clauses that a set of versions is.
+//! The clauses of a set of versions.
 
 ghost use Rattle.std.specs.Prelude.{◌≡◌, IfOk, IfSome, not, true};
 ghost use Rattle.std.specs.Borrow.{Bor};
@@ -30,13 +30,13 @@ use pep440_version::laws::normal_text_reads_back;
 use std::alloc::{AllocError, Global};
 use std::ops::Bound;
 
-/// The clauses that hold where the variable's version is in a set.
+/// Returns the clauses that are true where the variable's version is in a set.
 ///
-/// A set that leaves out single versions alone is one clause, of a `!=` for each of them, and so is
-/// one that leaves out the versions from M.m up to M.(m+1), `!= 'M.m.*'`. Of another set each
-/// interval is a clause: `==`, `== 'M.m.*'`, or what its bounds ask for. What the clauses mean is
-/// promised where the bounds of the set are releases; each term is read back as it is printed,
-/// whatever they are. Only memory can run out.
+/// A set of all but single versions is one clause, with a `!=` for each of them. A set of all but
+/// the versions from M.m up to M.(m+1) is one clause too: `!= 'M.m.*'`. Of another set each
+/// interval is a clause: `==`, `== 'M.m.*'`, or the comparisons of its bounds. The contract says
+/// what the clauses mean if the bounds of the set are releases. Each term parses back from its
+/// text, whatever they are.
 pub fn version_clauses(
     alloc: Global,
     variable: VersionVariable,
@@ -58,7 +58,7 @@ pub fn version_clauses(
     }
 }
 
-// Whether a set has no end in either direction, as each has that leaves out single values alone.
+// Whether a set has no end in either direction, as sets of all but single values.
 fn is_unbounded(set: &Ranges<Version>) -> bool {
     matches!(
         set.bounding_range(),
@@ -80,14 +80,14 @@ fn interval_clauses(
     versions_tied_with_releases_are_releases();
     let mut clauses = Vec::new(alloc);
     for bounds in set.iter() {
-        let terms = range_terms(alloc, variable, bounds)?;
+        let terms = version_range_terms(alloc, variable, bounds)?;
         clauses.push(terms)?;
     }
     Ok(clauses)
 }
 
-// The terms of the versions that are not in a set, where they leave out single versions, or the
-// versions of one minor release.
+// The terms of the versions that are not in a set, if these are single versions, or the versions of
+// one minor release.
 fn exclusions(
     alloc: Global,
     variable: VersionVariable,
@@ -108,15 +108,14 @@ fn exclusions(
         has_star |= specifier.operator().is_star();
         terms.push(comparison(variable, specifier))?;
     }
-    // A minor release is left out by itself alone.
+    // A minor release is excluded only on its own.
     if has_star && terms.len() > 1 {
         return Ok(None);
     }
     Ok(Some(terms))
 }
 
-// The specifier of the versions that do not lie in a range, where those that do are a single one or
-// a minor release.
+// The specifier of the versions outside of a range of a single version or a minor release.
 fn exclusion(
     alloc: Global,
     bounds: (Bound<&Version>, Bound<&Version>),
@@ -138,7 +137,7 @@ fn exclusion(
     Ok(inequality(specifier))
 }
 
-// The negation of a specifier, where it is `==` or has a star.
+// The negation of a specifier that is `==` or has a star.
 fn inequality(specifier: VersionSpecifier) -> Option<VersionSpecifier>
     ensures means { IfSome result (λ s. (p : Point Parts) → is_in s.operator s.version.release p
         ≡ not (is_in specifier.operator specifier.version.release p)) }
@@ -158,8 +157,10 @@ fn inequality(specifier: VersionSpecifier) -> Option<VersionSpecifier>
     }
 }
 
-// The terms that hold where the variable's version lies in a range.
-fn range_terms(
+/// The terms that hold where the variable's version lies in a range. What they mean is promised
+/// where the bounds are at releases; they are read back as they are printed, whatever these are.
+/// Only memory can run out.
+pub fn version_range_terms(
     alloc: Global,
     variable: VersionVariable,
     bounds: (Bound<&Version>, Bound<&Version>),
@@ -190,8 +191,8 @@ fn comparison(variable: VersionVariable, specifier: VersionSpecifier) -> MarkerE
     MarkerExpression::Version { key, specifier }
 }
 
-// The specifiers of a range are printable, since the version at its upper bound is valid: the
-// number above that of a star is there.
+// The specifiers of a range are printable, because the version at its upper bound is valid: the
+// number after that of a star exists.
 fn range_specifiers_are_printable(upper: Bound<&Version>)
     ensures { (lower : Bound (Bor Parts))
         → AllByRecursion IsPrintableSpecifier (bound_specifiers lower upper.entry) }

@@ -1,4 +1,4 @@
--- Faults in what is left of a text are faults in the text, and how they are told.
+-- Faults in the rest of a text are faults in the text, and their messages.
 use Rattle.std.proofs.Common.{◌≡◌, ℕ, ◌-◌, ◌<◌, Bool, cond, eqb, List, [], ◌++◌, length, refl, sym, ap, ◌∙◌, subst, arith, IsUtf8}
 use Rattle.std.specs.Prelude.{encode_utf8, encode_utf8_all, Result, Ok, Err, OnErr}
 use Rattle.std.specs.Str.{chars}
@@ -70,7 +70,7 @@ pub fault_at_first : {Open : List ℕ → Type 0} {text rest : List ℕ} {fault 
 fault_at_first {text = text} {rest = rest} {place = place} c kind utf8 suffix first kind_is place_is joined left_is found =
     fault_at kind place kind_is place_is (fault_in_front text place.piece.now rest kind place.left utf8 suffix.utf8 joined left_is (found (same_front text place.piece.now (encode_utf8 c) rest joined first)))
 
--- at the run in front of a text
+-- at the run at the front of a text
 pub fault_at_run : {Open : List ℕ → Type 0} {text rest run : List ℕ} {fault : Fault} {place : Place} (kind : FaultKind) → IsUtf8 text → IsSuffix text rest → text ≡ run ++ rest → fault.kind ≡ kind → fault.place ≡ place → place.piece.now ≡ run → place.left ≡ length text → Finds Open kind run rest → IsFault Open text fault
 fault_at_run {Open} {text} {rest} {run} {fault} {place} kind utf8 suffix joined kind_is place_is piece_is left_is found =
     fault_at kind place kind_is place_is (subst (λ (x : List ℕ). IsFaultAt Open text kind x place.left) (sym piece_is) (fault_in_front text run rest kind place.left utf8 suffix.utf8 joined left_is found))
@@ -97,7 +97,7 @@ is_span text piece left place = record {
 told : {Open : List ℕ → Type 0} → (text piece : List ℕ) (left : ℕ) (kind : FaultKind) (place : IsPiece text piece left) → Finds Open kind piece place.back → IsMarkerFault Open text (length text - left) (cond (eqb left 0) 1 (length piece)) (message_of kind piece)
 told text piece left kind place found = record { kind = kind; piece = piece; place = is_span text piece left place; found = found; said = refl }
 
--- a fault of a text is told as one of the messages, at its place
+-- a fault of a text has one of the messages, at its place
 pub fault_told : {Open : List ℕ → Type 0} → (text : List ℕ) (fault : Fault) → IsFault Open text fault → IsMarkerFault Open text (length text - fault.place.left) (span_len fault.place) (message_of fault.kind fault.place.piece.now)
 fault_told text fault f = told text fault.place.piece.now fault.place.left fault.kind f.place f.found
 

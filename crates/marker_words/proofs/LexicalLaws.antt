@@ -1,4 +1,4 @@
--- What stands at a place of a text is determined by the place.
+-- A text is parsed in one way at each place.
 use Rattle.std.proofs.Common.{◌≡◌, ℕ, ◌≤◌, ◌<◌, List, ◌∷◌, sym, subst, arith, lit<, inl, inr, ◌⊎◌}
 use Rattle.pep508_text.specs.Run.{after_space, Spaces}
 use Rattle.pep508_text.proofs.RunLaws.{spaces_end, spaces_all}
@@ -27,7 +27,7 @@ sides_at (sides sa va sb ob sc vb) = record { second = _; third = _; left_at = v
 pub sides_from : {i b d o : List ℕ} {l r : Value} {p : MarkerOperator} → IsValue (after_space i) b l → IsOperator (after_space b) d p → IsValue (after_space d) o r → Sides i o l p r
 sides_from {i} {b} {d} va ob vb = sides (spaces_all i) va (spaces_all b) ob (spaces_all d) vb
 
--- one comparison at most stands at a place
+-- at most one comparison is at a place
 pub record SidesSame (o p : List ℕ) (l m : Value) (s t : MarkerOperator) (r q : Value) : Type 0 where
   pub rest : o ≡ p
   pub left : l ≡ m

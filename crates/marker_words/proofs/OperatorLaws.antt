@@ -1,4 +1,4 @@
--- Operators: at most one stands at a place, and what a reader of operators has to know.
+-- Operators: at most one is at a place, and what a parser of operators needs to know.
 use Rattle.std.proofs.Common.{◌≡◌, ◌≢◌, ℕ, ◌<◌, Bool, true, false, cond, List, [], ◌∷◌, Some, None, refl, sym, ap, ◌∙◌, subst, arith, lit<, IsUtf8}
 use Rattle.std.specs.Prelude.{codes, encode_utf8_all, nat_eq}
 use Rattle.std.specs.Str.{chars}
@@ -102,7 +102,7 @@ symbol_is NotIn text e = absurd (none_some text e)
 symbol_is Contains text e = absurd (none_some text e)
 symbol_is NotContains text e = absurd (none_some text e)
 
--- which kind of operator may stand at a place is told by its first character
+-- the first character determines which kind of operator may be at a place
 run_begins_word : {p : Class} {i w o : List ℕ} (c : ℕ) → Run p i (c ∷ w) o → begins_word i ≡ holds Alphabetic c
 run_begins_word {p} {i} {w} c run = ap begins_word (run_of-first p i w c run.run_is).1
 
@@ -124,7 +124,7 @@ in_not e = differ _ _ (head_same _ _ _ _ e) (lit< tt)
 behind_same : {gap same output other : List ℕ} → gap ≡ same → Spaces gap (105 ∷ 110 ∷ output) → Spaces same (105 ∷ 110 ∷ other) → output ≡ other
 behind_same e s t = tail_same _ _ _ _ (tail_same _ _ _ _ (sym (spaces_end s refl) ∙ ap after_space e ∙ spaces_end t refl))
 
--- one operator at most stands at a place
+-- at most one operator is at a place
 pub operator_same : {i o p : List ℕ} {s t : MarkerOperator} → IsOperator i o s → IsOperator i p t → (o ≡ p) × (s ≡ t)
 operator_same (is_symbol {operator = s} {text = q} e a) (is_symbol {operator = t} {text = r} f b) =
     let h = run_same a b in
@@ -165,7 +165,7 @@ not_behind {o = o} c e none s = let h = behind_parts (subst (λ (x : List ℕ). 
 pub is_behind : {i a o : List ℕ} (c : ℕ) → i ≡ c ∷ a → holds Space c ≡ true → after_space a ≡ 105 ∷ 110 ∷ o → IsBehindNot i o
 is_behind {o = o} c e white s = subst (λ (x : List ℕ). IsBehindNot x o) (sym e) (behind_not white (spaces_from s))
 
--- where a word begins an operator is a word, and elsewhere it is a symbol
+-- if a word begins there, an operator is a word, and otherwise it is a symbol
 pub no_word_operator : {i o run after : List ℕ} {operator : MarkerOperator} → begins_word i ≡ true → run ≡ encode_utf8_all (run_of WordPart i) → after ≡ after_run WordPart i → run ≢ codes "in" → (run ≡ codes "not" → (p : List ℕ) → IsBehindNot after p → ⊥) → IsOperator i o operator → ⊥
 no_word_operator word run_is after_is not_in no_not (is_symbol {operator = s} {text = text} e run) = clash word (symbol_begins (symbol_is s text e) run)
 no_word_operator word run_is after_is not_in no_not (is_in run) = not_in (bytes_from_run run_is run ascii_in)
@@ -192,7 +192,8 @@ symbol_class i e = ap (λ (b : Bool). cond b WordPart Comparison) e
 pub no_characters : (t : List ℕ) → IsUtf8 t → chars t ≡ [] → t ≡ []
 no_characters t utf8 e = sym (encodes-chars t utf8) ∙ ap encode_utf8_all e
 
--- an operator that nothing follows is the whole text, and where something follows it the whole text is none
+-- an operator that nothing follows is the whole text, and if something follows it, the whole text
+-- is not one
 pub whole_operator : {i : List ℕ} {s : MarkerOperator} (rest : List ℕ) → IsOperator i (chars rest) s → rest ≡ [] → IsOperator i [] s
 whole_operator {i} {s} rest found e = subst (λ (x : List ℕ). IsOperator i x s) (ap chars e ∙ chars-nil) found
 

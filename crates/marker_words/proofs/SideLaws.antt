@@ -1,4 +1,4 @@
--- A comparison read part by part. Each text is what is left behind white space.
+-- A comparison parsed part by part. Each text is the rest after white space.
 use Rattle.std.proofs.Common.{◌≡◌, ℕ, List, sym, ap, ◌∙◌, subst}
 use Rattle.pep508_text.specs.Run.{after_space}
 use Rattle.marker_words.specs.declared.operator.MarkerOperator.{MarkerOperator}

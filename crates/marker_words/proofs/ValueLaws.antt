@@ -1,4 +1,4 @@
--- Values: at most one stands at a place, and what a reader of values has to know.
+-- Values: at most one is at a place, and what a parser of values needs to know.
 use Rattle.std.proofs.Common.{◌≡◌, ℕ, ◌≤◌, ◌<◌, Bool, true, false, cond, List, [], ◌∷◌, length, refl, sym, ap, ◌∙◌, subst, arith, lit≤, eqb, eqb-true, inl, inr, ◌⊎◌, ◌++◌, length-append}
 use Rattle.std.specs.Prelude.{encode_utf8_all}
 use Rattle.std.proofs.lemmas.Bool.{not-false}
@@ -29,7 +29,7 @@ named_same n a m b = let h = run_same a b in (h.1, names_same n m h.0)
 tail_of : (q : ℕ) (o p : List ℕ) → q ∷ o ≡ q ∷ p → o ≡ p
 tail_of q o p e = cc
 
--- one value at most stands at a place
+-- at most one value is at a place
 pub value_same : {i o p : List ℕ} {v w : Value} → IsValue i o v → IsValue i p w → (o ≡ p) × (v ≡ w)
 value_same (is_quoted {quote = q} {output = o} a r) (is_quoted {output = p} b s) = let h = run_same r s in (tail_of q o p h.1, ap (λ (x : List ℕ). quoted (encode_utf8_all x)) h.0)
 value_same (is_quoted a r) (is_version_key {key = l} s) = absurd (quote_lettered a (version_key_names l).lettered s)
@@ -75,7 +75,7 @@ value_begins (is_version_key {key = k} run) = inr (letters_begin (version_key_na
 value_begins (is_text_key {key = k} run) = inr (letters_begin (key_names k).lettered run)
 value_begins (is_extra run) = inr (letters_begin extra_names.lettered run)
 
--- behind a longest run stands a character that is not of the class
+-- a longest run is followed by a character that is not in the class
 after_run_stops : (p : Class) (i o : List ℕ) (c : ℕ) → after_run p i ≡ c ∷ o → holds p c ≡ false
 after_run_stops p [] o c e = absurd cc
 after_run_stops p (d ∷ ds) o c e = go (holds p d) refl e (after_run_stops p ds o c)
@@ -87,7 +87,7 @@ after_run_stops p (d ∷ ds) o c e = go (holds p d) refl e (after_run_stops p ds
 closes : (q c : ℕ) (i o : List ℕ) → after_run (NotQuote q) i ≡ c ∷ o → c ≡ q
 closes q c i o e = eqb-true c q (not-false (eqb c q) (after_run_stops (NotQuote q) i o c e))
 
--- what stands between a quote and the next one
+-- the text between a quote and the next one
 pub quoted_value : (t : List ℕ) (q c : ℕ) (i o v : List ℕ) → t ≡ q ∷ i → IsQuote q → after_run (NotQuote q) i ≡ c ∷ o → v ≡ encode_utf8_all (run_of (NotQuote q) i) → IsValue t o (quoted v)
 quoted_value t q c i o v t_is is_quote e v_is =
     let run : Run (NotQuote q) i (run_of (NotQuote q) i) (q ∷ o) = record { run_is = refl; rest_is = e ∙ ap (λ (x : ℕ). x ∷ o) (closes q c i o e) } in
@@ -126,7 +126,7 @@ named_found i o r (text_key k) r_is o_is e = is_text_key (run_from_bytes r_is o_
 named_found i o r extra r_is o_is e = is_extra (run_from_bytes r_is o_is e extra_names.ascii)
 named_found i o r (quoted text) r_is o_is e = absurd e
 
--- where no quote stands a value is a name
+-- without a quote a value is a name
 abbrev IsNoQuote : List ℕ → Type 0
 IsNoQuote i = (q : ℕ) (j : List ℕ) → i ≡ q ∷ j → IsQuote q → ⊥
 

@@ -1,5 +1,5 @@
--- What comparisons ask of a point, and the comparisons of a range (PEP 508, "Environment Markers",
--- which has no points).
+-- Comparisons as conditions on a point, and the comparisons of a range (PEP 508, "Environment
+-- Markers", which has no points).
 use Rattle.std.specs.Prelude.{ℕ, Bool, false, Option, Some, None, List, [], ◌∷◌, ◌++◌, if◌then◌else◌, nat_eq, String, string_bytes}
 use Rattle.std.specs.Borrow.{Bor}
 use Rattle.std.specs.Cmp.Lexicographic.{pointwise, slice_cmp}
@@ -14,8 +14,8 @@ use Rattle.version_ranges.specs.Point.{Point, at, point_cmp}
 use Rattle.marker_words.specs.declared.operator.MarkerOperator.{MarkerOperator}
 use Rattle.marker_words.specs.declared.operator.MarkerOperator.TheVariants.{Equal, NotEqual, GreaterThan, GreaterEqual, LessThan, LessEqual, TildeEqual, In, NotIn, Contains, NotContains}
 
--- whether an operator holds of what stands so beside a value; the others ask for more than an
--- order, and here hold of nothing
+-- whether an operator is true of a point in this order to a value; operators that are not about
+-- order are true of nothing here
 abbrev pub holds_beside : MarkerOperator → Ordering → Bool
 holds_beside Equal order = is_eq order
 holds_beside NotEqual order = is_ne order
@@ -30,7 +30,7 @@ holds_beside Contains order = false
 holds_beside NotContains order = false
 
 module _ {T : Type 0} where
-  -- where a point stands beside the point of a value
+  -- the order of a point to the point of a value
   abbrev pub beside : (T → T → Ordering) → Point T → T → Ordering
   beside cmp point value = point_cmp cmp point (at value)
 
@@ -39,20 +39,20 @@ module _ {T : Type 0} where
   satisfies_all cmp pairs point =
       list_all (λ pair. holds_beside pair.0 (beside cmp point pair.1)) pairs
 
-  -- what a lower bound asks for
+  -- the comparison of a lower bound
   abbrev pub lower_pair : Bound T → Option (MarkerOperator × T)
   lower_pair (Included v) = Some (GreaterEqual, v)
   lower_pair (Excluded v) = Some (GreaterThan, v)
   lower_pair Unbounded = None
 
-  -- what an upper bound asks for
+  -- the comparison of an upper bound
   abbrev pub upper_pair : Bound T → Option (MarkerOperator × T)
   upper_pair (Included v) = Some (LessEqual, v)
   upper_pair (Excluded v) = Some (LessThan, v)
   upper_pair Unbounded = None
 
-  -- what two bounds ask for: one `==` where both include the same value, and else what the lower
-  -- and then the upper asks for
+  -- the comparisons of two bounds: one `==` if both include the same value, otherwise that of the
+  -- lower and then that of the upper bound
   abbrev pub pairs_of : (T → T → Bool) → Bound T → Bound T → List (MarkerOperator × T)
   pairs_of eq (Included v) (Included w) =
       if eq v w then (Equal, v) ∷ [] else (GreaterEqual, v) ∷ (LessEqual, w) ∷ []
@@ -69,6 +69,6 @@ text_eq a b = pointwise nat_eq a b
 abbrev pub text_bound : {A : Type 0} → Bound (Bor (String A)) → Bound (List ℕ)
 text_bound bound = bound_map (λ text. string_bytes text.now) bound
 
--- what an item lends
+-- a comparison without its reference
 abbrev pub pair_of : {A : Type 0} → MarkerOperator × Bor (String A) → MarkerOperator × List ℕ
 pair_of pair = (pair.0, string_bytes pair.1.now)

@@ -14,7 +14,7 @@ use Rattle.marker_words.specs.declared.fault.Fault.{Fault}
 use Rattle.marker_words.specs.declared.fault.FaultKind.{FaultKind}
 use Rattle.marker_words.specs.declared.fault.FaultKind.TheVariants.{ValueAtEnd, NoValue, NoOperator, NotAtEnd, NoSpaceAfterNot, Unclosed, MissingAtEnd, Missing, Unexpected, Trailing}
 
--- what is said of a fault; the piece is what stands at its place
+-- the message of a fault; the piece is the text at its place
 abbrev pub message_of : FaultKind → List ℕ → List ℕ
 message_of ValueAtEnd piece = codes "Expected marker value, found end of dependency specification"
 message_of NoValue piece = codes "Expected a quoted string or a valid marker name, found `" ++ (piece ++ codes "`")
@@ -32,15 +32,15 @@ abbrev pub begins_word : List ℕ → Bool
 begins_word [] = false
 begins_word (c ∷ cs) = holds Alphabetic c
 
--- the class of the run that is looked at as an operator
+-- the class of the run in place of an operator
 abbrev pub operator_class : List ℕ → Class
 operator_class cs = if begins_word cs then WordPart else Comparison
 
--- the run is the longest one of its class where `run` and then `back` stand
+-- `run` is the longest run of its class at the front of `run` and `back`
 abbrev pub IsLongest : Class → List ℕ → List ℕ → Type 0
 IsLongest class run back = run ≡ encode_utf8_all (run_of class (chars (run ++ back)))
 
--- no value stands at the front of the text: no quoted text, no key and no `extra`
+-- the text begins with no value: no quoted text, no key and no `extra`
 abbrev pub HasNoValue : List ℕ → Type 0
 HasNoValue text = (output : List ℕ) (value : Value) → IsValue (chars text) output value → ⊥
 
@@ -48,7 +48,7 @@ abbrev pub HasNoOperator : List ℕ → Type 0
 HasNoOperator text =
     (output : List ℕ) (operator : MarkerOperator) → IsOperator (chars text) output operator → ⊥
 
--- no two values with an operator between them stand at the front of the characters
+-- the characters do not begin with two values and an operator between them
 abbrev pub HasNoSides : List ℕ → Type 0
 HasNoSides input = (output : List ℕ) (left right : Value) (operator : MarkerOperator)
     → Sides input output left operator right → ⊥
@@ -62,23 +62,23 @@ pub data IsLetterOfIn : ℕ → Type 0 where
   first_letter : IsLetterOfIn 105
   last_letter : IsLetterOfIn 110
 
--- An opening character, the one that closes it, and what stands behind the first: behind a quote
--- comes no other. Where a parenthesis is not closed, by what stands behind it, is said by the
--- grammar that has parentheses (`Open`).
+-- An opening character, the one that closes it, and the text after the first: no other quote
+-- follows a quote. When a parenthesis is not closed is a matter of the grammar that has parentheses
+-- (`Open`).
 pub data IsUnclosed (Open : List ℕ → Type 0) : ℕ → ℕ → List ℕ → Type 0 where
   quotes : {quote : ℕ} {back : List ℕ} →
       IsQuote quote → after_run (NotQuote quote) (chars back) ≡ [] →
       IsUnclosed Open quote quote back
   parentheses : {back : List ℕ} → Open back → IsUnclosed Open 40 41 back
 
--- the character stands at the front of the text, and the piece is all but the text's last character
+-- the text begins with the character, and the piece is all of it but its last character
 pub record IsAllButLast (c : ℕ) (piece back : List ℕ) : Type 0 where
   pub others : List ℕ
   pub last : ℕ
   pub begins : piece ++ back ≡ encode_utf8 c ++ others
   pub ends : back ≡ encode_utf8 last
 
--- when a fault is true of a text: `piece` stands at its place, and `back` from there to the end of
+-- when a fault is true of a text: `piece` is at its place, and `back` is from there to the end of
 -- the text
 abbrev pub Finds : (List ℕ → Type 0) → FaultKind → List ℕ → List ℕ → Type 0
 Finds Open ValueAtEnd piece back = piece ++ back ≡ []
@@ -98,7 +98,7 @@ Finds Open (Unexpected c) piece back =
     IsAllButLast c piece back × HasNoSpace (piece ++ back) × NoKeyword (chars (piece ++ back))
 Finds Open (Trailing c) piece back = IsAllButLast c piece back × HasNoSpace (piece ++ back)
 
--- a fault of this kind stands in the text
+-- the text has a fault of this kind
 pub record IsFaultAt (Open : List ℕ → Type 0) (text : List ℕ) (kind : FaultKind)
     (piece : List ℕ) (left : ℕ) : Type 0 where
   pub place : IsPiece text piece left
@@ -115,7 +115,7 @@ NoneOpen back = ⊥
 abbrev pub IsWordFault : List ℕ → Fault → Type 0
 IsWordFault = IsFault NoneOpen
 
--- the piece stands at `start`, and the span is the piece, or the end of the text with the length 1
+-- the piece is at `start`, and the span is the piece, or the end of the text with the length 1
 pub record IsSpanOf (text piece : List ℕ) (start len : ℕ) : Type 0 where
   pub stands : StandsAt text piece start
   pub span : IsSpan text start len

@@ -14,7 +14,7 @@ version_key_name version_keys.ImplementationVersion = codes "implementation_vers
 version_key_name version_keys.PythonFullVersion = codes "python_full_version"
 version_key_name version_keys.PythonVersion = codes "python_version"
 
--- the key whose value a version variable has; `python_version` is no variable
+-- the key of a version variable; `python_version` has none
 abbrev pub version_variable_key : VersionVariable → MarkerValueVersion
 version_variable_key version_variables.ImplementationVersion = version_keys.ImplementationVersion
 version_variable_key version_variables.PythonFullVersion = version_keys.PythonFullVersion
@@ -22,7 +22,7 @@ version_variable_key version_variables.PythonFullVersion = version_keys.PythonFu
 abbrev pub version_variable_name : VersionVariable → List ℕ
 version_variable_name variable = version_key_name (version_variable_key variable)
 
--- the modern name of what a text key asks about
+-- the modern name of a text variable
 abbrev pub variable_name : TextVariable → List ℕ
 variable_name ImplementationName = codes "implementation_name"
 variable_name OsName = codes "os_name"

@@ -1,7 +1,6 @@
--- The words of a comparison (PEP 508, "Grammar"; but white space is Unicode's, a quoted text takes
--- every character other than its quote, and `===` is no operator of markers). Each relation goes
--- from what is left of the text before the word to the word and to what is left behind it; texts
--- are lists of characters.
+-- The words of a comparison (PEP 508, "Grammar"; but white space is Unicode's, a quoted text has
+-- every character other than its quote, and `===` is not an operator of markers). Each relation
+-- goes from the text before the word to the word and the rest; texts are lists of characters.
 use Rattle.std.specs.Prelude.{◌≡◌, ℕ, true, List, ◌∷◌, Option, Some, None, codes, encode_utf8_all}
 use Rattle.pep508_text.specs.Class.{holds}
 use Rattle.pep508_text.specs.Run.{Run, Spaces}
@@ -35,7 +34,7 @@ pub data IsValue : List ℕ → List ℕ → Value → Type 0 where
   is_extra : {input output : List ℕ} →
       Run KeyPart input (codes "extra") output → IsValue input output extra
 
--- how an operator that is no word is written
+-- the text of an operator that is not a word
 abbrev pub symbol_text : MarkerOperator → Option (List ℕ)
 symbol_text Equal = Some (codes "==")
 symbol_text NotEqual = Some (codes "!=")

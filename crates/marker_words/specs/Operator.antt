@@ -1,5 +1,5 @@
--- The operators of comparisons, as they are written (PEP 508, whose `===` is no operator of markers
--- here).
+-- The operators of comparisons, as they are written (PEP 508, whose `===` is not an operator of
+-- markers here).
 use Rattle.std.specs.Prelude.{ℕ, List, [], codes}
 use Rattle.marker_words.specs.declared.operator.MarkerOperator.{MarkerOperator}
 use Rattle.marker_words.specs.declared.operator.MarkerOperator.TheVariants.{Equal, NotEqual, GreaterThan, GreaterEqual, LessThan, LessEqual, TildeEqual, In, NotIn, Contains, NotContains}
@@ -38,7 +38,7 @@ turned NotIn = NotContains
 turned Contains = In
 turned NotContains = NotIn
 
--- the whole text is the operator, as a reader of comparisons reads it (PEP 508): `in` is `In`, and
--- any white space, at least one character of it, may stand inside `not in`
+-- the whole text is the operator, as in a comparison (PEP 508): `in` is `In`, and `not in` has one
+-- or more characters of white space inside
 abbrev pub IsSpelling : List ℕ → MarkerOperator → Type 0
 IsSpelling text operator = IsOperator text [] operator

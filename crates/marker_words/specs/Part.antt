@@ -1,5 +1,5 @@
--- What the readers answer, without where its texts lie, and the words inside a value and an
--- operator.
+-- The results of the parsers, without the places of their texts, and the words inside a value and
+-- an operator.
 use Rattle.std.specs.Prelude.{◌≡◌, ℕ, true, List, ◌∷◌, codes}
 use Rattle.pep508_text.specs.Class.{holds}
 use Rattle.pep508_text.specs.Run.{Spaces}
@@ -15,7 +15,7 @@ value_of (MarkerEnvString key) = text_key key
 value_of Extra = extra
 value_of (QuotedString text) = quoted text.now
 
--- the value is written by this name; a quoted text has none
+-- the value has this name; a quoted text has none
 abbrev pub IsNamed : Value → List ℕ → Type 0
 IsNamed (version_key key) name = name ≡ version_key_name key
 IsNamed (text_key key) name = name ≡ key_name key

@@ -7,7 +7,7 @@ use Rattle.marker_words.specs.declared.marker_value.MarkerValue.TheVariants.{Mar
 use Rattle.marker_words.specs.Key.{version_key_name, variable_name, variable_of}
 use Rattle.marker_words.specs.Lexical.{Value, version_key, text_key, extra, quoted}
 
--- a text in `'`, or in `"` where it holds a `'`
+-- a text in `'`, or in `"` if it contains a `'`
 abbrev pub quoted_text : List ℕ → List ℕ
 quoted_text text =
     if list_any (λ c. c == 39) text then 34 ∷ (text ++ 34 ∷ []) else 39 ∷ (text ++ 39 ∷ [])
@@ -19,7 +19,7 @@ value_text (text_key key) = variable_name (variable_of key)
 value_text extra = codes "extra"
 value_text (quoted text) = quoted_text text
 
--- what a value is, without where its text lies
+-- a value, without the place of its text
 abbrev pub owned_value : MarkerValue → Value
 owned_value (MarkerEnvVersion key) = version_key key
 owned_value (MarkerEnvString key) = text_key key

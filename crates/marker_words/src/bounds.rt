@@ -1,4 +1,4 @@
-//! The comparisons that a range of texts is.
+//! The comparisons of a range of texts.
 
 ghost use Rattle.std.specs.Prelude.{◌≡◌, true};
 ghost use Rattle.std.specs.Option.{option_map};
@@ -7,8 +7,8 @@ ghost use Rattle.marker_words.specs.Compare.{pair_of, lower_pair, upper_pair, pa
 use crate::operator::MarkerOperator;
 use std::ops::Bound;
 
-/// The comparisons that say together that a text lies in a range, the one of its lower bound first.
-/// There are two at most.
+/// The comparisons whose conjunction is a range of texts, the one of the lower bound first. There
+/// are at most two.
 #[derive(Drop)]
 pub struct MarkerOperatorBounds<'a> {
     lower: Option<(MarkerOperator, &'a String)>,
@@ -36,9 +36,9 @@ impl<'a> Iterator for MarkerOperatorBounds<'a> {
 impl MarkerOperator {
     ghost use Rattle.marker_words.specs.Bounds.{HoldBetween, HoldsFrom, HoldsUntil, pairs_left};
 
-    /// The comparisons that a text satisfies exactly where it lies between the bounds: one `==`
-    /// where both include the same text, and else one for each bound that there is. Where no text
-    /// lies between the bounds, none satisfies all of them.
+    /// Returns the comparisons that together are true exactly for the texts between the bounds: one
+    /// `==` if both bounds include the same text, otherwise one for each bound. If no text is
+    /// between the bounds, none satisfies all of them.
     pub fn from_bounds<'a>(
         bounds: (Bound<&'a String>, Bound<&'a String>),
     ) -> MarkerOperatorBounds<'a>
@@ -64,8 +64,8 @@ impl MarkerOperator {
         }
     }
 
-    /// The comparison that a text satisfies exactly where it does not lie below the bound: `>=`
-    /// where the bound is included, `>` where it is excluded, and none where there is no bound.
+    /// Returns the comparison that is true for the texts not below the bound: `>=` if it is
+    /// included, `>` if it is excluded. `None` without a bound.
     pub fn from_lower_bound<'a>(bound: Bound<&'a String>) -> Option<(MarkerOperator, &'a String)>
         ensures pair { option_map pair_of result ≡ lower_pair (text_bound bound.entry) }
         ensures range { HoldsFrom (option_map pair_of result) (text_bound bound.entry) }
@@ -77,8 +77,8 @@ impl MarkerOperator {
         }
     }
 
-    /// The comparison that a text satisfies exactly where it does not lie above the bound: `<=`
-    /// where the bound is included, `<` where it is excluded, and none where there is no bound.
+    /// Returns the comparison that is true for the texts not above the bound: `<=` if it is
+    /// included, `<` if it is excluded. `None` without a bound.
     pub fn from_upper_bound<'a>(bound: Bound<&'a String>) -> Option<(MarkerOperator, &'a String)>
         ensures pair { option_map pair_of result ≡ upper_pair (text_bound bound.entry) }
         ensures range { HoldsUntil (option_map pair_of result) (text_bound bound.entry) }

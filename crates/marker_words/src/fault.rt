@@ -1,4 +1,4 @@
-//! What is wrong with a marker text, and where.
+//! Faults in marker texts, and their places.
 
 ghost use Rattle.std.specs.Prelude.{◌≡◌, ◌-◌, Some, length};
 ghost use Rattle.marker_words.specs.Fault.{message_of, IsTold, IsWordFault};
@@ -12,29 +12,28 @@ use std::fmt::Display;
 pub enum FaultKind {
     /// The text ends where a value is expected.
     ValueAtEnd,
-    /// What stands there is neither quoted nor a key.
+    /// There is neither a quoted text nor a key.
     NoValue,
-    /// What stands there is no operator.
+    /// There is no operator.
     NoOperator,
-    /// The text ends right behind `not`.
+    /// The text ends after `not`.
     NotAtEnd,
     /// No white space follows `not`.
     NoSpaceAfterNot,
-    /// The quote or parenthesis that stands there is never followed by this character, which closes
-    /// it.
+    /// A quote or parenthesis is never followed by this character, which closes it.
     Unclosed(char),
-    /// The text ends where this character is expected.
+    /// The text ends before this character, which is expected.
     MissingAtEnd(char),
-    /// Another character stands where this one is expected.
+    /// There is another character instead of this one.
     Missing(char),
-    /// This character stands where the text should go on by a keyword or end.
+    /// There is this character instead of a keyword or the end.
     Unexpected(char),
-    /// This character stands where the text should end.
+    /// There is this character instead of the end.
     Trailing(char),
 }
 
 impl FaultKind {
-    /// This fault, at a place of the text.
+    /// Returns the fault at a place of the text.
     pub fn at(self, place: Place<'_>) -> Fault<'_>
         ensures kind { result.kind ≡ self }
         ensures place { result.place ≡ place.entry }
@@ -46,14 +45,14 @@ impl FaultKind {
 /// What is wrong with a marker text, and where. It prints as its message.
 #[derive(Clone, Copy, Debug, PartialEq, Eq)]
 pub struct Fault<'a> {
-    /// What is wrong there.
+    /// What is wrong.
     pub kind: FaultKind,
-    /// Where the text is wrong.
+    /// Where it is wrong.
     pub place: Place<'a>,
 }
 
 impl Fault<'_> {
-    /// Where the fault begins, in bytes from the start of the text that it is in.
+    /// Returns where the fault begins, in bytes from the start of its text.
     pub fn start(&self, text: &str) -> usize
         ensures value { result ≡ length text.now - self.now.place.left }
 

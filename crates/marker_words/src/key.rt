@@ -1,4 +1,4 @@
-//! The names that stand for values of an environment (PEP 508, "Environment Markers").
+//! The keys of environments (PEP 508, "Environment Markers").
 
 ghost use Rattle.std.specs.Prelude.{◌≡◌, Some};
 ghost use Rattle.marker_words.specs.Key.{variable_of, variable_name, version_key_name, version_variable_key, version_variable_name};
@@ -63,40 +63,40 @@ pub enum MarkerValueString {
     SysPlatformDeprecated,
 }
 
-/// What a text key asks about, named as the modern key. Each deprecated spelling asks about the
-/// variable of its modern key.
+/// A text variable, named like its modern key. Each deprecated spelling reads the variable of its
+/// modern key.
 #[derive(Clone, Copy, Debug, PartialEq, Eq, PartialOrd, Ord, Hash)]
 pub enum TextVariable {
-    /// What `implementation_name` asks about
+    /// The variable of `implementation_name`
     ImplementationName,
-    /// What `os_name` asks about
+    /// The variable of `os_name`
     OsName,
-    /// What `platform_machine` asks about
+    /// The variable of `platform_machine`
     PlatformMachine,
-    /// What `platform_python_implementation` asks about
+    /// The variable of `platform_python_implementation`
     PlatformPythonImplementation,
-    /// What `platform_release` asks about
+    /// The variable of `platform_release`
     PlatformRelease,
-    /// What `platform_system` asks about
+    /// The variable of `platform_system`
     PlatformSystem,
-    /// What `platform_version` asks about
+    /// The variable of `platform_version`
     PlatformVersion,
-    /// What `sys_platform` asks about
+    /// The variable of `sys_platform`
     SysPlatform,
 }
 
-/// What a version key asks about. `python_version` is no variable: its comparisons become
-/// comparisons of `python_full_version`.
+/// A version variable. `python_version` has none: its comparisons become comparisons of
+/// `python_full_version`.
 #[derive(Clone, Copy, Debug, PartialEq, Eq, PartialOrd, Ord, Hash)]
 pub enum VersionVariable {
-    /// What `implementation_version` asks about
+    /// The variable of `implementation_version`
     ImplementationVersion,
-    /// What `python_full_version` asks about, and `python_version` of its first two numbers
+    /// The variable of `python_full_version`, and of `python_version` by its first two numbers
     PythonFullVersion,
 }
 
 impl MarkerValueString {
-    /// The variable that the key asks about.
+    /// Returns the variable of the key.
     pub fn variable(self) -> TextVariable
         ensures { result ≡ variable_of self }
     {
@@ -124,7 +124,7 @@ impl MarkerValueString {
 }
 
 impl TextVariable {
-    /// The modern key.
+    /// Returns the modern key as a text.
     pub fn name(self) -> &'static str
         ensures { result.now ≡ variable_name self }
     {
@@ -150,7 +150,7 @@ impl Display for TextVariable {
 }
 
 impl VersionVariable {
-    /// The key whose value the variable has.
+    /// Returns the key of the variable.
     pub fn key(self) -> MarkerValueVersion
         ensures { result ≡ version_variable_key self }
     {
@@ -160,7 +160,7 @@ impl VersionVariable {
         }
     }
 
-    /// The name of its key.
+    /// Returns the name of its key.
     pub fn name(self) -> &'static str
         ensures { result.now ≡ version_variable_name self }
     {

@@ -10,19 +10,19 @@ ghost use Rattle.marker_words.specs.Lexical.{Value};
 ghost use Rattle.marker_words.specs.Operator.{IsSpelling};
 ghost use Rattle.marker_words.specs.Part.{IsNamed};
 
-/// Over every order, a point lies between two bounds exactly where it satisfies the comparisons
-/// that they ask for.
+/// In every order, a point is between two bounds exactly if it satisfies the comparisons of the
+/// bounds.
 pub fn range_is_its_comparisons<T: Ord>()
     ensures { (lower upper : Bound T) (p : Point T) →
         satisfies_all T.cmp (pairs_of T.eq lower upper) p ≡ is_in_bounds T.cmp lower upper p }
 {}
 
-/// A text is a spelling of one operator at most.
+/// A text is a spelling of at most one operator.
 pub fn spelling_is_unique()
     ensures { (text : List ℕ) (a b : Operator) → IsSpelling text a → IsSpelling text b → a ≡ b }
 {}
 
-/// A name stands for one value at most.
+/// A name denotes at most one value.
 pub fn name_is_unique()
     ensures { (name : List ℕ) (a b : Value) → IsNamed a name → IsNamed b name → a ≡ b }
 {}

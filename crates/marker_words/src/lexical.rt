@@ -1,7 +1,5 @@
-//! The readers of the words of a comparison.
-//!
-//! Each goes from a text to what it reads at its front and to what is left behind that, or answers
-//! the fault that is told of a text in which no such word stands there.
+//! The parsers of the words of a comparison. Each returns what it parsed at the front of the text
+//! and the rest, or the fault if the text does not begin with such a word.
 
 ghost use Rattle.std.specs.Prelude.{◌≡◌, ◌↔◌, ◌<◌, ◌≤◌, ◌≢◌, ◌∷◌, ℕ, List, IsTrue, IfSome, IfNone, IfOk, IfErr, OnErr, Some, length};
 ghost use Rattle.std.specs.Str.{chars};
@@ -18,8 +16,8 @@ use crate::operator::MarkerOperator;
 use crate::parts::{ComparisonRef, Keyword, MarkerValueRef};
 use pep508_text::{Class, Place, first, skip_space, split_run, strip};
 
-// The value at the front of the text, which is a quoted text, a key or `extra`. There is none at
-// the end of the text, at a quote that is not closed, and at any other run of characters.
+// The value at the front of the text: a quoted text, a key or `extra`. There is none at the end of
+// the text, at a quote that is not closed, and at any other run of characters.
 fn value(text: &str) -> Result<(MarkerValueRef<'_>, &str), Fault<'_>>
     ensures found { IfOk result (λ x. IsValue (chars text.now) (chars x.1.now) (value_of x.0)) }
     ensures none { OnErr result (HasNoValue text.now) }
@@ -51,7 +49,7 @@ fn is_quote(c: char) -> bool
     c == '\'' || c == '"'
 }
 
-// The value of this name, which is compared with the names of its length alone.
+// The value with this name, which is compared only with the names of its length.
 pub(crate) fn value_of_name(name: &str) -> Option<MarkerValueRef<'_>>
     ensures found { IfSome result (λ value. IsNamed (value_of value) name.now) }
     ensures none { IfNone result ((value : Value) → IsNamed value name.now → ⊥) }
@@ -123,10 +121,9 @@ fn text_key(name: &str) -> Option<MarkerValueString>
     }
 }
 
-// The operator at the front of the text. It is a word, `in` or `not in`, where the text begins with
-// an alphabetic character (Unicode's), and else made of the characters `<`, `=`, `>`, `~` and `!`.
-// Anything else is no operator, nor is a `not` behind which no white space and then the letters
-// `in` stand.
+// The operator at the front of the text. If the text begins with an alphabetic character
+// (Unicode's), it is a word: `in`, or `not`, white space and `in`. Otherwise it consists of the
+// characters `<`, `=`, `>`, `~` and `!`.
 pub(crate) fn comparison_operator(text: &str) -> Result<(MarkerOperator, &str), Fault<'_>>
     ensures found { IfOk result (λ x. IsOperator (chars text.now) (chars x.1.now) x.0) }
     ensures none { OnErr result (HasNoOperator text.now) }
@@ -162,7 +159,7 @@ fn begins_word(text: &str) -> bool
     }
 }
 
-// The operator that is written so and is no word.
+// The operator with this text, if that is not a word.
 fn symbol(run: &str) -> Option<MarkerOperator>
     ensures found { IfSome result (λ operator. symbol_text operator ≡ Some run.now) }
     ensures none { IfNone result (
@@ -180,7 +177,7 @@ fn symbol(run: &str) -> Option<MarkerOperator>
     }
 }
 
-// What is left behind the white space and the letters `in` that follow a `not`.
+// The text after the white space and the letters `in` that follow a `not`.
 fn behind_not(text: &str) -> Result<&str, Fault<'_>>
     ensures found { IfOk result (λ rest. IsBehindNot (chars text.now) (chars rest.now)) }
     ensures none { OnErr result ((output : List ℕ) → IsBehindNot (chars text.now) output → ⊥) }
@@ -199,7 +196,7 @@ fn behind_not(text: &str) -> Result<&str, Fault<'_>>
     Ok(end)
 }
 
-// What is left behind the character that the text has to begin with.
+// The text after its first character, which must be this one.
 fn expect(text: &str, awaited: char) -> Result<&str, Fault<'_>>
     ensures found { IfOk result (λ rest. chars text.now ≡ awaited ∷ chars rest.now) }
     ensures none { OnErr result ((rest : List ℕ) → chars text.now ≢ awaited ∷ rest) }
@@ -216,8 +213,8 @@ fn expect(text: &str, awaited: char) -> Result<&str, Fault<'_>>
     Ok(rest)
 }
 
-/// The comparison at the front of the text: a value, an operator and a value, with any white space
-/// before each. The fault is that of the first of them that does not stand there.
+/// Parses the comparison at the front of the text: a value, an operator and a value, each after any
+/// white space. The fault is that of the first of them that is missing.
 pub fn sides(text: &str) -> Result<(ComparisonRef<'_>, &str), Fault<'_>>
     ensures found { IfOk result (λ x. Sides (chars text.now) (chars x.1.now)
         (value_of x.0.left) x.0.operator (value_of x.0.right)) }
@@ -237,15 +234,14 @@ pub fn sides(text: &str) -> Result<(ComparisonRef<'_>, &str), Fault<'_>>
     Ok((comparison, rest))
 }
 
-/// Which keyword the text begins with, and what is left behind it. A keyword is the whole run of
-/// characters that are no white space, so `and(` is none.
+/// Returns the keyword that the text begins with, and the rest. A keyword is the whole run of
+/// characters other than white space, so `and(` is not one.
 pub fn keyword(text: &str) -> (Keyword, &str)
     ensures which { IsKeyword result.0 (chars text.now) (chars result.1.now) }
     ensures suffix { IsSuffix text.now result.1.now }
     ensures shorter { result.0 ≢ Keyword.Other → length result.1.now < length text.now }
 {
-    // A text may close many parentheses in one run, which is not gone through once for each of
-    // them.
+    // A text may close many parentheses in one run, which is not visited once for each of them.
     if strip(text, ')').is_some() {
         return (Keyword::Other, text);
     }

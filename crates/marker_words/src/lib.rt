@@ -1,5 +1,5 @@
 //! The words of a marker (PEP 508, "Environment Markers"): keys, operators and quoted texts, how
-//! they are read and printed, and which comparisons a range of texts is.
+//! they are parsed and printed, and the comparisons of a range of texts.
 #![tactic(auto)]
 
 mod bounds;

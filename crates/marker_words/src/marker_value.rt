@@ -1,4 +1,4 @@
-//! Values: the sides of comparisons, and how they are printed.
+//! Values, the sides of comparisons, and how they are printed.
 
 ghost use Rattle.std.specs.Prelude.{◌≡◌, Some};
 ghost use Rattle.marker_words.specs.Print.{owned_value, quoted_text, value_text};
@@ -10,7 +10,7 @@ use std::alloc::AllocError;
 use std::fmt;
 use std::fmt::Display;
 
-/// A text that prints in `'`, or in `"` where it holds a `'`.
+/// A text that prints in `'`, or in `"` if it contains a `'`.
 #[derive(Clone, Copy, Debug, PartialEq, Eq)]
 pub struct Quoted<'a>(pub &'a str);
 
@@ -36,7 +36,7 @@ pub enum MarkerValue {
     MarkerEnvString(MarkerValueString),
     /// `extra`
     Extra,
-    /// What stands between two quotes
+    /// The text between two quotes
     QuotedString(String),
 }
 
@@ -45,8 +45,8 @@ impl MarkerValue {
     ghost use Rattle.marker_words.specs.Lexical.{Value};
     ghost use Rattle.marker_words.specs.Part.{IsNamed};
 
-    /// The value that this name stands for: a key, by its modern or by a deprecated spelling, or
-    /// `extra`. `None` for any other text, a quoted one too.
+    /// Returns the value of a name: a key, by its modern or a deprecated spelling, or `extra`.
+    /// `None` for any other text, including a quoted one.
     pub fn parse(name: &str) -> Option<MarkerValue>
         ensures found { IfSome result (λ value. IsNamed (owned_value value) name.now) }
         ensures none { IfNone result ((value : Value) → IsNamed value name.now → ⊥) }
@@ -55,7 +55,7 @@ impl MarkerValue {
             MarkerValueRef::MarkerEnvVersion(key) => Some(MarkerValue::MarkerEnvVersion(key)),
             MarkerValueRef::MarkerEnvString(key) => Some(MarkerValue::MarkerEnvString(key)),
             MarkerValueRef::Extra => Some(MarkerValue::Extra),
-            // No name stands for a quoted text.
+            // No name denotes a quoted text.
             MarkerValueRef::QuotedString(_) => None,
         }
     }

@@ -37,9 +37,9 @@ pub enum MarkerOperator {
 }
 
 impl MarkerOperator {
-    /// The operator that the whole text is a spelling of: `==`, `!=`, `>`, `>=`, `<`, `<=`, `~=`,
-    /// `in`, or `not`, white space and `in`, which is `NotIn`. `None` for any other text, one with
-    /// white space around the operator too.
+    /// Returns the operator that the whole text spells: `==`, `!=`, `>`, `>=`, `<`, `<=`, `~=`,
+    /// `in`, or `not`, white space and `in`, which is `NotIn`. `None` for any other text, including
+    /// one with white space around the operator.
     pub fn parse(text: &str) -> Option<MarkerOperator>
         ensures found { IfSome result (λ operator. IsSpelling (chars text.now) operator) }
         ensures none { IfNone result (
@@ -55,7 +55,7 @@ impl MarkerOperator {
         }
     }
 
-    /// The operator with its sides exchanged: `'x' < key` is `key > 'x'`.
+    /// Returns the operator with its sides exchanged: `'x' < key` is `key > 'x'`.
     pub fn invert(self) -> MarkerOperator
         ensures { result ≡ turned self }
     {

@@ -1,10 +1,10 @@
-//! What the readers of words answer.
+//! The results of the parsers of words.
 
 use crate::key::{MarkerValueString, MarkerValueVersion};
 use crate::operator::MarkerOperator;
 
-/// One side of a comparison, as it stands in the text: a key by any of its spellings, `extra`, or
-/// what stands between two quotes, which is lent.
+/// One side of a comparison as it is written: a key in any of its spellings, `extra`, or a borrowed
+/// text between two quotes.
 #[derive(Clone, Copy, Debug, PartialEq, Eq)]
 pub enum MarkerValueRef<'a> {
     /// A key whose value is a version, such as `python_version`
@@ -13,30 +13,30 @@ pub enum MarkerValueRef<'a> {
     MarkerEnvString(MarkerValueString),
     /// `extra`
     Extra,
-    /// What stands between two quotes
+    /// The text between two quotes
     QuotedString(&'a str),
 }
 
-/// A comparison, as it stands in the text: any two sides (PEP 508, "Grammar"). What it means, and
-/// whether it means anything, is said where it becomes an expression.
+/// A comparison as it is written: any two sides (PEP 508, "Grammar"). Its meaning, if it has one,
+/// is given where it becomes an expression.
 #[derive(Clone, Copy, Debug, PartialEq, Eq)]
 pub struct ComparisonRef<'a> {
-    /// What stands before the operator.
+    /// The value before the operator.
     pub left: MarkerValueRef<'a>,
-    /// The operator as it is written: `in` and `not in` are `In` and `NotIn` here, whatever side
-    /// the key stands on.
+    /// The operator as it is written: `in` and `not in` are `In` and `NotIn` on whichever side the
+    /// key is.
     pub operator: MarkerOperator,
-    /// What stands behind it.
+    /// The value after the operator.
     pub right: MarkerValueRef<'a>,
 }
 
-/// A run of characters that are no white space, where a keyword may stand.
+/// A run of characters other than white space, where a keyword may be.
 #[derive(Clone, Copy, Debug, PartialEq, Eq)]
 pub enum Keyword {
     /// `and`
     And,
     /// `or`
     Or,
-    /// Any other run, the empty one too
+    /// Any other run, including the empty one
     Other,
 }

@@ -1,9 +1,13 @@
-use Rattle.std.proofs.Common.{subst, arith}
-use Rattle.marker_terms.specs.Reduction.{IsWithin}
-use Rattle.marker_terms.proofs.ClauseLaws.{spare_at}
+use Rattle.std.proofs.Common.{◌≡◌, Bool, true, false, refl, sym, subst, ◌∙◌}
+use Rattle.std.specs.List.{Contains}
+use Rattle.marker_terms.specs.Numbered.{left_of, number_of}
+use Rattle.marker_terms.specs.Reduction.{is_spare}
+use Rattle.marker_terms.proofs.NearLaws.{none_spare}
 use Rattle.marker_terms.proofs.reduction.is_spare.Goals as goal
 
-pub returns-then-is_within : goal.returns-then-is_within
-returns-then-is_within c _ =
-    spare_at c.args.clauses.now c.args.place c.loop-other_place.other_place c.index-clauses-place.result c.index-clauses-other_place.result (omega arith) c.loop-other_place-test.true c.if-other_place-place.true c.index-clauses-place.is c.index-clauses-other_place.is
-    (subst (λ x. IsWithin c.index-clauses-place.result.items x) c.deref-then-other_place-place.ensures.value (subst (λ x. IsWithin x c.deref-then-other_place-place.result.now) c.deref.ensures.value (c.is_within.ensures c.if-is_within.true)))
+pub returns : goal.returns
+returns c = by_answer c.has_all_of_one-2.result refl
+  where
+    by_answer : (b : Bool) → c.has_all_of_one-2.result ≡ b → c.has_all_of_one-2.result ≡ is_spare number_of (left_of c.args.others.now) c.args.clause.now
+    by_answer true r = r ∙ sym (c.has_all_of_one-2.ensures.found r)
+    by_answer false r = r ∙ sym (none_spare c.args.endings.now c.args.others.now c.args.clause.now c.in_ok-near.near.items c.requires c.in_ok-near.ensures (λ j k h q. c.has_all_of_one.ensures.none c.if-has_all_of_one.false j k (subst (λ xs. Contains xs j) (sym c.always_listed.ensures) h) q) (λ j k h q. c.has_all_of_one-2.ensures.none r j k (subst (λ xs. Contains xs j) (sym c.deref.ensures.value) h) q))
