@@ -32,7 +32,7 @@ use Rattle.marker_comparisons.specs.Expression.{IsInvalid, IsTruthOf}
 use Rattle.marker_nodes.proofs.Firsts.{true_is, false_is}
 
 module _ (nodes : List Node) where
-  -- the constants stand everywhere, and ask about nothing
+  -- the constants are in every list, and depend on nothing
   constant_held : (b : Bool) → IsHeld nodes (cond b TRUE FALSE)
   constant_held true = omega arith
   constant_held false = omega arith
@@ -70,7 +70,7 @@ text_decided edges inside h q =
     same_id_is (value_by string_bytes text_cmp edges q) (cond (value_by string_bytes text_cmp inside q) TRUE FALSE)
     (at_names string_bytes string_cmp text_cmp string_cmp_total nat_list_cmp_total (λ a b. refl) edges inside inside (λ t i b j u k. same_id t (cond b TRUE FALSE) ≡ true) h q)
 
--- a set of texts that stand so beside a text
+-- the texts that are in this order to a text
 pub texts_beside : {a : _} {b : _} {c : _} (operator : MarkerOperator) (text : String Global) (inside : Cuts (String Global) Bool a b c) →
     ((p : Point (String Global)) → value_of string_cmp inside p ≡ holds_beside operator (beside string_cmp p text)) →
     (q : Point (List ℕ)) → value_by string_bytes text_cmp inside q ≡ holds_beside operator (beside text_cmp q (string_bytes text))
@@ -84,7 +84,7 @@ compared_truth nodes t operator key x text inside e h asks plain =
     same_truth nodes t (λ v. value_by string_bytes text_cmp inside (v.text x)) (holds_text operator key (string_bytes text)) asks
     (λ v. texts_beside operator text inside h (v.text x) ∙ ap (λ y. holds_beside operator (beside text_cmp (v.text y) (string_bytes text))) e ∙ plain v)
 
--- the operators that ask for no more than an order
+-- the operators about order
 abbrev Orders : MarkerOperator → Type 0
 Orders o = (o ≡ Equal) ⊎ ((o ≡ NotEqual) ⊎ ((o ≡ GreaterThan) ⊎ ((o ≡ GreaterEqual) ⊎ ((o ≡ LessThan) ⊎ (o ≡ LessEqual)))))
 

@@ -26,17 +26,18 @@ use std::alloc::{AllocError, Global};
 use thiserror::Error;
 use version_ranges::Ranges;
 
-/// A comparison that no marker stands for: a text key beside `~=`.
+/// The error of a comparison that has no marker: a text key with `~=`.
 #[derive(Clone, Copy, Debug, Drop, PartialEq, Eq, Error)]
 #[error("`~=` compares versions, and does not compare texts")]
 pub struct InvalidExpression;
 
-/// The id that is true where the comparison holds. A deprecated key asks what the modern one asks,
-/// and `python_version` asks about the full version.
+/// Returns the id of a comparison. A deprecated key is the modern one, and `python_version` is
+/// compared through `python_full_version`.
 ///
-/// It is refused as `SegmentAtEnd` where a bound of a set of versions would raise
-/// 18446744073709551615, as a fault where `~=` compares texts, and else for want of memory alone.
-/// What the ids of the table mean stays, also then.
+/// # Errors
+/// - [`Refusal::Fault`] if the comparison compares texts by `~=`.
+/// - [`Refusal::SegmentAtEnd`] if its set of versions has a bound above 2^64 - 1.
+/// - [`Refusal::OutOfMemory`] when memory runs out.
 pub fn expression(
     nodes: &mut NodeTable,
     expression: MarkerExpression,
@@ -70,7 +71,7 @@ pub fn expression(
     }
 }
 
-// The id that is true where the key's text compares so with the value.
+// The id of a comparison of a key's text with a value.
 fn compares_text(
     nodes: &mut NodeTable,
     key: MarkerValueString,
@@ -105,7 +106,7 @@ fn compares_text(
     }
 }
 
-// The id that is true where the extra is asked for, or where it is not.
+// The id that is true if the extra is active, or if it is not.
 fn compares_extra(
     nodes: &mut NodeTable,
     operator: ExtraOperator,
@@ -123,7 +124,7 @@ fn compares_extra(
     }
 }
 
-// The variable of a comparison with versions, and the points at which it holds.
+// The variable of a comparison with versions, and the set of its values that satisfy it.
 fn version_range(
     alloc: Global,
     expression: &MarkerExpression,
@@ -145,7 +146,7 @@ fn version_range(
     }
 }
 
-// What stands so beside the value. Nothing does where the operator asks for more than an order.
+// The values that compare so with the value; none for an operator that is not about order.
 fn range_beside<T: Ord + Clone>(
     alloc: Global,
     operator: MarkerOperator,
@@ -170,7 +171,7 @@ fn range_beside<T: Ord + Clone>(
     }
 }
 
-// The question that asks for an extra.
+// The variable of an extra.
 fn extra_variable(name: MarkerValueExtra) -> TruthVariable
     ensures { (v : Valuation) → answer result v ≡ holds_extra (extra_of name) v }
 {

@@ -1,4 +1,7 @@
 //! Comparisons as ids of a table of nodes.
+//!
+//! Calls that allocate return `AllocError` or `OutOfMemory` when memory runs out. Even then every
+//! id of the table keeps its meaning.
 #![tactic(auto)]
 
 mod expressions;

@@ -1,4 +1,4 @@
-//! Questions about one variable.
+//! The ids of conditions on one variable.
 
 ghost use Rattle.std.specs.Prelude.{◌≡◌, IfOk, string_bytes};
 ghost use Rattle.version_ranges.specs.Ranges.{contains_by, contains_point};
@@ -15,8 +15,7 @@ use pep440_version::Version;
 use std::alloc::AllocError;
 use version_ranges::{Cuts, Ranges};
 
-/// The id that is true where it is so. Only memory can run out. What the ids of the table mean
-/// stays, also then.
+/// Returns the id of a substring test or an extra.
 pub fn asks(nodes: &mut NodeTable, variable: TruthVariable) -> Result<NodeId, AllocError>
     ensures kept { Keeps markers nodes.old nodes.new }
     ensures rules { IsStore markers nodes.old → IsStore markers nodes.new }
@@ -25,8 +24,7 @@ pub fn asks(nodes: &mut NodeTable, variable: TruthVariable) -> Result<NodeId, Al
     nodes.place_node(Branches::Truth(variable, NodeId::TRUE, NodeId::FALSE))
 }
 
-/// The id that is true where the variable's version is in the set. Only memory can run out. What
-/// the ids of the table mean stays, also then.
+/// Returns the id that is true if the variable's version is in the set.
 pub fn asks_version(
     nodes: &mut NodeTable,
     variable: VersionVariable,
@@ -41,8 +39,7 @@ pub fn asks_version(
     nodes.place_node(Branches::Version(variable, edges))
 }
 
-/// The id that is true where the variable's text is in the set. Only memory can run out. What the
-/// ids of the table mean stays, also then.
+/// Returns the id that is true if the variable's text is in the set.
 pub fn asks_text(
     nodes: &mut NodeTable,
     variable: TextVariable,

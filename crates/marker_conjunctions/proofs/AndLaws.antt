@@ -1,5 +1,5 @@
 -- The conjunction of two ids from those of their children, and what is known of conjunctions.
-use Rattle.std.proofs.Common.{◌≡◌, ℕ, zero, suc, Bool, true, false, cond, ◌&&◌, inl, inr, List, [], ◌∷◌, ◌++◌, length, Some, Result, Ok, Err, refl, sym, ap, ◌∙◌, subst, arith}
+use Rattle.std.proofs.Common.{◌≡◌, ℕ, zero, suc, ◌≤◌, max, Bool, true, false, cond, ◌&&◌, inl, inr, List, [], ◌∷◌, ◌++◌, length, Some, Result, Ok, Err, refl, sym, ap, ◌∙◌, subst, arith}
 use Rattle.std.specs.Prelude.{slice_get, IfOk}
 use Rattle.std.specs.Map.{lookup}
 use Rattle.std.specs.declared.alloc.AllocError.{AllocError}
@@ -7,7 +7,7 @@ use Rattle.std.specs.declared.cmp.Ordering.TheVariants.{Less}
 use Rattle.std.proofs.lemmas.Bool.{and_parts}
 use Rattle.marker_environment.specs.Valuation.{Valuation}
 use Rattle.marker_diagrams.specs.declared.node_id.NodeId.{NodeId}
-use Rattle.marker_diagrams.specs.Id.{is_negated, signed_id, same_id}
+use Rattle.marker_diagrams.specs.Id.{is_negated, place_of, signed_id, same_id}
 use Rattle.marker_diagrams.specs.Diagram.{IsAfter, IsHeld, IsStore, Keeps, IsChoice, AreChildren, truth}
 use Rattle.marker_diagrams.proofs.IdLaws.{same_id_is}
 use Rattle.marker_diagrams.proofs.NodeLaws.{same_some, none_some, keeps_both, truth_still, after_still, after_before}
@@ -18,6 +18,7 @@ use Rattle.marker_nodes.specs.Side.{branch, IsFirst}
 use Rattle.marker_nodes.proofs.ChildLaws.{branch_after, branch_means, left_held, right_held}
 use Rattle.marker_nodes.proofs.Descents.{held_kept}
 use Rattle.marker_conjunctions.specs.Contents.{Contents, IsWellKept, same_pair}
+use Rattle.marker_conjunctions.specs.Reach.{reach, top}
 
 -- a conjunction stays one
 pub and_kept : (old new : List Node) (a b t : NodeId) → Keeps markers old new → IsHeld old a → IsHeld old b → IsAnd old a b t → IsAnd new a b t
@@ -35,8 +36,13 @@ known_is c a b t w f = (w.known a b t (sym f)).1.1
 
 -- one conjunction more
 pub known_more : (c : Contents) (a b t : NodeId) (memo : List ((NodeId × NodeId) × NodeId)) (expansions : ℕ) → IsWellKept c → IsHeld c.nodes a → IsHeld c.nodes b → IsAnd c.nodes a b t →
-    ((q : NodeId × NodeId) → lookup (same_pair q) memo ≡ cond (same_pair (a, b) q) (Some t) (lookup (same_pair q) c.memo)) → IsWellKept record { nodes = c.nodes; memo = memo; expansions = expansions }
-known_more c a b t memo expansions w i j h u = record { nodes = w.nodes; known = λ x y r f. by_test x y r (same_pair (a, b) (x, y)) refl (sym (u (x, y)) ∙ f) }
+    ((q : NodeId × NodeId) → lookup (same_pair q) memo ≡ cond (same_pair (a, b) q) (Some t) (lookup (same_pair q) c.memo)) → reach memo ≡ max (reach c.memo) (top ((a, b), t)) →
+    IsWellKept record { nodes = c.nodes; memo = memo; expansions = expansions }
+known_more c a b t memo expansions w i j h u reaches = record {
+  nodes = w.nodes;
+  known = λ x y r f. by_test x y r (same_pair (a, b) (x, y)) refl (sym (u (x, y)) ∙ f);
+  within = let all : reach c.memo ≤ length c.nodes = w.within in let made : place_of t ≤ length c.nodes = h.held in omega (arith, all, made, reaches, i, j);
+}
   where
     by_test : (x y r : NodeId) (z : Bool) → same_pair (a, b) (x, y) ≡ z → cond z (Some t) (lookup (same_pair (x, y)) c.memo) ≡ Some r → IsHeld c.nodes x × (IsHeld c.nodes y × IsAnd c.nodes x y r)
     by_test x y r true p f =
@@ -50,6 +56,7 @@ pub well_kept_longer : (d : Contents) (new : List Node) → IsWellKept d → IsS
 well_kept_longer d new w s k = record {
   nodes = s;
   known = λ a b t e. let h = w.known a b t e in (held_kept d.nodes new a k h.0, (held_kept d.nodes new b k h.1.0, and_kept d.nodes new a b t k h.0 h.1.0 h.1.1));
+  within = let all : reach d.memo ≤ length d.nodes = w.within in let longer : length d.nodes ≤ length new = k.longer in omega (arith, all, longer);
 }
 
 -- ---- children of two ids

@@ -28,7 +28,7 @@ pub descends_of : (c : Contents) → IsWellKept c → Descends markers c.nodes
 descends_of c w i n f = (w.nodes.node i n f).below
 
 -- ---- what is spent
--- nodes alone come after
+-- only nodes are added afterwards
 pub spends_placed : (c d : Contents) (last : List Node) (size : ℕ) (a b : NodeId) → Spends c d size a b → Spends c record { nodes = last; memo = d.memo; expansions = d.expansions } size a b
 spends_placed c d last size a b s = record { above = s.above; spent = s.spent; rises = s.rises }
 
@@ -45,7 +45,7 @@ spends_both c d e size less a b x y k descends i j sx sy l p q = record {
 }
   where
     below : (t s u : NodeId) → IsHeld c.nodes s → IsSubtree markers c.nodes t s → IsSubtree markers d.nodes s u → IsSubtree markers c.nodes t u
-    below t s u h z su = subtree_both markers c.nodes t s u z ((subtree_kept markers c.nodes d.nodes s u k descends h su).0)
+    below t s u h z su = subtree_both markers c.nodes t s u z ((subtree_kept markers c.nodes d.nodes s u k.nodes descends h su).0)
 
 -- ---- one conjunction more
 abbrev Memo : Type 0

@@ -1,3 +1,4 @@
 pub mod AndLaws
 pub mod CountLaws
+pub mod ReleaseLaws
 pub mod StepLaws

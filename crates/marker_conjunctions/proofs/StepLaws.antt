@@ -107,7 +107,8 @@ module _ (P : NodeId × NodeId → Type 0) where
   each_from (q ∷ qs) h = (h 0 q refl, each_from qs (λ i. h (suc i)))
 
 module _ (nodes : List Node) (memo : Memo) (a b : NodeId) (x : Variable) (pair : Valuation → NodeId × NodeId) (piece : Valuation → ℕ) (count : ℕ) where
-  -- a list, the pairs that are left of a walk, the last one that was found open, and the conjunctions of all before, where none was
+  -- a list, the pairs that are left of a walk, the last open one, and the conjunctions of all
+  -- before, if none was open
   pub record Walk (old now left : List (NodeId × NodeId)) (next : NodeId × NodeId) (children : List NodeId) : Type 0 where
     pub all : List (NodeId × NodeId)
     pub counted : length all ≡ count
@@ -242,7 +243,7 @@ choice_joins nodes a b x branches choice first ands x_is branches_are = record {
 pub spends_nothing : (c : Contents) (nodes : List Node) (size : ℕ) (a b : NodeId) → Spends c record { nodes = nodes; memo = c.memo; expansions = c.expansions } size a b
 spends_nothing c nodes size a b = record { above = λ k h. refl; spent = λ pairs h. omega arith; rises = omega arith }
 
--- a subtree stands no higher
+-- a subtree is no higher
 subtree_lower : (nodes : List Node) → Descends markers nodes → (t s : NodeId) → IsSubtree markers nodes t s → place_of s ≤ place_of t
 subtree_lower nodes d t _ itself = omega arith
 subtree_lower nodes d t s (child r _ n v h e f) =
@@ -289,7 +290,7 @@ unfolding all_ids
 id_listed zero t h = id_here 0 [] t (is_negated t) refl (omega arith)
 id_listed (suc n) t h = id_in n t (id_listed n t) h (place_of t == suc n) refl
 
--- how many pairs of ids that stand in the list are not known
+-- how many pairs of ids in the list are not known
 pub open_pairs : List Node → Memo → ℕ
 open_pairs nodes memo = unknown (all_pairs (all_ids (length nodes)) (all_ids (length nodes))) memo
 
@@ -306,10 +307,10 @@ module _ (c d : Contents) (k : IsKept c d) (w : IsWellKept c) (a b : NodeId) (p 
   descends = descends_of c w
 
   pub held_left : IsHeld d.nodes p.0
-  held_left = held_kept c.nodes d.nodes p.0 k h.left_held
+  held_left = held_kept c.nodes d.nodes p.0 k.nodes h.left_held
 
   pub held_right : IsHeld d.nodes p.1
-  held_right = held_kept c.nodes d.nodes p.1 k h.right_held
+  held_right = held_kept c.nodes d.nodes p.1 k.nodes h.right_held
 
   smaller : place_of p.0 ≤ place_of a → place_of p.1 ≤ place_of b → place_of p.0 + place_of p.1 + 1 ≤ place_of a + place_of b + 1
   smaller l r = omega arith
@@ -320,10 +321,10 @@ module _ (c d : Contents) (k : IsKept c d) (w : IsWellKept c) (a b : NodeId) (p 
       (smaller (subtree_lower c.nodes descends a p.0 h.left) (subtree_lower c.nodes descends b p.1 h.right)) s t
 
   pub below_pair : (q : NodeId × NodeId) → IsPair d.nodes p.0 p.1 q → IsPair c.nodes a b q
-  below_pair = pair_under c.nodes d.nodes k descends a b p h
+  below_pair = pair_under c.nodes d.nodes k.nodes descends a b p h
 
   pub waiting_pairs : (old new : List (NodeId × NodeId)) → ArePairs c.nodes a b old → Waits d.nodes p.0 p.1 old new → ArePairs c.nodes a b new
-  waiting_pairs old new pairs s = subst (ArePairs c.nodes a b) (sym s.added) (pairs_both c.nodes a b old s.more pairs (pairs_under c.nodes d.nodes k descends a b p h s.more s.pairs))
+  waiting_pairs old new pairs s = subst (ArePairs c.nodes a b) (sym s.added) (pairs_both c.nodes a b old s.more pairs (pairs_under c.nodes d.nodes k.nodes descends a b p h s.more s.pairs))
 
 -- ---- what is looked up
 pub looked_up : (memo : Memo) (expansions : ℕ) (a b : NodeId) (o : Option NodeId) → o ≡ lookup (same_pair (a, b)) memo →

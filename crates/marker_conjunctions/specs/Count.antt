@@ -30,7 +30,7 @@ pub record Spends (c d : Contents) (size : ℕ) (a b : NodeId) : Type 0 where
       → d.expansions + unknown pairs d.memo ≤ c.expansions + unknown pairs c.memo
   pub rises : c.expansions ≤ d.expansions
 
--- an id that is new was counted, where the count did not stand at its greatest value
+-- an id that is new was counted, unless the count was at its maximum
 abbrev pub IsCounted : Contents → Contents → NodeId → Type 0
 IsCounted old new t =
     (diagram.IsHeld old.nodes t → ⊥) → old.expansions < 18446744073709551615

@@ -1,3 +1,4 @@
+pub mod Reach
 pub mod Contents
 pub mod Branch
 pub mod Count

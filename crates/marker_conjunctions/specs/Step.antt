@@ -11,9 +11,7 @@ use Rattle.marker_conjunctions.specs.declared.conjunctions.Step.{Step}
 use Rattle.marker_conjunctions.specs.declared.conjunctions.Step.TheVariants.{Made, Open}
 use Rattle.marker_conjunctions.specs.Branch.{Joins}
 use Rattle.marker_conjunctions.specs.Contents.{same_pair}
-
-abbrev pub Memo : Type 0
-Memo = List ((NodeId × NodeId) × NodeId)
+pub use Rattle.marker_conjunctions.specs.Reach.{Memo}
 
 -- the conjunction of the pair was computed
 abbrev pub IsKnown : Memo → NodeId × NodeId → Type 0
@@ -33,7 +31,7 @@ pub record IsOpen (memo : Memo) (p : NodeId × NodeId) : Type 0 where
   pub left_node : 0 < place_of p.0
   pub right_node : 0 < place_of p.1
 
--- the pair is of a subtree of a and one of b, which stand in the list
+-- the pair is of a subtree of a and one of b, which the nodes have
 pub record IsPair (nodes : List Node) (a b : NodeId) (p : NodeId × NodeId) : Type 0 where
   pub left_held : IsHeld nodes p.0
   pub right_held : IsHeld nodes p.1
@@ -51,7 +49,7 @@ pub record IsWanted (nodes : List Node) (memo : Memo) (a b : NodeId) (p : NodeId
   pub below : place_of p.0 + place_of p.1 < place_of a + place_of b
   pub unsettled : IsOpen memo p
 
--- what a look at the children of two ids found: their conjunction, or the pair to look at next
+-- the result for the children of two ids: their conjunction, or the pair that is needed next
 abbrev pub IsStep : List Node → Memo → NodeId → NodeId → Step → Type 0
 IsStep nodes memo a b (Made choice) = Joins nodes a b choice
 IsStep nodes memo a b (Open left right) = IsWanted nodes memo a b (left, right)

@@ -1,84 +1,134 @@
 //! Conjunctions that are computed once.
 
-ghost use Rattle.std.specs.Prelude.{◌≡◌, ◌<◌, ◌+◌, [], IfNone, IfOk, IfSome, IsOk, List, OnOk, slice_index};
-ghost use Rattle.std.specs.HashMap.{hasher_of};
-ghost use Rattle.node_hasher.specs.Hash.{keyed};
-ghost use Rattle.marker_diagrams.specs.Diagram.{IsHeld, Keeps};
+ghost use Rattle.std.specs.Prelude.{◌≡◌};
 ghost use Rattle.marker_diagrams.specs.Id.{place_of};
-ghost use Rattle.marker_nodes.specs.And.{IsAnd, IsShort};
-ghost use Rattle.marker_nodes.specs.Node.{markers, Node};
-ghost use Rattle.marker_conjunctions.specs.Branch.{Joins};
-ghost use Rattle.marker_conjunctions.specs.Contents.{contents, nothing, IsWellKept};
-ghost use Rattle.marker_conjunctions.specs.Count.{IsCounted, Spends};
-ghost use Rattle.marker_conjunctions.specs.Step.{ArePairs, IsKnown, IsOpen, IsPair, IsSettled, IsStep, Remembers, Waits};
+ghost use Rattle.marker_conjunctions.specs.Reach.{reaches_from};
 
+use indexmap::IndexMap;
 use marker_nodes::{Choice, NodeId, NodeTable, short_cut};
 use node_hasher::NodeState;
 use smallvec::SmallVec;
 use std::alloc::{AllocError, Global};
-use std::collections::HashMap;
 
-/// The conjunctions of the ids of one table of nodes, as far as they were computed.
+/// The conjunctions of ids of one table of nodes that were computed so far.
 #[derive(Drop)]
 pub struct Conjunctions {
-    // The conjunctions that are known.
-    memo: HashMap<(NodeId, NodeId), NodeId, NodeState>,
+    // The known conjunctions, in the order in which they were computed.
+    memo: IndexMap<(NodeId, NodeId), NodeId, NodeState>,
+    // For each of them, the highest place of an id in it and the earlier ones.
+    reaches: Vec<u32>,
     // How many conjunctions of nodes were computed.
     expansions: u64,
+    pub ghost reached: { reaches.items ≡ reaches_from 0 memo.entries },
 }
 
-// What a look at the children of two ids finds out about their conjunction.
+// What the children of two ids show about their conjunction.
 #[derive(Drop)]
 enum Step {
-    // It is this choice among those of their children.
+    // It is this choice among the conjunctions of their children.
     Made(Choice),
-    // It waits for that of these two, which are children of theirs.
+    // It needs the conjunction of these two children first.
     Open(NodeId, NodeId),
 }
 
+// The place of an id among the nodes, counted from the oldest at 1; `TRUE` and `FALSE` have 0.
+fn height(id: NodeId) -> u32
+    ensures { result ≡ place_of id }
+{
+    match id.index() {
+        Some(index) => index as u32 + 1,
+        None => 0,
+    }
+}
+
 impl Conjunctions {
-    /// No conjunction was computed. What is known is hashed by the fixed key.
+    ghost use Rattle.std.specs.Prelude.{◌<◌, ◌≤◌, ◌+◌, [], IfNone, IfOk, IfSome, IsOk, List, OnOk, length, slice_index, take};
+    ghost use Rattle.std.specs.HashMap.{hasher_of};
+    ghost use Rattle.node_hasher.specs.Hash.{keyed};
+    ghost use Rattle.marker_diagrams.specs.Diagram.{IsHeld, Keeps};
+    ghost use Rattle.marker_nodes.specs.And.{IsAnd, IsShort};
+    ghost use Rattle.marker_nodes.specs.Node.{markers, Node};
+    ghost use Rattle.marker_conjunctions.specs.Branch.{Joins};
+    ghost use Rattle.marker_conjunctions.specs.Contents.{contents, nothing, IsKept, IsWellKept};
+    ghost use Rattle.marker_conjunctions.specs.Count.{IsCounted, Spends};
+    ghost use Rattle.marker_conjunctions.specs.Reach.{first_within, reach};
+    ghost use Rattle.marker_conjunctions.specs.Step.{ArePairs, IsKnown, IsOpen, IsPair, IsSettled, IsStep, Remembers, Waits};
+
+    /// Returns the state without any conjunction. It hashes by the fixed key.
     pub fn new(alloc: Global) -> Self
         ensures { contents [] result ≡ nothing }
     {
         Conjunctions::with_key(alloc, [0, 0])
     }
 
-    /// No conjunction was computed. What is known is hashed by a key: two random words. Who chooses
-    /// what markers say and does not know the key cannot make a look-up slow.
+    /// Returns the state without any conjunction. It hashes by a key of two random words, which
+    /// protects against markers that are chosen to make hashes collide.
     pub fn with_key(alloc: Global, key: [u64; 2]) -> Self
         ensures empty { contents [] result ≡ nothing }
         ensures key { hasher_of result.memo ≡ keyed (slice_index key 0) (slice_index key 1) }
     {
         Conjunctions {
-            memo: HashMap::with_hasher(alloc, NodeState::with_key(key)),
+            memo: IndexMap::with_hasher(alloc, NodeState::with_key(key)),
+            reaches: Vec::new(alloc),
             expansions: 0,
         }
     }
 
-    /// How many conjunctions of nodes were computed. Where it has reached its greatest value it
-    /// stays there.
+    /// Returns how many conjunctions of nodes were computed. The count stays at its maximum once it
+    /// is there.
     pub fn expansions(&self) -> u64
         ensures { result ≡ self.now.expansions }
     {
         self.expansions
     }
 
-    /// The conjunction of two ids of the table.
+    /// Returns how many conjunctions are known.
+    pub fn known(&self) -> usize
+        ensures { result ≡ length self.now.memo.entries }
+    {
+        self.memo.len()
+    }
+
+    /// Forgets the newest conjunctions, so that `known` are left; none is left if one of those has
+    /// an id beyond the oldest `nodes` nodes.
+    pub fn truncate(&mut self, known: usize, nodes: usize)
+        ensures memo { self.new.memo.entries ≡ first_within known nodes self.old.memo.entries }
+        ensures expansions { self.new.expansions ≡ self.old.expansions }
+    {
+        let left = if self.reach(known) as usize <= nodes {
+            known
+        } else {
+            0
+        };
+        self.memo.truncate(left);
+        self.reaches.truncate(left);
+    }
+
+    // The highest place of an id in the oldest `known` conjunctions.
+    fn reach(&self, known: usize) -> u32
+        ensures { result ≡ reach (take known self.now.memo.entries) }
+    {
+        match known.min(self.reaches.len()).checked_sub(1) {
+            Some(last) => self.reaches[last],
+            None => 0,
+        }
+    }
+
+    /// Returns the conjunction of two ids of the table. Ids keep their meaning and known
+    /// conjunctions stay known, even after an error.
     ///
-    /// Only memory can run out. What the ids of the table mean stays, also then, and so does what
-    /// is known. At most as many conjunctions are counted as there are pairs of a subtree of each.
-    /// None is, and no memory is taken, where the conjunction is known, where one of the ids is
-    /// `TRUE` or `FALSE`, where both are the same, and where one is the negation of the other.
+    /// The count of computed conjunctions grows by at most the number of pairs of a subtree of each
+    /// id. It does not grow, and nothing is allocated, in three cases: the conjunction is known;
+    /// one of the ids is `TRUE` or `FALSE`; both are equal, or each other's negation.
     ///
-    /// Pairs that wait for those of their children stand in a list, so that depth costs memory and
-    /// no stack.
+    /// Pairs that wait for those of their children are in a list, so that depth costs memory and no
+    /// stack.
     pub fn and(&mut self, nodes: &mut NodeTable, a: NodeId, b: NodeId) -> Result<NodeId, AllocError>
         requires rules { IsWellKept (contents nodes.old self.old) }
         requires a { IsHeld nodes.old a }
         requires b { IsHeld nodes.old b }
         ensures rules { IsWellKept (contents nodes.new self.new) }
-        ensures kept { Keeps markers nodes.old nodes.new }
+        ensures kept { IsKept (contents nodes.old self.old) (contents nodes.new self.new) }
         ensures and { IfOk result (IsAnd nodes.new a b) }
         ensures spends { Spends (contents nodes.old self.old) (contents nodes.new self.new)
             (place_of a + place_of b + 1) a b }
@@ -113,7 +163,7 @@ impl Conjunctions {
         }
     }
 
-    // The conjunction of two ids where it is known or needs no node.
+    // The conjunction of two ids if it is known or needs no node.
     #[inline(always)]
     fn look_up(&self, a: NodeId, b: NodeId) -> Option<NodeId>
         ensures and { IfSome result (λ t. (nodes : List Node) → IsWellKept (contents nodes self.now)
@@ -127,8 +177,7 @@ impl Conjunctions {
         self.memo.get(&(a, b)).copied()
     }
 
-    // The last pair of a list whose conjunction is still to be computed. It leaves the list, and
-    // so do those above it.
+    // The last pair of a list whose conjunction is not computed yet. Removes it and those above it.
     fn next_open(&self, pending: &mut Vec<(NodeId, NodeId)>) -> Option<(NodeId, NodeId)>
         ensures unsettled { IfSome result (IsOpen self.now.memo.entries) }
         ensures pairs { (nodes : List Node) (a b : NodeId) → ArePairs nodes a b pending.old.items
@@ -142,8 +191,8 @@ impl Conjunctions {
         None
     }
 
-    // A pair that waits for nothing, this one or one below it, and its conjunction as a choice. The
-    // pairs on the way to it, and those that they wait for, are added to the list.
+    // A pair that needs no other one, the given one or one below it, with its conjunction as a
+    // choice. The pairs on the way to it and those that they need are appended to the list.
     fn descend(
         &self,
         nodes: &NodeTable,
@@ -169,9 +218,9 @@ impl Conjunctions {
         }
     }
 
-    // The conjunction of two ids as a choice among those of their children, where these are known;
-    // else the last pair of children whose conjunction is still to be computed. The two ids and the
-    // other such pairs are then added to the list.
+    // The conjunction of two ids as a choice among those of their children, if these are known;
+    // otherwise the last pair of children without a known conjunction. The two ids and the other
+    // such pairs are then appended to the list.
     fn look(
         &self,
         nodes: &NodeTable,
@@ -209,7 +258,7 @@ impl Conjunctions {
         Ok(Step::Made(choice))
     }
 
-    // Makes the conjunction of two ids known, and answers it. The choice is among those of their
+    // Makes the conjunction of two ids known, and returns it. The choice is among those of their
     // children.
     fn compute(
         &mut self,
@@ -225,7 +274,7 @@ impl Conjunctions {
         requires joins { Joins nodes.old a b choice }
         ensures and { IfOk result (IsAnd nodes.new a b) }
         ensures rules { IsWellKept (contents nodes.new self.new) }
-        ensures kept { Keeps markers nodes.old nodes.new }
+        ensures kept { IsKept (contents nodes.old self.old) (contents nodes.new self.new) }
         ensures spends { Spends (contents nodes.old self.old) (contents nodes.new self.new)
             (place_of a + place_of b + 1) a b }
         ensures counted { OnOk result (self.old.expansions < 18446744073709551615
@@ -234,7 +283,11 @@ impl Conjunctions {
         ensures remembers { Remembers self.old.memo.entries self.new.memo.entries }
     {
         let id = self.place(nodes, a, b, choice)?;
+        let before = self.reach(self.known());
+        let reach = before.max(height(a).max(height(b)).max(height(id)));
+        self.reaches.reserve(1)?;
         self.memo.insert((a, b), id)?;
+        self.reaches.push(reach).unwrap();
         self.expansions = self.expansions.saturating_add(1);
         Ok(id)
     }

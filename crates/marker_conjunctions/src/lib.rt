@@ -1,6 +1,7 @@
-//! Conjunctions of the ids of a table of nodes.
+//! Conjunctions of the ids of a table of nodes, each computed once.
 //!
-//! What is computed once is known from then on.
+//! Calls that allocate return `AllocError` when memory runs out. Even then every id keeps its
+//! meaning.
 #![tactic(auto)]
 
 mod conjunctions;

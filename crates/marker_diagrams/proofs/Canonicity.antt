@@ -1,4 +1,4 @@
--- Two ids of one store are the same, or a valuation tells them apart.
+-- Two ids of one store are equal, or differ at some valuation.
 use Rattle.std.proofs.Common.{◌≡◌, ◌≢◌, ℕ, zero, suc, ◌+◌, ◌<◌, Bool, true, false, not, cond, List, Option, Some, None, ◌⊎◌, inl, inr, refl, sym, ap, ◌∙◌, arith}
 use Rattle.std.specs.Ordering.{is_eq, ordering_reverse}
 use Rattle.std.specs.declared.cmp.Ordering.{Ordering}
@@ -37,7 +37,7 @@ module _ {N X V : Type 0} (kind : NodeKind N X V) (laws : IsLawful kind) (nodes 
   pub descends : (i : ℕ) (n : N) → node_at nodes i ≡ Some n → (v : V) → place_of (kind.pick n v) < i
   descends i n e = (store.node i n e).below
 
-  -- a valuation that tells two ids apart
+  -- a valuation at which two ids differ
   abbrev pub Apart : NodeId → NodeId → Type 0
   Apart a b = (v : V) × (truth kind nodes a v ≡ not (truth kind nodes b v))
 
@@ -93,7 +93,7 @@ module _ {N X V : Type 0} (kind : NodeKind N X V) (laws : IsLawful kind) (nodes 
   first_at a b n v e h d =
       (with_variable kind (kind.variable n) v d.0, child_seen a n (kind.variable n) v d.0 e (tied_itself laws.total (kind.variable n)) ∙ d.1 ∙ ap not (sym (unseen b (kind.variable n) v d.0 h)))
 
-  -- where the variable of the first stands before the second: one of two children differs from the second
+  -- the variable of the first comes before the second: one of two children differs from the second
   first_side : (a b : NodeId) (n : N) → node_of nodes a ≡ Some n → IsAfter kind nodes (kind.variable n) b → ((c : NodeId) → place_of c < place_of a → c ≢ b → Apart c b) → Apart a b
   first_side a b n e h ih =
       let p = laws.proper n (store.node (place_of a) n e).reduced in
@@ -104,7 +104,7 @@ module _ {N X V : Type 0} (kind : NodeKind N X V) (laws : IsLawful kind) (nodes 
       by_test v w d (inl f) =
           first_at a b n w e h (ih (child_of a n w) ((store.node (place_of a) n e).below w) (λ k. d (signed_id_back (is_negated a) (kind.pick n v) (kind.pick n w) (f ∙ sym k))))
 
-  -- where both ask about one variable
+  -- both branch on one variable
   both_at : (a b : NodeId) (n m : N) (v : V) → node_of nodes a ≡ Some n → node_of nodes b ≡ Some m → kind.cmp (kind.variable n) (kind.variable m) ≡ Equal →
       Apart (child_of a n v) (child_of b m v) → Apart a b
   both_at a b n m v e f h d = (
@@ -155,14 +155,14 @@ module _ {N X V : Type 0} (kind : NodeKind N X V) (laws : IsLawful kind) (nodes 
   apart_below zero a b l i j d = absurd (omega arith)
   apart_below (suc k) a b l i j d = compare a b i j d (λ c x h. apart_below k c x (omega arith)) (node_of nodes a) (node_of nodes b) refl refl
 
-  -- ids that are not the same are told apart
+  -- ids that are not equal differ at some valuation
   pub apart : (a b : NodeId) → IsHeld nodes a → IsHeld nodes b → a ≢ b → Apart a b
   apart a b i j d = apart_below (suc (place_of a + place_of b)) a b (omega arith) i j d
 
   pub separated : (a b : NodeId) → IsHeld nodes a → IsHeld nodes b → a ≢ b → Separated kind nodes a b
   separated a b i j d = let p = apart a b i j d in (p.0, λ k. not_itself _ (sym k ∙ p.1))
 
-  -- two ids are the same, or a valuation tells them apart
+  -- two ids are equal, or differ at some valuation
   pub same_or_separated : (a b : NodeId) → IsHeld nodes a → IsHeld nodes b → (a ≡ b) ⊎ Separated kind nodes a b
   same_or_separated a b i j = by_cases (one_or_other a b)
     where

@@ -33,7 +33,7 @@ module _ {N X V : Type 0} (kind : NodeKind N X V) (nodes : List N) (x : X) where
     after = c.after;
   }
 
-  -- where all children are the same, that child is the choice
+  -- if all children are the same, that child is the choice
   pub choice_constant : IsLawful kind → (child : V → NodeId) (t : NodeId) → ((v : V) → child v ≡ t) → AreChildren kind nodes x child → IsChoice kind nodes x child t
   choice_constant laws child t e c = record {
     held = subst (IsHeld nodes) (e kind.lowest) (c.held kind.lowest);

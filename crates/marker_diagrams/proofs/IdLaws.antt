@@ -41,7 +41,7 @@ pub not_itself : (b : Bool) → b ≡ not b → ⊥
 not_itself true e = true≢false e
 not_itself false e = false≢true e
 
--- truths that are told apart are each other's negation
+-- truths that differ are each other's negation
 pub other_truth : (a b : Bool) → a ≢ b → a ≡ not b
 other_truth true true h = absurd (h refl)
 other_truth true false h = refl
@@ -51,7 +51,7 @@ other_truth false false h = absurd (h refl)
 id_by : (i j : ℕ) (s t : Bool) → i ≡ j → s ≡ t → (let a : NodeId = record { place = i; complement = s } in a) ≡ record { place = j; complement = t }
 id_by i j s t e f = ap (λ x. let a : NodeId = record { place = x; complement = s } in a) e ∙ ap (λ x. let a : NodeId = record { place = j; complement = x } in a) f
 
--- ids are equal where `==` says so
+-- ids are equal if `==` says so
 pub same_id_is : (a b : NodeId) → same_id a b ≡ true → a ≡ b
 same_id_is a b e =
     let q = and_parts (a.place == b.place) (beq a.complement b.complement) e in

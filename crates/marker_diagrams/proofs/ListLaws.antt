@@ -11,7 +11,7 @@ use Rattle.marker_diagrams.proofs.IdLaws.{same_id_is, same_id_itself}
 use Rattle.marker_diagrams.proofs.NodeLaws.{Descends, same_some, none_some}
 use Rattle.marker_diagrams.proofs.ResidueLaws.{subtree_both}
 
--- the id stands in the list
+-- the id is in the list
 abbrev IsIn : NodeId → List NodeId → Type 0
 IsIn s ids = (i : ℕ) × (slice_get ids i ≡ Some s)
 

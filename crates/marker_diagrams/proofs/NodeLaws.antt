@@ -18,7 +18,7 @@ module _ {N : Type 0} where
   at_test older n m i h true e f = let k : i ≡ suc (length older) = eqb-true i (suc (length older)) e in (omega arith, omega arith)
   at_test older n m i h false e f = let k : (0 < i) × (i ≤ length older) = h f in (k.0, omega arith)
 
-  -- nodes stand from place 1 up to the length of the list
+  -- nodes are at places from 1 up to the length of the list
   pub node_bounds : (nodes : List N) (i : ℕ) (m : N) → node_at nodes i ≡ Some m → (0 < i) × (i ≤ length nodes)
   node_bounds [] i m e = none_some m e
   node_bounds (n ∷ older) i m e = at_test older n m i (node_bounds older i m) (i == suc (length older)) refl e
@@ -56,11 +56,11 @@ module _ {N X V : Type 0} (kind : NodeKind N X V) where
   truth_free [] i v e = refl
   truth_free (n ∷ older) i v e = free_test older n i v (truth_free older i v) (i == suc (length older)) e
 
-  -- children stand below
+  -- children are at lower places
   abbrev pub Descends : List N → Type 0
   Descends nodes = (i : ℕ) (n : N) → node_at nodes i ≡ Some n → (v : V) → place_of (kind.pick n v) < i
 
-  -- place 0 is true, since no node stands there
+  -- place 0 is true, because no node is there
   pub truth_first : (nodes : List N) (v : V) → Descends nodes → truth_at kind nodes 0 v ≡ true
   truth_first nodes v d = by_node (node_at nodes 0) refl
     where
@@ -114,14 +114,14 @@ module _ {N X V : Type 0} (kind : NodeKind N X V) where
   pub truth_still : (old new : List N) (t : NodeId) (v : V) → Keeps kind old new → IsHeld old t → truth kind new t v ≡ truth kind old t v
   truth_still old new t v k h = ap (signed (is_negated t)) (k.truth (place_of t) v h)
 
-  -- and asks about the same variables
+  -- and depends on the same variables
   pub after_still : (old new : List N) (x : X) (t : NodeId) → Keeps kind old new → IsHeld old t → IsAfter kind old x t → IsAfter kind new x t
   after_still old new x t k h a n e = a n (sym (k.node (place_of t) h) ∙ e)
 
   pub after_before : (old new : List N) (x : X) (t : NodeId) → Keeps kind old new → IsHeld old t → IsAfter kind new x t → IsAfter kind old x t
   after_before old new x t k h a n e = a n (k.node (place_of t) h ∙ e)
 
-  -- valuations that no node tells apart give the same truths
+  -- valuations that no node distinguishes give the same truths
   pub truth_alike : (nodes : List N) (i : ℕ) (v w : V) → ((n : N) → kind.pick n v ≡ kind.pick n w) → truth_at kind nodes i v ≡ truth_at kind nodes i w
   truth_alike [] i v w h = refl
   truth_alike (n ∷ older) i v w h =

@@ -22,7 +22,7 @@ not_so : (b c : Bool) → (b ≡ true → c ≡ true) → c ≡ false → b ≡ 
 not_so true c f e = absurd (true≢false (sym (f refl) ∙ e))
 not_so false c f e = refl
 
--- where c and d are what b brings, the two choices are one
+-- if c and d are what b makes of them, the two choices are one
 kept_at : {A : Type 0} (b c d : Bool) (p q v : A) → (b ≡ true → (c ≡ true) × (d ≡ false)) → cond b p (cond c (cond d q p) v) ≡ cond c (cond d q p) v
 kept_at false c d p q v h = refl
 kept_at true c d p q v h = let r = h refl in sym (ap (λ z. cond z (cond d q p) v) r.0 ∙ ap (λ z. cond z q p) r.1)
@@ -33,7 +33,7 @@ module _ {N X V : Type 0} (kind : NodeKind N X V) where
   subtree_both nodes t s u h itself = h
   subtree_both nodes t s u h (child r _ n v k e f) = child r u n v (subtree_both nodes t s r h k) e f
 
-  -- subtrees in a list that grew are subtrees in the old one, and stand there
+  -- subtrees in a list that grew are subtrees in the old one, which has them
   pub subtree_kept : (old new : List N) (t u : NodeId) → Keeps kind old new → ((i : ℕ) (n : N) → node_at old i ≡ Some n → (v : V) → place_of (kind.pick n v) < i) →
       IsHeld old t → IsSubtree kind new t u → IsSubtree kind old t u × IsHeld old u
   subtree_kept old new t u k b i itself = (itself, i)
@@ -77,7 +77,7 @@ module _ {N X V : Type 0} (kind : NodeKind N X V) (laws : IsLawful kind) where
     down : (i : ℕ) (n : N) → node_at nodes i ≡ Some n → (v : V) → place_of (kind.pick n v) < i
     down = descends kind laws nodes store
 
-    -- the id asks about no variable before x
+    -- the id depends on no variable before x
     abbrev pub IsFrom : X → NodeId → Type 0
     IsFrom x t = (n : N) → node_of nodes t ≡ Some n → before (kind.variable n) x ≡ false
 
@@ -175,7 +175,7 @@ module _ {N X V : Type 0} (kind : NodeKind N X V) (laws : IsLawful kind) where
             ∙ kept_at (before (kind.variable m) p.at) (before (kind.variable m) x) (is_eq (kind.cmp (kind.variable n) (kind.variable m))) (kind.pick m p.held) (kind.pick m w) (kind.pick m v) (later x (kind.variable m) h)
             ∙ sym (pick_now x v m)
 
-    -- the first variable of an id, or any one where it has none
+    -- the first variable of an id, or any one if it has none
     first_by : (t : NodeId) (o : Option N) → node_of nodes t ≡ o → (x : X) × IsFrom x t
     first_by t None e = (laws.some, λ n f. none_some n (sym e ∙ f))
     first_by t (Some n) e = (kind.variable n, λ m f. ap (λ z. before (kind.variable z) (kind.variable n)) (same_some m n (sym f ∙ e)) ∙ not_before_itself (kind.variable n))
@@ -196,7 +196,7 @@ module _ {N X V : Type 0} (kind : NodeKind N X V) (laws : IsLawful kind) where
         at : (u : NodeId) → IsSubtree kind nodes t u → IsHeld nodes u
         at u h = (subtree_kept kind nodes nodes t u (keeps_itself kind nodes) down i h).1
 
-    -- ---- the root asks the first variable that counts
+    -- ---- the root branches on the first variable of the truth
     pub depends : (t : NodeId) (n : N) → IsHeld nodes t → node_of nodes t ≡ Some n → DependsOn kind (truth kind nodes t) (kind.variable n)
     depends t n i e =
         let p = laws.proper n (store.node (place_of t) n e).reduced in

@@ -3,7 +3,7 @@ use Rattle.std.specs.Prelude.{ℕ, ◌+◌, ◌-◌, ◌==◌, Bool, true, not, 
 use mathlib.Core.Bool.{beq}
 use Rattle.marker_diagrams.specs.declared.node_id.NodeId.{NodeId}
 
--- a truth, negated where the sign says so
+-- a truth, negated if the sign says so
 abbrev pub signed : Bool → Bool → Bool
 signed negated b = if negated then not b else b
 
@@ -11,7 +11,7 @@ signed negated b = if negated then not b else b
 abbrev pub id_of : ℕ → Bool → NodeId
 id_of index negated = record { place = index + 1; complement = negated }
 
--- the place of the node: 0 for the truth, which is no node, and k + 1 for the node of index k
+-- the place of the node: 0 for `TRUE`, which has no node, and k + 1 for the node of index k
 abbrev pub place_of : NodeId → ℕ
 place_of t = t.place
 
@@ -23,7 +23,7 @@ index_of t = if t.place == 0 then None else Some (t.place - 1)
 abbrev pub is_negated : NodeId → Bool
 is_negated t = t.complement
 
--- the id, negated where the sign says so
+-- the id, negated if the sign says so
 abbrev pub signed_id : Bool → NodeId → NodeId
 signed_id negated t = record { place = t.place; complement = signed negated t.complement }
 

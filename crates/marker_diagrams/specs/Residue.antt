@@ -21,8 +21,7 @@ module _ {N X V : Type 0} (kind : NodeKind N X V) where
   abbrev pub IsResidue : (V → Bool) → X → V → (V → Bool) → Type 0
   IsResidue f x s g = (v : V) → g v ≡ f (hold x s v)
 
-  -- the truth f depends on the variable x: two valuations that differ there alone get different
-  -- answers
+  -- the truth f depends on the variable x: it differs at two valuations that differ only there
   abbrev pub DependsOn : (V → Bool) → X → Type 0
   DependsOn f x = (v w : V) × (f (with_variable kind x v w) ≢ f w)
 

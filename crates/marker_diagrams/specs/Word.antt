@@ -7,7 +7,7 @@ use mathlib.Core.Bool.{beq}
 use Rattle.marker_diagrams.specs.declared.node_id.NodeId.{NodeId}
 use Rattle.marker_diagrams.specs.Id.{place_of, is_negated, same_id}
 
--- the number that stands for a sign
+-- a sign as a number
 abbrev pub bit_of : Bool → ℕ
 bit_of negated = if negated then 1 else 0
 

@@ -1,5 +1,5 @@
 //! Laws of diagrams over any kind of nodes. Each is a function that does nothing, whose contract is
-//! the law: `N` are the nodes, `X` the variables that they ask about, `V` the valuations of all
+//! the law. `N` are the nodes, `X` the variables that they branch on, `V` the valuations of all
 //! variables.
 
 ghost use Rattle.std.specs.Prelude.{◌≡◌, ◌≢◌, ◌⊎◌, ℕ, not, true, false, List, [], ◌∷◌, Some, reverse, slice_get};
@@ -22,8 +22,8 @@ pub fn ids_mean_truths<N, X, V>()
     ensures negated_twice { (t : NodeId) → opposite (opposite t) ≡ t }
 {}
 
-/// An id of a node means at each valuation what the child means that the node selects, negated
-/// where the id is a negation.
+/// The id of a node means at each valuation what the child means that the node selects, negated if
+/// the id is a negation.
 pub fn nodes_mean_their_children<N, X, V>()
     ensures { (kind : NodeKind N X V) (nodes : List N) → IsStore kind nodes → (t : NodeId) (n : N)
         → node_of nodes t ≡ Some n
@@ -31,7 +31,7 @@ pub fn nodes_mean_their_children<N, X, V>()
         (signed_id (is_negated t) (kind.pick n v)) v }
 {}
 
-/// Two ids of a store are the same, or a valuation tells them apart.
+/// Two ids of a store are equal, or differ at some valuation.
 pub fn other_ids_are_separated<N, X, V>()
     ensures { (kind : NodeKind N X V) (nodes : List N) → IsLawful kind → IsStore kind nodes
         → (a b : NodeId) → IsHeld nodes a → IsHeld nodes b → (a ≡ b) ⊎ Separated kind nodes a b }
@@ -43,7 +43,8 @@ pub fn other_ids_are_satisfied<N, X, V>()
         → (t : NodeId) → IsHeld nodes t → t ≢ FALSE → (v : V) × (truth kind nodes t v ≡ true) }
 {}
 
-/// No nodes are a store, and a store with one node more that is ready and no double is one.
+/// The empty list of nodes is a store, and a store with one more node that is ready and not a
+/// duplicate is a store.
 pub fn stores_grow<N, X, V>()
     ensures empty { (kind : NodeKind N X V) → IsStore kind [] }
     ensures longer { (kind : NodeKind N X V) (nodes : List N) (n : N) → IsLawful kind
@@ -54,8 +55,8 @@ pub fn stores_grow<N, X, V>()
         → Keeps kind nodes (n ∷ nodes) }
 {}
 
-/// The id of a stored node means what each node means that is the same: at each valuation what the
-/// child for it means.
+/// The id of a stored node means what every equal node means: at each valuation what the child for
+/// it means.
 pub fn same_nodes_have_one_id<N, X, V>()
     ensures { (kind : NodeKind N X V) (nodes : List N) → IsLawful kind → IsStore kind nodes
         → (n m : N) (i : ℕ)
@@ -63,14 +64,12 @@ pub fn same_nodes_have_one_id<N, X, V>()
         → IsChoice kind nodes (kind.variable n) (kind.pick n) (id_of i false) }
 {}
 
-/// The node of an index is the key of that index, where the keys are listed from the oldest node
-/// on.
+/// The node of an index is the key at that index, if keys are listed from the oldest node on.
 pub fn indices_count_from_the_oldest<N>()
     ensures { (keys : List N) (i : ℕ) → node_of (reverse keys) (id_of i false) ≡ slice_get keys i }
 {}
 
-/// The subtrees of an id mean the residues of its truth, and each residue is meant by exactly one
-/// subtree.
+/// The subtrees of an id mean the residues of its truth, each residue exactly one subtree.
 pub fn subtrees_are_the_residues<N, X, V>()
     ensures each_subtree { (kind : NodeKind N X V) (nodes : List N) → IsLawful kind
         → IsStore kind nodes → (t u : NodeId)
@@ -86,7 +85,7 @@ pub fn subtrees_are_the_residues<N, X, V>()
         → ((v : V) → truth kind nodes u v ≡ truth kind nodes w v) → u ≡ w }
 {}
 
-/// The node of an id asks about the first variable on which the truth depends.
+/// The node of an id branches on the first variable on which the truth depends.
 pub fn roots_ask_the_first_variable<N, X, V>()
     ensures depends { (kind : NodeKind N X V) (nodes : List N) → IsLawful kind → IsStore kind nodes
         → (t : NodeId) (n : N)
@@ -98,7 +97,7 @@ pub fn roots_ask_the_first_variable<N, X, V>()
         → is_lt (kind.cmp x (kind.variable n)) ≡ false }
 {}
 
-/// The subtrees of an id can be listed, each once, where the children of each node can be listed.
+/// The subtrees of an id can be listed, each once, if the children of each node can be listed.
 pub fn subtrees_can_be_listed<N, X, V>()
     ensures { (kind : NodeKind N X V) (nodes : List N) → IsStore kind nodes
         → ((n : N) → (children : List NodeId) × AreChildrenOf kind n children)

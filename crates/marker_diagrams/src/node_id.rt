@@ -2,11 +2,11 @@
 
 use std::hash::{Hash, Hasher};
 
-/// The id of a node of a diagram, or of its negation, in a word of eight bytes. Ids of one list of
-/// nodes are equal exactly where they mean the same.
+/// The id of a node of a diagram, or of its negation, in eight bytes. Ids of one list of nodes are
+/// equal exactly if they mean the same.
 #[derive(Clone, Copy, Debug, PartialEq, Eq)]
 pub struct NodeId {
-    // 0 is the truth, and k + 1 the node of index k, counted from the oldest.
+    // 0 is `TRUE`, and k + 1 the node of index k, counted from the oldest.
     place: u32,
     complement: bool,
 }
@@ -27,8 +27,8 @@ impl NodeId {
         complement: true,
     };
 
-    /// The id of the node of this index, counted from the oldest, or of its negation. There are ids
-    /// for the indices below 4,294,967,295.
+    /// Returns the id of the node of this index, counted from the oldest, or of its negation.
+    /// Indices are below 4,294,967,295.
     pub fn new(index: usize, complement: bool) -> Self
         requires { index + 1 < 2 ^ 32 }
         ensures { result ≡ id_of index complement }
@@ -39,7 +39,7 @@ impl NodeId {
         }
     }
 
-    /// The index of the node, or `None` for `TRUE` and `FALSE`.
+    /// Returns the index of the node, or `None` for `TRUE` and `FALSE`.
     pub fn index(self) -> Option<usize>
         ensures { result ≡ index_of self }
     {
@@ -50,28 +50,28 @@ impl NodeId {
         }
     }
 
-    /// Whether this is the negation of a node. `FALSE` is that of `TRUE`.
+    /// Returns whether this is the negation of a node. `FALSE` is the negation of `TRUE`.
     pub fn is_complement(self) -> bool
         ensures { result ≡ is_negated self }
     {
         self.complement
     }
 
-    /// Whether this is true everywhere.
+    /// Returns whether this is true everywhere.
     pub fn is_true(self) -> bool
         ensures { IsTrue result ↔ (self ≡ NodeId.TRUE) }
     {
         self == NodeId::TRUE
     }
 
-    /// Whether this is false everywhere.
+    /// Returns whether this is false everywhere.
     pub fn is_false(self) -> bool
         ensures { IsTrue result ↔ (self ≡ NodeId.FALSE) }
     {
         self == NodeId::FALSE
     }
 
-    /// The id that is true where this one is false.
+    /// Returns the negation.
     pub fn not(self) -> Self
         ensures { result ≡ opposite self }
     {
@@ -81,8 +81,8 @@ impl NodeId {
         }
     }
 
-    /// This id, negated where the parent is: what a child of the parent's node is as a child of the
-    /// parent.
+    /// Returns this id, negated if the parent is: a child of the parent's node becomes a child of
+    /// the parent.
     pub fn negate(self, parent: NodeId) -> Self
         ensures { result ≡ signed_id (is_negated parent) self }
     {
@@ -105,7 +105,7 @@ impl Hash for NodeId {
     ghost use Rattle.std.specs.Hash as fed;
     ghost use Rattle.marker_diagrams.specs.Word.{word_of, same_words};
 
-    // An id is fed as one word, whose lowest bit is the sign.
+    // An id is hashed as one word, whose lowest bit is the sign.
     ghost hash_input = { λ id. fed.u64 (word_of id) };
 
     ghost respects_eq = { same_words };

@@ -29,7 +29,8 @@ less_left Equal e f = absurd (true≢false e)
 less_left Greater e f = absurd (true≢false f)
 
 module _ (nodes : List Node) (store : IsStore markers nodes) (x : Variable) (t : NodeId) where
-  -- what holds of the id where it asks about another variable, and of its child where it asks about x, holds of the branch
+  -- what is true of the id if it branches on another variable, and of its child if it branches on
+  -- x, is true of the branch
   branch_cases : (v : Valuation) (P : NodeId → Type 0) → (((n : Node) → node_of nodes t ≡ Some n → is_eq (variable_cmp x (variable n)) ≡ false) → P t) →
       ((n : Node) → node_of nodes t ≡ Some n → variable_cmp x (variable n) ≡ Equal → P (signed_id (is_negated t) (pick n v))) → P (branch nodes x t v)
   branch_cases v P other at_x = by_node (node_of nodes t) refl

@@ -8,12 +8,12 @@ use Rattle.marker_diagrams.proofs.NodeLaws.{truth_free, truth_child}
 use Rattle.marker_nodes.specs.Branches.{value_at as pick}
 use Rattle.marker_nodes.specs.Node.{Node, markers}
 
--- what stands in a list stands in one that keeps it
+-- what is in a list is in one that keeps it
 pub held_kept : (old new : List Node) (t : NodeId) → Keeps markers old new → IsHeld old t → IsHeld new t
 held_kept old new t k h = let l = k.longer in omega arith
 
 module _ (nodes : List Node) (store : IsStore markers nodes) (t u : NodeId) (n : Node) (stands : Some n ≡ node_of nodes t) (v : Valuation) (u_is : u ≡ signed_id (is_negated t) (pick n v)) where
-  -- the child of the node stands below
+  -- the child of the node is at a lower place
   pub down_smaller : place_of u < place_of t
   down_smaller = let h : place_of (pick n v) < place_of t = (store.node (place_of t) n (sym stands)).below v in let k : place_of u ≡ place_of (pick n v) = ap place_of u_is in omega arith
 
@@ -28,6 +28,6 @@ signed_true : (s : Bool) → signed s true ≡ not s
 signed_true true = refl
 signed_true false = refl
 
--- an id without a node is true where it is no negation
+-- an id without a node is true if it is not a negation
 pub end_means : (nodes : List Node) (t : NodeId) (v : Valuation) → None ≡ node_of nodes t → truth markers nodes t v ≡ not (is_negated t)
 end_means nodes t v e = ap (signed (is_negated t)) (truth_free markers nodes (place_of t) v (sym e)) ∙ signed_true (is_negated t)

@@ -1,4 +1,4 @@
--- Where the conjunction of two ids begins.
+-- The conjunctions that need no node.
 use Rattle.std.proofs.Common.{◌≡◌, ℕ, ◌<◌, ◌≤◌, Bool, true, false, not, ◌==◌, ◌&&◌, inl, inr, List, Option, Some, None, length, refl, sym, ap, ◌∙◌, subst, arith}
 use Rattle.std.specs.declared.cmp.Ordering.TheVariants.{Less}
 use Rattle.std.proofs.lemmas.Bool.{eqb-true, eqb-false}
@@ -88,7 +88,7 @@ module _ (a b : NodeId) (nodes : List Node) (i : IsHeld nodes a) (j : IsHeld nod
     after = λ x f g. g;
   }
 
--- an id that is no constant has a node
+-- an id that is not a constant has a node
 pub not_constant : (t : NodeId) → same_id t FALSE ≡ false → same_id t TRUE ≡ false → 0 < place_of t
 not_constant t e f = by_place (place_of t == 0) refl
   where

@@ -89,7 +89,7 @@ module _ (keys nodes new : List Node) (n : Node) (w : IsStore markers (reverse k
   fits_by_test false pieces room added e l (inl h) = absurd (false≢true h)
   fits_by_test false pieces room added e l (inr h) = omega (arith, e, l, h)
 
-  -- the pieces of a node that is new are counted, where there was room for them
+  -- the pieces of a node that is new are counted, if there was room for them
   pub insert_room : (pieces room added : ℕ) (is_new : Bool) → HasRoom (reverse keys) pieces room → is_new ≡ not (list_any (node_eq n) keys) → ((is_new ≡ true) × (added ≡ count n)) ⊎ ((is_new ≡ false) × (added ≡ 0)) →
       (list_any (node_eq n) keys ≡ true) ⊎ (count n ≤ room - pieces) → HasRoom (reverse new) (pieces + added) room
   insert_room pieces room added is_new h e counts stands =

@@ -8,7 +8,7 @@ use Rattle.marker_diagrams.specs.Diagram.{IsAfter, IsHeld, truth}
 use Rattle.marker_nodes.specs.Variable.{Variable}
 use Rattle.marker_nodes.specs.Node.{Node, markers}
 
--- the id means the conjunction of two, and asks about none but their variables
+-- the id means the conjunction of two, and depends only on their variables
 pub record IsAnd (nodes : List Node) (a b t : NodeId) : Type 0 where
   pub held : IsHeld nodes t
   pub means : (v : Valuation) → truth markers nodes t v

@@ -1,4 +1,4 @@
--- A question with a child for each answer, as it is placed.
+-- A variable with a child for each piece, ready to be placed.
 use Rattle.marker_environment.specs.Valuation.{Valuation}
 use Rattle.marker_diagrams.specs.declared.node_id.NodeId.{NodeId}
 use Rattle.marker_diagrams.specs.Id.{is_negated, signed_id}

@@ -1,11 +1,11 @@
--- Where the Python version stands in a valuation.
+-- The point of the Python version in a valuation.
 use Rattle.version_ranges.specs.Point.{Point}
 use Rattle.pep440_version.specs.Parts.{Parts}
 use Rattle.marker_words.specs.declared.key.VersionVariable.{VersionVariable}
 use Rattle.marker_words.specs.declared.key.VersionVariable.TheVariants.{ImplementationVersion, PythonFullVersion}
 use Rattle.marker_environment.specs.Valuation.{Valuation}
 
--- where the Python version stands
+-- the point of the Python version
 abbrev pub python_of : Valuation → Point Parts
 python_of v = v.version PythonFullVersion
 

@@ -1,4 +1,4 @@
-//! Where the conjunction of two ids begins.
+//! The conjunctions that need no node.
 
 ghost use Rattle.std.specs.Prelude.{◌<◌, IfNone, IfSome, List};
 ghost use Rattle.marker_diagrams.specs.Diagram.{IsHeld};
@@ -8,8 +8,8 @@ ghost use Rattle.marker_nodes.specs.And.{IsAnd, IsShort};
 
 use marker_diagrams::NodeId;
 
-/// The conjunction of two ids where it needs no node: where one is a constant, both are the same,
-/// or one is the negation of the other.
+/// Returns the conjunction of two ids if it needs no node: if one is a constant, both are equal, or
+/// one is the negation of the other.
 pub fn short_cut(a: NodeId, b: NodeId) -> Option<NodeId>
     ensures short { IfSome result (λ t. (nodes : List Node) → IsHeld nodes a → IsHeld nodes b
         → IsAnd nodes a b t) }

@@ -6,7 +6,7 @@ ghost use Rattle.marker_diagrams.specs.Diagram.{node_of, IsHeld, truth, Separate
 ghost use Rattle.marker_nodes.specs.Branches.{count, value_at, variable};
 ghost use Rattle.marker_nodes.specs.Choice.{asked, chosen};
 ghost use Rattle.marker_nodes.specs.Node.{listed_child, markers};
-ghost use Rattle.marker_nodes.specs.Table.{pieces_of};
+ghost use Rattle.marker_nodes.specs.Table.{oldest, pieces_of};
 
 use crate::choice::Choice;
 use crate::node::{Branches, Children, Node};
@@ -16,20 +16,24 @@ use node_hasher::NodeState;
 use std::alloc::{AllocError, Global};
 use std::marker::Model;
 
-/// The nodes of many diagrams. Ids that stand here are equal exactly where they mean the same.
+/// The nodes of many diagrams, each once. Ids that the table holds are equal exactly if they mean
+/// the same.
 ///
-/// The table only grows: what an id means stays, also where a call is refused for want of memory.
+/// An id keeps its meaning as long as the table holds it, even after an error. Only `truncate`
+/// removes nodes.
 #[derive(Drop)]
 pub struct NodeTable {
     // List and unique table at once: an index is the place of a node.
     nodes: IndexSet<Node, NodeState>,
-    // How many pieces the nodes have, and how many they may have.
+    // How many pieces the nodes have together, and how many they may have.
     pieces: usize,
     room: usize,
+    // Whether a node was refused for lack of room.
+    has_met_room: bool,
     alloc: Global,
 }
 
-// An id names one of fewer nodes than this, and each node has a piece.
+// An id has room for fewer nodes than this, and each node has at least one piece.
 const MOST_PIECES: usize = u32::MAX as usize;
 
 impl Model for NodeTable {
@@ -45,8 +49,8 @@ impl Model for NodeTable {
 }
 
 impl NodeTable {
-    /// A table without nodes, which hashes by the fixed key and has room for 4,294,967,295 pieces,
-    /// the most that a table can have.
+    /// Returns a table without nodes. It hashes by the fixed key and has room for 4,294,967,295
+    /// pieces, the most that a table can have.
     pub fn new(alloc: Global) -> Self
         ensures empty { result ≡ [] }
         ensures rules { IsStore markers result }
@@ -54,8 +58,8 @@ impl NodeTable {
         NodeTable::with_key_and_room(alloc, [0, 0], usize::MAX)
     }
 
-    /// A table without nodes, which hashes by a key: two random words. Who chooses what markers say
-    /// and does not know the key cannot make a look-up slow.
+    /// Returns a table without nodes, which hashes by a key of two random words. This protects
+    /// against markers that are chosen to make hashes collide.
     pub fn with_key(alloc: Global, key: [u64; 2]) -> Self
         ensures empty { result ≡ [] }
         ensures rules { IsStore markers result }
@@ -63,9 +67,8 @@ impl NodeTable {
         NodeTable::with_key_and_room(alloc, key, usize::MAX)
     }
 
-    /// A table without nodes, which has room for so many pieces, or for 4,294,967,295 if these are
-    /// fewer. A new node is refused where the pieces of all nodes would be more, as it is where
-    /// there is no memory for it.
+    /// Returns a table without nodes, which has room for `pieces` pieces, at most 4,294,967,295. A
+    /// node beyond the room is refused as when memory runs out.
     pub fn with_room(alloc: Global, pieces: usize) -> Self
         ensures empty { result ≡ [] }
         ensures rules { IsStore markers result }
@@ -73,8 +76,7 @@ impl NodeTable {
         NodeTable::with_key_and_room(alloc, [0, 0], pieces)
     }
 
-    /// A table without nodes, which hashes by a key as that of `with_key` and has room as that of
-    /// `with_room`.
+    /// Returns a table without nodes, with the key of `with_key` and the room of `with_room`.
     pub fn with_key_and_room(alloc: Global, key: [u64; 2], pieces: usize) -> Self
         ensures empty { result ≡ [] }
         ensures rules { IsStore markers result }
@@ -83,49 +85,56 @@ impl NodeTable {
             nodes: IndexSet::with_hasher(alloc, NodeState::with_key(key)),
             pieces: 0,
             room: pieces.min(MOST_PIECES),
+            has_met_room: false,
             alloc,
         }
     }
 
-    /// What the table hashes by.
+    /// Returns the state by which the table hashes.
     pub fn hasher(&self) -> &NodeState {
         self.nodes.hasher()
     }
 
-    /// How many pieces all nodes have. A node has one for each of its children.
+    /// Returns how many pieces the nodes have together. A node has one for each of its children.
     pub fn pieces(&self) -> usize
         ensures { result ≡ pieces_of self.now }
     {
         self.pieces
     }
 
-    /// How many pieces all nodes may have.
+    /// Returns how many pieces the nodes may have together.
     pub fn room(&self) -> usize
         ensures { pieces_of self.now ≤ result }
     {
         self.room
     }
 
-    /// Where the memory of the nodes is taken from.
+    /// Returns whether a node was ever refused for lack of room. Removing nodes does not reset
+    /// this.
+    pub fn has_met_room(&self) -> bool {
+        self.has_met_room
+    }
+
+    /// Returns the allocator of the nodes.
     pub fn allocator(&self) -> Global {
         self.alloc
     }
 
-    /// How many nodes there are.
+    /// Returns how many nodes there are.
     pub fn len(&self) -> usize
         ensures { result ≡ length self.now }
     {
         self.nodes.len()
     }
 
-    /// Whether there are no nodes.
+    /// Returns whether there are no nodes.
     pub fn is_empty(&self) -> bool
         ensures { IsTrue result ↔ (self.now ≡ []) }
     {
         self.nodes.is_empty()
     }
 
-    /// Whether the id stands here. `TRUE` and `FALSE` stand in every table.
+    /// Returns whether the table holds the id's node. Every table holds `TRUE` and `FALSE`.
     pub fn holds(&self, id: NodeId) -> bool
         ensures { IsTrue result ↔ IsHeld self.now id }
     {
@@ -135,7 +144,8 @@ impl NodeTable {
         }
     }
 
-    /// The node of the id, or `None` for `TRUE`, `FALSE` and an id that does not stand here.
+    /// Returns the node of the id, or `None` for `TRUE`, `FALSE` and an id that the table does not
+    /// hold.
     pub fn node(&self, id: NodeId) -> Option<&Node>
         ensures { option_copied result ≡ node_of self.now id }
     {
@@ -145,7 +155,7 @@ impl NodeTable {
         }
     }
 
-    /// Whether two ids mean the same. This takes no memory.
+    /// Returns whether two ids mean the same.
     pub fn equivalent(&self, a: NodeId, b: NodeId) -> bool
         requires a { IsHeld self.now a }
         requires b { IsHeld self.now b }
@@ -156,12 +166,11 @@ impl NodeTable {
         a == b
     }
 
-    /// The id of the node that has these children on the pieces, one for each: an equal id where
-    /// there is one, and else that of a new node.
+    /// Returns the id of the node that has these children on the pieces, one for each. An equal
+    /// node is used if there is one.
     ///
-    /// Where all children are the same, it is that child. Where the first child is a negation, it
-    /// is the negation of the node with the other signs. Only memory can run out, and then the
-    /// table is as it was.
+    /// If all children are the same, it is that child. If the first child is a negation, it is the
+    /// negation of the node with the other signs.
     #[inline(always)]
     pub fn place<V: Drop>(
         &mut self,
@@ -182,8 +191,7 @@ impl NodeTable {
         self.place_choice(choice)
     }
 
-    /// The id of the node that a choice makes, as `place` of its question with its children. Only
-    /// memory can run out, and then the table is as it was.
+    /// Returns the id of a choice, as `place` does for its variable and its children.
     #[inline(always)]
     pub fn place_choice(&mut self, choice: Choice) -> Result<NodeId, AllocError>
         requires { AreChildren markers self.old (asked choice) (chosen choice) }
@@ -201,8 +209,7 @@ impl NodeTable {
         Ok(id.negate(first))
     }
 
-    /// The id that means what the node does, as `place` of the node's own children. Only memory can
-    /// run out, and then the table is as it was.
+    /// Returns the id of a node, as `place` does for the node's own children.
     pub fn place_node(&mut self, node: Node) -> Result<NodeId, AllocError>
         requires { AreChildren markers self.old (variable node) (value_at node) }
         ensures id { IfOk result (IsChoice markers self.new (variable node) (value_at node)) }
@@ -215,7 +222,18 @@ impl NodeTable {
         self.place(node, children)
     }
 
-    // The id of a node that is as small as it can be and whose first child is no negation.
+    /// Removes the newest nodes, so that at most `len` are left. Their pieces are free again, and
+    /// the table no longer holds their ids. The other ids keep their meaning.
+    pub fn truncate(&mut self, len: usize)
+        ensures { self.new ≡ oldest len self.old }
+    {
+        for _ in len..self.nodes.len() {
+            let node = self.nodes.pop().unwrap();
+            self.pieces -= node.piece_count();
+        }
+    }
+
+    // The id of a reduced node whose first child is not a negation.
     fn insert(&mut self, node: Node) -> Result<NodeId, AllocError>
         requires { IsReady markers self.old node }
         ensures id { IfOk result (IsChoice markers self.new (variable node) (value_at node)) }
@@ -227,6 +245,7 @@ impl NodeTable {
         let pieces = node.piece_count();
         if self.room - self.pieces < pieces {
             if !self.nodes.contains(&node) {
+                self.has_met_room = true;
                 return Err(AllocError);
             }
         }

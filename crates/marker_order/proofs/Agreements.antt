@@ -1,4 +1,4 @@
--- An id means the same in two tables where they agree up to it.
+-- An id means the same in two tables if they are equal up to it.
 use Rattle.std.proofs.Common.{◌≡◌, ℕ, zero, suc, ◌+◌, ◌-◌, ◌==◌, ◌<◌, ◌≤◌, Bool, true, false, not, cond, List, length, Option, Some, None, refl, sym, ap, ◌∙◌, subst, arith, below_more, replicate}
 use Rattle.std.specs.declared.cmp.Ordering.TheVariants.{Equal}
 use Rattle.marker_environment.specs.Valuation.{Valuation}
@@ -53,7 +53,7 @@ index_place t i e = by_test (place_of t == 0) refl e
     by_test true f g = none_some i g
     by_test false f g = let h : place_of t ≡ 0 → ⊥ = eqb-false (place_of t) 0 f in let k : place_of t - 1 ≡ i = same_some (place_of t - 1) i g in omega arith
 
--- an id beside one that `==` does not tell from it
+-- two ids that are equal by `==`
 pub passed_over_by : (a b : List Node) → IsStore markers a → IsStore markers b → (agreed : ℕ) → AgreeUpTo a b agreed → (s t : NodeId) (differ : Bool) → differ ≡ not (same_id s t) → differ ≡ false →
     (o : Option ℕ) (index : ℕ) → o ≡ index_of s → o ≡ Some index → index < agreed → diagram_cmp (a, s) (b, t) ≡ Equal
 passed_over_by a b rules other_rules agreed agree s t differ e f o index g h l =
@@ -71,6 +71,6 @@ no_node : (nodes : List Node) (found : Option Node) → node_at nodes 0 ≡ foun
 no_node nodes None e = e
 no_node nodes (Some n) e = let l = (node_bounds nodes 0 n e).0 in absurd (omega (arith, l))
 
--- at first each pair that is remembered is of FALSE alone
+-- at first each remembered pair is of FALSE only
 pub falsehoods_are_equal : (a b : List Node) → IsStore markers a → IsStore markers b → (n : ℕ) → AreEqual a b (replicate n (FALSE, FALSE))
 falsehoods_are_equal a b left right n = All-replicate (IsEqual a b) n (FALSE, FALSE) (on_constants a b left right FALSE FALSE (no_node a (node_at a 0) refl) (no_node b (node_at b 0) refl))

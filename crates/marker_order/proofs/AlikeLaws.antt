@@ -1,4 +1,4 @@
--- Ids of two stores mean the same exactly where their diagrams are alike.
+-- Ids of two stores mean the same exactly if their diagrams are alike.
 use Rattle.std.proofs.Common.{◌≡◌, ◌≢◌, ℕ, zero, suc, ◌<◌, Bool, true, false, List, Option, Some, None, refl, sym, ap, ◌∙◌, arith}
 use Rattle.std.specs.Ordering.{ordering_reverse}
 use Rattle.std.specs.declared.cmp.Ordering.{Ordering}
@@ -12,7 +12,8 @@ use Rattle.marker_diagrams.proofs.IdLaws.{not_itself, signed_id_back}
 use Rattle.marker_diagrams.proofs.NodeLaws.{same_some, none_some, truth_free, truth_child}
 use Rattle.marker_diagrams.proofs.Canonicity.{descends, unseen, child_seen, apart}
 
--- two ids, each of a store of its own, are the same constant, or ask about the same variable and have alike children
+-- two ids, each of a store of its own, are the same constant, or branch on the same variable and
+-- have alike children
 pub data Alike {N X V : Type 0} (kind : NodeKind N X V) (a b : List N) : NodeId → NodeId → Type 0 where
   constants : {s t : NodeId} → node_of a s ≡ None → node_of b t ≡ None → is_negated s ≡ is_negated t → Alike kind a b s t
   nodes : {s t : NodeId} {n m : N} → node_of a s ≡ Some n → node_of b t ≡ Some m → kind.cmp (kind.variable n) (kind.variable m) ≡ Equal →
@@ -30,7 +31,7 @@ turned kind laws a b s t (nodes {n = n} {m = m} e f g h) =
     nodes f e (laws.total.antisymm (kind.variable m) (kind.variable n) ∙ ap ordering_reverse g) (λ v. turned kind laws a b (signed_id (is_negated s) (kind.pick n v)) (signed_id (is_negated t) (kind.pick m v)) (h v))
 
 module _ {N X V : Type 0} (kind : NodeKind N X V) (laws : IsLawful kind) (a b : List N) (store_a : IsStore kind a) (store_b : IsStore kind b) where
-  -- an id that means the same as another does not ask about a variable before that one's
+  -- an id that means the same as another does not depend on a variable before that one's
   not_before : (s t : NodeId) (n : N) → IsHeld a s → node_of a s ≡ Some n → IsAfter kind b (kind.variable n) t → ((v : V) → truth kind a s v ≡ truth kind b t v) → ⊥
   not_before s t n i e h same = by_children (laws.proper n (store_a.node (place_of s) n e).reduced)
     where

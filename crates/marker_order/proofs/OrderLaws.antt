@@ -1,4 +1,4 @@
--- The order of diagrams is total, and no diagram's marks go on where another's end.
+-- The order of diagrams is total, and the marks of no diagram are the beginning of another's.
 use Rattle.std.proofs.Common.{◌≡◌, ◌==◌, suc, Bool, true, false, cond, List, [], ◌∷◌, ◌++◌, length, refl, sym, ap, ◌∙◌}
 use Rattle.std.specs.Ordering.{ordering_then}
 use Rattle.std.specs.declared.cmp.Ordering.{Ordering}
@@ -63,7 +63,7 @@ module _ {T : Type 0} (lower upper : Bound T → Mark) (first : (b : Bound T) �
   edges_tell (p ∷ ps) (q ∷ qs) =
       tells_more (λ e. tells_more (λ f. tells_both (h p.value q.value) (edges_tell ps qs)))
 
--- a version is asked about before a text, and that before a truth
+-- versions come before texts, and texts before substring tests and extras
 version_truth : (x : VersionVariable) (y : TruthVariable) → mark_cmp (asks (of_version x)) (asks (truth_variable y)) ≡ Less
 version_truth x (truths.In z t) = refl
 version_truth x (truths.Contains z t) = refl

@@ -1,4 +1,4 @@
--- Two diagrams tie exactly where they mean the same.
+-- Two diagrams are equal in the order exactly if they mean the same.
 use Rattle.std.proofs.Common.{◌≡◌, ℕ, zero, suc, ◌<◌, Bool, true, false, not, cond, ◌&&◌, List, [], ◌∷◌, map, Option, Some, None, refl, sym, ap, ◌∙◌, arith, string_bytes}
 use mathlib.Core.Bool.{beq}
 use Rattle.std.specs.Ordering.{bool_cmp, eq_by_cmp, is_eq, ordering_then}
@@ -76,7 +76,7 @@ module _ (cmp : NodeId → NodeId → Ordering) where
   turn_from : (r : Ordering) (c d : NodeId) (turns : List Turn) → r ≡ Equal → cmp c d ≡ Equal → turns_cmp cmp turns ≡ Equal → turns_cmp cmp (turn_by r c d ∷ turns) ≡ Equal
   turn_from r c d turns e f g = ap (λ x. turns_cmp cmp (turn_by x c d ∷ turns)) e ∙ then_from (cmp c d) (turns_cmp cmp turns) f g
 
--- bounds at cuts tie where the cuts do
+-- bounds at cuts are equal if the cuts are
 module _ {T : Type 0} (cmp : T → T → Ordering) where
   lowers_by : (v w : T) (x y : Bool) → lower_cmp cmp (cond x (Excluded v) (Included v)) (cond y (Excluded w) (Included w)) ≡ ordering_then (cmp v w) (bool_cmp x y)
   lowers_by v w true true = sym (then_equal (cmp v w))
@@ -126,7 +126,7 @@ module _ {T : Type 0} (cmp : T → T → Ordering) (one two : NodeId → List Ma
   abbrev child_cmp : NodeId → NodeId → Ordering
   child_cmp c d = slice_cmp mark_cmp (one c) (two d)
 
-  -- whether the edges of two functions tie, but for the first lower bound
+  -- whether the edges of two functions are equal, except for the first lower bound
   abbrev edges_tie : NodeId → NodeId → List (Cut T × NodeId) → List (Cut T × NodeId) → Bool
   edges_tie v w xs ys = marks_tie (one v) (two w) && same_steps (cut_eq (eq_by_cmp cmp)) marks_tie (marked one xs) (marked two ys)
 
@@ -148,7 +148,7 @@ module _ {T : Type 0} (cmp : T → T → Ordering) (one two : NodeId → List Ma
       flags false true e = absurd (false≢true e)
       flags false false e = refl
 
-  -- where the turns tie, the edges do
+  -- if the turns are equal, the edges are
   turns_tie : (low high : Bound T) (v w : NodeId) (xs ys : List (Cut T × NodeId)) → turns_cmp child_cmp (edge_turns cmp (parts_from low v xs) (parts_from high w ys)) ≡ Equal → edges_tie v w xs ys ≡ true
   turns_tie low high v w [] [] e = let q = turn_parts child_cmp (ordering_then (lower_cmp cmp low high) Equal) v w [] e in and_from _ _ (ap is_eq q.1) refl
   turns_tie low high v w [] (y ∷ ys) e =
@@ -163,7 +163,7 @@ module _ {T : Type 0} (cmp : T → T → Ordering) (one two : NodeId → List Ma
       let s = and_parts _ _ r in
       and_from _ _ (ap is_eq q.1) (and_from _ _ (and_from _ _ (cuts_tie x.0 y.0 (sym (cut_uppers cmp x.0 y.0) ∙ (then_parts _ _ q.0).1)) s.0) s.1)
 
-  -- and where the edges tie, the turns do
+  -- and if the edges are equal, the turns are
   tied_turns : (low high : Bound T) (v w : NodeId) (xs ys : List (Cut T × NodeId)) → lower_cmp cmp low high ≡ Equal → edges_tie v w xs ys ≡ true → turns_cmp child_cmp (edge_turns cmp (parts_from low v xs) (parts_from high w ys)) ≡ Equal
   tied_turns low high v w [] [] l e = turn_from child_cmp (ordering_then (lower_cmp cmp low high) Equal) v w [] (then_from (lower_cmp cmp low high) Equal l refl) (is_equal _ ((and_parts _ _ e).0)) refl
   tied_turns low high v w [] (y ∷ ys) l e = absurd (false≢true ((and_parts _ _ e).1))
@@ -179,7 +179,7 @@ module _ {T : Type 0} (cmp : T → T → Ordering) (one two : NodeId → List Ma
       (tied_turns (lower_of x.0) (lower_of y.0) x.1 y.1 xs ys (cut_lowers cmp x.0 y.0 ∙ c) (and_from _ _ s.1 r.1))
 
   module _ (o : IsTotalOrder cmp) where
-    -- where the edges tie, the children at each point do
+    -- if the edges are equal, the children at each point are
     children_tie : (v w : NodeId) (xs ys : List (Cut T × NodeId)) → edges_tie v w xs ys ≡ true → (p : Point T) →
         marks_tie (one (value_at (stands_before (λ u. u) cmp p) v xs)) (two (value_at (stands_before (λ u. u) cmp p) w ys)) ≡ true
     children_tie v w xs ys e p =
@@ -187,7 +187,7 @@ module _ {T : Type 0} (cmp : T → T → Ordering) (one two : NodeId → List Ma
         ∙ ap (marks_tie (value_at (stands_before (λ u. u) cmp p) (one v) (marked one xs))) (sym (marked_value (stands_before (λ u. u) cmp p) two w ys))
         ∙ equal_values o ties_equal (eq_by_cmp cmp) (λ x y. refl) (one v) (two w) (marked one xs) (marked two ys) e p
 
-    -- and where the children at each point tie, and neighbors do not, the edges tie
+    -- and if the children at each point are equal, and neighbors are not, the edges are equal
     tied_children : (v w : NodeId) (xs ys : List (Cut T × NodeId)) → ascends (cut_cmp cmp) None xs ≡ true → ascends (cut_cmp cmp) None ys ≡ true →
         is_merged marks_tie (one v) (marked one xs) ≡ true → is_merged marks_tie (two w) (marked two ys) ≡ true →
         ((p : Point T) → marks_tie (one (value_at (stands_before (λ u. u) cmp p) v xs)) (two (value_at (stands_before (λ u. u) cmp p) w ys)) ≡ true) → edges_tie v w xs ys ≡ true
@@ -215,7 +215,7 @@ module _ (a b : List Node) (rules : IsStore markers a) (other_rules : IsStore ma
   abbrev under : List Node → NodeId → NodeId → List Mark
   under list s c = marks_of list (signed_id (is_negated s) c)
 
-  -- the children at each valuation tie where the turns of two nodes on one variable do
+  -- the children at each valuation are equal if the turns of two nodes on one variable are
   picks_tie : (one two : NodeId → List Mark) (n m : Node) → variable_cmp (variable n) (variable m) ≡ Equal → turns_cmp (λ c d. slice_cmp mark_cmp (one c) (two d)) (turns_of n m) ≡ Equal →
       (v : Valuation) → slice_cmp mark_cmp (one (pick n v)) (two (pick m v)) ≡ Equal
   picks_tie one two (nodes.Version x es) (nodes.Version y fs) e h v =

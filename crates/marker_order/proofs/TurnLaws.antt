@@ -41,7 +41,7 @@ use Rattle.marker_order.proofs.OrderLaws.{diagrams_tell}
 abbrev pub child_cmp : List Node → List Node → NodeId → NodeId → NodeId → NodeId → Ordering
 child_cmp a b s t c d = diagram_cmp (a, signed_id (is_negated s) c) (b, signed_id (is_negated t) d)
 
--- the children that are still to be compared stand below the ids
+-- the children that are still to be compared are below the ids
 abbrev pub AreBelow : NodeId → NodeId → List Turn → Type 0
 AreBelow s t [] = ⊤
 AreBelow s t (Told r ∷ turns) = AreBelow s t turns
@@ -79,7 +79,7 @@ each_child P (nodes.Text x es) h =
     (λ p. subst P (value_by_name string_bytes string_cmp text_cmp string_cmp_total nat_list_cmp_total (λ a b. refl) es p) (h (at_text (point_map string_bytes p)))))
 each_child P (nodes.Truth x high low) h = (subst P (high_picked x high low) (h lowest), subst P (low_picked x high low) (h denied))
 
--- a node has the same marks where its children have
+-- a node has the same marks if its children have
 edges_same : {T : Type 0} (lower upper : Bound T → Mark) (one two : NodeId → List Mark) (ps : List (Part T NodeId)) → EachPart (λ c. one c ≡ two c) ps → edges_marks lower upper one ps ≡ edges_marks lower upper two ps
 edges_same lower upper one two [] h = refl
 edges_same lower upper one two (p ∷ ps) h =
@@ -142,7 +142,7 @@ then_equal Less = refl
 then_equal Equal = refl
 then_equal Greater = refl
 
--- which variables are asked about
+-- the order of variables
 pub asks_order : (x y : Variable) → mark_cmp (asks x) (asks y) ≡ variable_cmp x y
 asks_order x y = then_equal (variable_cmp x y)
 
@@ -218,7 +218,7 @@ node_rest marks (nodes.Version x es) = edges_marks version_lower version_upper m
 node_rest marks (nodes.Text x es) = edges_marks (λ b. text_lower (bound_map string_bytes b)) (λ b. text_upper (bound_map string_bytes b)) marks (parts_of es)
 node_rest marks (nodes.Truth x high low) = marks high ++ marks low
 
--- a node's marks begin with what it asks about
+-- a node's marks begin with its variable
 asked_first : (marks : NodeId → List Mark) (n : Node) → node_marks marks n ≡ asks (variable n) ∷ node_rest marks n
 asked_first marks (nodes.Version x es) = refl
 asked_first marks (nodes.Text x es) = refl

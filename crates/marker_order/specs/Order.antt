@@ -49,7 +49,7 @@ constant negated = if negated then bare 2 else bare 1
 abbrev pub asks : Variable → Mark
 asks x = record { sort = 3; variable = rank x; version = None; text = None }
 
--- bounds by the points where they begin and end; the upper bound that there is not comes last
+-- bounds by the points at which they begin and end; a missing upper bound comes last
 abbrev version_mark : ℕ → Point Parts → Mark
 version_mark sort p = record { sort = sort; variable = []; version = Some p; text = None }
 
@@ -72,14 +72,14 @@ text_upper (Excluded v) = text_mark 5 (at v)
 text_upper (Included v) = text_mark 5 (above v)
 text_upper Unbounded = bare 6
 
--- edge by edge, where `marks` are those of a subtree
+-- edge by edge, if `marks` are those of a subtree
 module _ {T : Type 0} (lower upper : Bound T → Mark) (marks : NodeId → List Mark) where
   abbrev pub edges_marks : List (Part T NodeId) → List Mark
   edges_marks [] = end ∷ []
   edges_marks (p ∷ ps) =
       lower p.lower ∷ upper p.upper ∷ (marks p.value ++ edges_marks ps)
 
--- an id of a node, where `marks` are those of an id below it
+-- an id of a node, if `marks` are those of an id below it
 abbrev pub node_marks : (NodeId → List Mark) → Node → List Mark
 node_marks marks (Version x edges) =
     asks (of_version x) ∷ edges_marks version_lower version_upper marks (parts_of edges)
@@ -95,12 +95,12 @@ marks_of (n ∷ older) t =
     then node_marks (λ c. marks_of older (signed_id (is_negated t) c)) n
     else marks_of older t
 
--- an id and the nodes that it stands in
+-- an id and its nodes
 abbrev pub diagram_cmp : List Node × NodeId → List Node × NodeId → Ordering
 diagram_cmp = on (λ (d : List Node × NodeId). marks_of d.0 d.1) (slice_cmp mark_cmp)
 
--- Where two lists go on, what follows decides only where the lists tie: none of them ends before
--- they are told apart.
+-- If two lists are extended, the rest decides only if the lists are equal: neither ends before they
+-- differ.
 pub record Tells (a b : List Mark) : Type 0 where
   pub goes_on : (x y : List Mark) → slice_cmp mark_cmp (a ++ x) (b ++ y)
       ≡ ordering_then (slice_cmp mark_cmp a b) (slice_cmp mark_cmp x y)

@@ -1,4 +1,4 @@
--- The edges of two nodes side by side, and what their order looks at.
+-- The edges of two nodes side by side, as their order compares them.
 use Rattle.std.specs.Prelude.{List, [], ◌∷◌}
 use Rattle.std.specs.Ordering.{ordering_then}
 use Rattle.std.specs.declared.cmp.Ordering.{Ordering}
@@ -25,12 +25,12 @@ turn_by Equal c d = Below c d
 turn_by Greater c d = Told Greater
 
 module _ {T : Type 0} (cmp : T → T → Ordering) where
-  -- lower bounds by the points where ranges begin, so no bound comes first, and `Included v` before
+  -- lower bounds by the points at which ranges begin: no bound comes first, and `Included v` before
   -- `Excluded v`
   abbrev pub lower_cmp : Bound T → Bound T → Ordering
   lower_cmp l m = point_cmp cmp (begin_point l) (begin_point m)
 
-  -- upper bounds by the points where ranges end, so `Excluded v` comes before `Included v`, and no
+  -- upper bounds by the points at which ranges end: `Excluded v` comes before `Included v`, and no
   -- bound last
   abbrev pub upper_cmp : Bound T → Bound T → Ordering
   upper_cmp Unbounded Unbounded = Equal
@@ -47,7 +47,7 @@ module _ {T : Type 0} (cmp : T → T → Ordering) where
   turn_of p q = turn_by (ordering_then (lower_cmp p.lower q.lower) (upper_cmp p.upper q.upper))
       p.value q.value
 
-  -- edge by edge, where the node that has no more comes first
+  -- edge by edge; the node that has no more comes first
   abbrev pub edge_turns : List (Part T NodeId) → List (Part T NodeId) → List Turn
   edge_turns [] [] = []
   edge_turns [] (q ∷ qs) = Told Less ∷ edge_turns [] qs
@@ -78,7 +78,7 @@ turns_of (nodes.Text x es) (nodes.Truth y k l) = []
 turns_of (nodes.Truth x i j) (nodes.Version y fs) = []
 turns_of (nodes.Truth x i j) (nodes.Text y fs) = []
 
--- the order that turns come to, where `cmp` is that of children
+-- the order of turns, if `cmp` is that of children
 abbrev pub turns_cmp : (NodeId → NodeId → Ordering) → List Turn → Ordering
 turns_cmp cmp [] = Equal
 turns_cmp cmp (Told order ∷ turns) = ordering_then order (turns_cmp cmp turns)

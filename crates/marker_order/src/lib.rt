@@ -1,7 +1,9 @@
 //! The order of diagrams, of one table of nodes or of two.
 //!
-//! Ids of two tables cannot be compared, and what their diagrams ask and answer can: constants come
-//! first, then what is asked first decides, and then the edges, one by one.
+//! Ids of two tables cannot be compared, but what their diagrams mean can. Constants come first;
+//! then the variable decides on which a diagram branches first, and then its edges, one by one.
+//!
+//! Comparing allocates nothing.
 #![tactic(auto)]
 
 mod bounds;

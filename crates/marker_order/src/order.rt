@@ -11,35 +11,36 @@ use crate::turns::{Turn, side_by_side};
 use marker_nodes::{NodeId, NodeTable};
 use std::cmp::Ordering;
 
-// How many nodes are looked at where equal ids are met.
+// How many more nodes are compared when equal ids are met.
 const PACE: usize = 8;
 
-// How many pairs are looked at by a comparison that remembers hardly any, since most end within
-// them, and by one that remembers 4,096.
+// How many pairs of nodes are visited by a comparison that remembers hardly any, because most end
+// within them, and by one that remembers 4,096.
 const FIRST: usize = 64;
 
 const SECOND: usize = 65_536;
 
-// What a comparison remembers, and how many pairs of nodes it may look at.
+// What a comparison remembers, and how many pairs of nodes it may visit.
 #[derive(Drop)]
 struct Memory<const N: usize> {
-    // How many nodes of both tables are known to agree, from the oldest on.
+    // How many nodes of both tables are known to be equal, from the oldest on.
     agreed: usize,
-    // Pairs of ids whose diagrams are equal. A pair has two places, and shares them with others.
+    // Pairs of ids whose diagrams are equal. A pair has two places, which other pairs may
+    // overwrite.
     equal: [(NodeId, NodeId); N],
-    // Without a number as many looks as are needed.
+    // How many visits are left, or `None` for any number.
     looks: Option<usize>,
 }
 
-/// The order of two diagrams, each an id in its table: `TRUE`, `FALSE`, and then by the variable
-/// that is asked about first, versions before texts before truths; then edge by edge, by lower
-/// bound, upper bound and child. Who has no more edges comes first. This takes no memory. The calls
-/// are nested no deeper than the ids have variables.
+/// Returns the order of two diagrams, each an id in its table. `TRUE` and `FALSE` come first. Then
+/// the first variable decides, versions before texts before substring tests and extras; then each
+/// edge, by lower bound, upper bound and child. A diagram that has no more edges comes first. Calls
+/// are nested at most as deep as the ids have variables.
 ///
-/// Equal ids are passed over as far as both tables are known to agree from their oldest node on. At
-/// each pair of equal ids some more nodes are looked at. Other pairs that were found equal are
-/// remembered in an array on the stack, which forgets; so a comparison that takes too many looks
-/// begins anew with a larger array, of up to 65,536 pairs.
+/// Equal ids are skipped if both tables are known to be equal from their oldest node up to there;
+/// at each pair of equal ids some more nodes are compared for this. Other equal pairs are
+/// remembered in an array on the stack, which may overwrite them. So a comparison that needs too
+/// many visits starts again with a larger array, of up to 65,536 pairs.
 pub fn diagram_order(
     table: &NodeTable,
     id: NodeId,
@@ -62,7 +63,7 @@ pub fn diagram_order(
     }
 }
 
-// The same by a comparison with so many places, if it ends within the looks. The places are on the
+// The order by a comparison with `N` places, if it ends within the visits. The places are on the
 // stack of this call, so that no other comparison pays for them.
 #[inline(never)]
 fn order_by<const N: usize>(
@@ -88,7 +89,7 @@ fn order_by<const N: usize>(
     order_from::<N>(table, id, other_table, other, &mut memory)
 }
 
-// The same, by what is remembered and is to be.
+// The order, using and extending what is remembered.
 fn order_from<const N: usize>(
     table: &NodeTable,
     id: NodeId,
@@ -149,7 +150,7 @@ fn order_from<const N: usize>(
 }
 
 impl<const N: usize> Memory<N> {
-    // Takes a look, if one is left.
+    // Uses up a visit, if one is left.
     fn take_look(&mut self) -> Option<()>
         ensures taken { self.old.looks ≡ None → IsSome result }
         ensures unbounded { self.old.looks ≡ None → self.new.looks ≡ None }
@@ -177,7 +178,7 @@ impl<const N: usize> Memory<N> {
         second.0 == id && second.1 == other
     }
 
-    // Remembers a pair in the first of its places, and what was there in the second one.
+    // Remembers a pair in the first of its places, and moves what was there to the second.
     fn remember(&mut self, id: NodeId, other: NodeId)
         requires { 2 ≤ N }
         ensures agreed { self.new.agreed ≡ self.old.agreed }
@@ -191,7 +192,7 @@ impl<const N: usize> Memory<N> {
     }
 }
 
-// The first of the two places of a pair among so many.
+// The first of the two of `places` for a pair.
 fn first_place(places: usize, id: NodeId, other: NodeId) -> usize
     requires { 2 ≤ places }
     ensures { result + 1 < places }
@@ -202,7 +203,7 @@ fn first_place(places: usize, id: NodeId, other: NodeId) -> usize
     mixed % (places / 2) * 2
 }
 
-// A number of an id, another one for each.
+// A number of an id, different for each.
 fn number(id: NodeId) -> usize {
     let index = id.index().unwrap_or(0);
     index
@@ -210,7 +211,8 @@ fn number(id: NodeId) -> usize {
         .wrapping_add(usize::from(id.is_complement()))
 }
 
-// Whether the ids are equal and stand where both tables agree, which some more nodes may show.
+// Whether the ids are equal and both tables are equal up to there, which some more comparisons of
+// nodes may show.
 fn are_passed_over(
     table: &NodeTable,
     id: NodeId,

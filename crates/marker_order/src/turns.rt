@@ -1,4 +1,4 @@
-//! The edges of two nodes side by side, as far as an order has to look.
+//! The edges of two nodes side by side, as far as the order depends on them.
 
 ghost use Rattle.std.specs.Prelude.{◌≡◌};
 ghost use Rattle.marker_order.specs.Turns.{turn_of, turns_left, turns_of};
@@ -13,9 +13,9 @@ use version_ranges::{Piece, Pieces};
 // What comes next in the comparison of two nodes.
 #[derive(Clone, Copy)]
 pub(crate) enum Turn {
-    // The edges have other bounds, or one of the nodes has no more: this is their order.
+    // The edges have different bounds, or one of the nodes has no more: this is their order.
     Told(Ordering),
-    // The edges have the same bounds: the order is that of these children, before the signs of the
+    // The edges have the same bounds: the order is that of these children, up to the signs of the
     // ids.
     Below(NodeId, NodeId),
 }
@@ -97,7 +97,7 @@ impl<'a> Iterator for Turns<'a> {
     }
 }
 
-// The turns of two nodes, which ask about one variable.
+// The turns of two nodes that branch on one variable.
 pub(crate) fn side_by_side<'a>(left: &'a Node, right: &'a Node) -> Turns<'a>
     ensures { turns_left result ≡ turns_of left.now right.now }
 {

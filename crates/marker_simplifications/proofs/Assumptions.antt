@@ -1,4 +1,4 @@
--- Ids where the Python version is taken to lie in a range.
+-- Ids given that the Python version is in a range.
 use Rattle.std.proofs.Common.{◌≡◌, ℕ, ◌<◌, Bool, true, false, cond, List, [], ◌∷◌, ◌++◌, length, get_or, Some, refl, sym, ap, ◌∙◌, subst, arith}
 use Rattle.std.specs.Map.{lookup}
 use lib.Dec.{eqb}
@@ -44,7 +44,7 @@ python = of_version PythonFullVersion
 abbrev Edges : Type 0
 Edges = Cuts Parts NodeId (record { cmp = version_cmp }) (record { eq = eq_by_cmp version_cmp }) (record { partial_cmp = λ a b. Some (version_cmp a b) })
 
--- the valuation with a Python version is one in which that variable alone has another value
+-- the valuation with a Python version is one in which only that variable has another value
 with_python_is : (p : Point Parts) (v : Valuation) → with_variable markers python (at_version p) v ≡ with_python p v
 with_python_is p v = λ i. record v { version = λ x. same x i }
   where
@@ -52,7 +52,8 @@ with_python_is p v = λ i. record v { version = λ x. same x i }
     same ImplementationVersion = refl
     same PythonFullVersion = refl
 
--- a node after the implementation's version that does not ask about the Python version asks about a later variable
+-- a node after the implementation's version that does not branch on the Python version branches on
+-- a later variable
 pub later_python : (n : Node) → variable_cmp (of_version ImplementationVersion) (variable n) ≡ Less → is_eq (variable_cmp python (variable n)) ≡ false → variable_cmp python (variable n) ≡ Less
 later_python (Version ImplementationVersion e) h g = absurd (true≢false (ap is_eq h))
 later_python (Version PythonFullVersion e) h g = absurd (true≢false g)
@@ -62,7 +63,7 @@ later_python (Truth (Contains x s) high low) h g = refl
 later_python (Truth (Extra s) high low) h g = refl
 later_python (Truth (Arbitrary s) high low) h g = refl
 
--- no variable stands before the implementation's version
+-- no variable comes before the implementation's version
 pub later_first : (n : Node) → is_eq (variable_cmp (of_version ImplementationVersion) (variable n)) ≡ false → variable_cmp (of_version ImplementationVersion) (variable n) ≡ Less
 later_first (Version ImplementationVersion e) g = absurd (true≢false g)
 later_first (Version PythonFullVersion e) g = refl
@@ -72,7 +73,7 @@ later_first (Truth (Contains x s) high low) g = refl
 later_first (Truth (Extra s) high low) g = refl
 later_first (Truth (Arbitrary s) high low) g = refl
 
--- what is so stays so
+-- what is true stays true
 pub assumed_kept : (old new : List Node) (lower upper : Bound Parts) (a t : NodeId) → Keeps markers old new → IsHeld old a → IsAssumed old lower upper a t → IsAssumed new lower upper a t
 assumed_kept old new lower upper a t k i h = record {
   held = let l = k.longer in let g = h.held in omega arith;
@@ -167,7 +168,7 @@ module _ (nodes : List Node) (store : IsStore markers nodes) (lower upper : Boun
         after = λ x h. choice.after x (after_before markers nodes mid x t k held (after_before markers mid last x t l (held_kept nodes mid t k held) h) (Version ImplementationVersion edges) stands);
       }
 
--- what a list holds at the piece of a point, where the children of the pieces are listed
+-- the element of a list at the piece of a point, if the children of the pieces are listed
 pub made_at : {g1 : _} {h1 : _} {i1 : _} {g2 : _} {h2 : _} {i2 : _} (mid : List Node) (lower upper : Bound Parts) (edges : Cuts Parts NodeId g1 h1 i1) (copy : Cuts Parts NodeId g2 h2 i2) (children made : List NodeId) →
     ((q : Point Parts) → same_id (value_of version_cmp edges q) (value_of version_cmp copy q) ≡ true) → ((q : Point Parts) → slice_get children (piece_of version_cmp copy q) ≡ Some (value_of version_cmp copy q)) →
     length made ≡ length children → AreAssumed mid lower upper children made → (q : Point Parts) → IsAssumed mid lower upper (value_of version_cmp edges q) (child_at made (piece_of version_cmp copy q))

@@ -33,7 +33,7 @@ plain_signed t = sym (plain_is t (signed_id (is_negated t) t) refl)
 pub first_plain : (n : ℕ) (t u : NodeId) → place_of t ≤ n → u ≡ signed_id (is_negated t) t → IsPlain n u
 first_plain n t u h e = subst (IsPlain n) (sym (plain_is t u e)) (record { within = h; sign = refl })
 
--- an index is that of a node, and without one there is none
+-- an index is that of a node, and without one there is no node
 index_by : (p : ℕ) (b : Bool) → (p == 0) ≡ b → None ≡ cond b None (Some (p - 1)) → p ≡ 0
 index_by p true e f = eqb-true p 0 e
 index_by p false e f = none_some (p - 1) f

@@ -35,7 +35,7 @@ use Rattle.marker_nodes.proofs.Descents.{end_means}
 use Rattle.marker_nodes.proofs.Firsts.{first_none}
 
 module _ (Answers : List ℕ → Bool → Type 0) where
-  -- what is so stays so
+  -- what is true stays true
   pub granted_kept : (old new : List Node) (a t : NodeId) → Keeps markers old new → IsHeld old a → IsGranted old Answers a t → IsGranted new Answers a t
   granted_kept old new a t k i h = record {
     held = held_kept old new t k h.held;
@@ -82,7 +82,7 @@ module _ (Answers : List ℕ → Bool → Type 0) where
   pub nothing_known : (nodes : List Node) → AreKnown nodes Answers []
   nothing_known nodes a t e = none_some t e
 
-  -- ---- answers to what a node asks
+  -- ---- whether the variable of a node is set to true
   untouched_truth : (x : TruthVariable) (b : Bool) → Grants Answers x b → b ≡ false → (granted : List ℕ → Bool) → AnswersBy Answers granted → (v : Valuation) → answer x (with_extras granted v) ≡ answer x v
   untouched_truth (In x s) b h e granted fixed v = refl
   untouched_truth (Contains x s) b h e granted fixed v = refl
@@ -130,13 +130,13 @@ module _ (old : List Node) (store : IsStore markers old) (t : NodeId) (held : Is
   child_after : (v : Valuation) → IsAfter markers old x (child v)
   child_after v = subst (λ s. IsAfter markers old x s) (has.3 v) (subst (λ y. IsAfter markers old y (pick has.0 v)) has.2 ((store.node (place_of t) has.0 has.1).after v))
 
-  -- children stand below
+  -- children are below
   pub are_under : (ids given : List NodeId) → given ≡ ids → ((i : ℕ) (u : NodeId) → slice_get ids i ≡ Some u → (v : Valuation) × (child v ≡ u)) → AreUnder old t given
   are_under ids given e found i u f =
       let q = found i u (ap (λ l. slice_get l i) (sym e) ∙ f) in
       (subst (IsHeld old) q.1 (child_held q.0), subst (λ s. place_of s < place_of t) q.1 (child_below q.0))
 
-  -- a variable that stands before those of the id
+  -- a variable that comes before those of the id
   before : (y : Variable) → IsAfter markers old y t → variable_cmp y x ≡ Less
   before y p = subst (λ z. variable_cmp y z ≡ Less) has.2 (p has.0 has.1)
 
@@ -147,7 +147,7 @@ module _ (old : List Node) (store : IsStore markers old) (t : NodeId) (held : Is
       ∙ ap (λ c. truth markers old c v) (has.3 v)
 
   module _ (Answers : List ℕ → Bool → Type 0) (new : List Node) (k : Keeps markers old new) where
-    -- where an extra is set true, what was made of the child where it is so
+    -- for an extra that is set to true, the result of the child for true
     pub granted_high : (high : NodeId) → ((granted : List ℕ → Bool) → AnswersBy Answers granted → (v : Valuation) → child (with_extras granted v) ≡ high) → (w : Valuation) → child w ≡ high →
         (r : Result NodeId AllocError) → IfOk r (IsGranted new Answers high) → IfOk r (IsGranted new Answers t)
     granted_high high picks w is_high (Ok s) h = record {
@@ -182,7 +182,7 @@ module _ (old : List Node) (store : IsStore markers old) (t : NodeId) (held : Is
       }
       granted_placed last l same (Err z) choice = choice
 
-    -- the same where the children are listed, by an index
+    -- the same if the children are listed, by an index
     module _ (ids given made : List NodeId) (given_is : given ≡ ids) (len : length made ≡ length given) (done : AreGranted new Answers given made) (index : Valuation → ℕ)
         (listed : (v : Valuation) → slice_get ids (index v) ≡ Some (child v)) where
       each_granted : (v : Valuation) → IsGranted new Answers (child v) (child_at made (index v))

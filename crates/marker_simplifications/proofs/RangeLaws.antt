@@ -73,7 +73,7 @@ module _ (lower upper : Bound Parts) where
     empty = λ n v. h v ∙ a.empty n v;
   }
 
-  -- where the range has no point, what is false everywhere
+  -- for an empty range, what is false everywhere
   pub assumes_nothing : IsBare version_cmp lower upper → (f g : Valuation → Bool) → ((v : Valuation) → g v ≡ false) → Assumes lower upper f g
   assumes_nothing n f g e = record {
     inside = λ v j. absurd (true≢false (sym j ∙ n (python_of v)));
@@ -133,11 +133,11 @@ module _ (lower upper : Bound Parts) where
 
   -- ---- two truths that assume what two others are
   module _ (f g f' g' : Valuation → Bool) (a : Assumes lower upper f f') (b : Assumes lower upper g g') where
-    -- they agree in the range where these are equal
+    -- they agree in the range if these are equal
     pub agree_inside : ((v : Valuation) → f' v ≡ g' v) → (v : Valuation) → is_in_bounds version_cmp lower upper (python_of v) ≡ true → f v ≡ g v
     agree_inside e v j = sym (a.inside v j) ∙ e v ∙ b.inside v j
 
-    -- and these are equal where they agree in the range
+    -- and these are equal if they agree in the range
     module _ (e : (v : Valuation) → is_python_in lower upper v ≡ true → f v ≡ g v) where
       point_itself : (q : Point Parts) → point_lt version_cmp q q ≡ false
       point_itself q = ap is_lt (tied_itself (point_total version_cmp version_total) q)

@@ -49,7 +49,7 @@ in_trimmed lower upper p = ap (λ b. b && is_until version_cmp (bound_map trimme
 
 module _ (nodes : List Node) (lower upper from until : Bound Parts) (from_is : from ≡ bound_map trimmed_parts lower) (until_is : until ≡ bound_map trimmed_parts upper) (set : Point Parts → Bool)
     (set_is : (p : Point Parts) → set p ≡ is_in_bounds version_cmp from until p) where
-  -- an id that is true in the set is true where the Python version lies in the range
+  -- an id that is true in the set is true if the Python version is in the range
   pub range_asked : (r : Result NodeId AllocError) → IfOk r (IsTruthOf nodes (λ v. set (v.version PythonFullVersion))) → IfOk r (IsTruthOf nodes (is_python_in lower upper))
   range_asked (Ok t) h = record {
     held = h.held;

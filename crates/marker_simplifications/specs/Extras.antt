@@ -10,6 +10,6 @@ with_extras granted v = record v { extra = λ name. granted name || v.extra name
 abbrev pub grant : (List ℕ → Bool) → (Valuation → Bool) → Valuation → Bool
 grant granted f v = f (with_extras granted v)
 
--- A question is answered by a fixed set of names: where it answers, it answers as the test does.
+-- Whether an extra is active is answered by a fixed set of names: each answer is that of the test.
 abbrev pub AnswersBy : (List ℕ → Bool → Type 0) → (List ℕ → Bool) → Type 0
 AnswersBy Answers test = (name : List ℕ) (answer : Bool) → Answers name answer → answer ≡ test name

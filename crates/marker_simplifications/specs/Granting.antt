@@ -16,7 +16,7 @@ Known = List (NodeId × NodeId)
 abbrev pub plain : NodeId → NodeId
 plain t = record { place = place_of t; complement = false }
 
--- the id is that of a node, and stands nowhere among those that are known
+-- the id is of a node, and has no result yet
 pub record IsUnknown (known : Known) (t : NodeId) : Type 0 where
   pub node : 0 < place_of t
   pub missing : lookup (same_id t) known ≡ None
@@ -32,7 +32,7 @@ IsFoundAs known a t = ((place_of a ≡ 0) × (t ≡ a))
     ⊎ ((s : NodeId) × (lookup (same_id (plain a)) known ≡ Some s)
     × (t ≡ signed_id (is_negated a) s))
 
--- so it is of the ids of two lists, one by one
+-- this is true of the ids of two lists, one by one
 abbrev pub AreFoundAs : Known → List NodeId → List NodeId → Type 0
 AreFoundAs known ids made = (i : ℕ) (a t : NodeId) → slice_get ids i ≡ Some a
     → slice_get made i ≡ Some t → IsFoundAs known a t
@@ -42,7 +42,7 @@ pub record IsPlain (n : ℕ) (t : NodeId) : Type 0 where
   pub within : place_of t ≤ n
   pub sign : is_negated t ≡ false
 
--- the id, which has no sign and is not known, stands below a parent
+-- the id, which is not a negation and has no result, is below a parent
 pub record IsWanted (known : Known) (parent t : NodeId) : Type 0 where
   pub below : place_of t < place_of parent
   pub sign : is_negated t ≡ false

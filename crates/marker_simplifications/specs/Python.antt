@@ -1,4 +1,4 @@
--- Truths under a range of Python versions, which is taken for granted or asked for.
+-- Truths and ranges of Python versions: simplifying for a range, and requiring one.
 use Rattle.std.specs.Prelude.{◌≡◌, Bool, true, false, ◌&&◌}
 use Rattle.std.specs.declared.ops.Bound.{Bound}
 use Rattle.std.specs.declared.ops.Bound.TheVariants.{Included, Excluded, Unbounded}
@@ -18,11 +18,11 @@ is_whole (Included first) upper = false
 is_whole (Excluded before) upper = false
 
 module _ (lower upper : Bound Parts) where
-  -- whether the Python version lies in the range
+  -- whether the Python version is in the range
   abbrev pub is_python_in : Valuation → Bool
   is_python_in v = is_in_bounds version_cmp lower upper (python_of v)
 
-  -- The truth g is the truth f where the Python version is taken to lie in the range.
+  -- The truth g is the truth f, given that the Python version is in the range.
   pub record Assumes (f g : Valuation → Bool) : Type 0 where
     -- in the range it is f
     pub inside : (v : Valuation) → is_python_in v ≡ true → g v ≡ f v
@@ -36,13 +36,13 @@ module _ (lower upper : Bound Parts) where
         (q : Point Parts) × IsBetween version_cmp lower upper q
         × ((r : Point Parts) → IsBetween version_cmp lower upper r
         → point_lt version_cmp r q ≡ false → g v ≡ f (with_python r v))
-    -- where the range has no point it is false everywhere
+    -- for an empty range it is false everywhere
     pub empty : IsBare version_cmp lower upper → (v : Valuation) → g v ≡ false
 
   -- the truth f, and the Python version in the range
   abbrev pub require : (Valuation → Bool) → Valuation → Bool
   require f v = f v && is_python_in v
 
-  -- two truths agree wherever the Python version lies in the range
+  -- two truths agree wherever the Python version is in the range
   abbrev pub AgreeInside : (Valuation → Bool) → (Valuation → Bool) → Type 0
   AgreeInside f g = (v : Valuation) → is_python_in v ≡ true → f v ≡ g v

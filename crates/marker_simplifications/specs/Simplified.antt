@@ -15,50 +15,49 @@ use Rattle.marker_nodes.specs.Node.{Node, markers}
 use Rattle.marker_simplifications.specs.Python.{Assumes}
 use Rattle.marker_simplifications.specs.Extras.{AnswersBy, grant, with_extras}
 
--- each id stands in the list, and asks about variables after x alone
+-- the list of nodes has each id, which depends only on variables after x
 abbrev pub AreLater : List Node → Variable → List NodeId → Type 0
 AreLater nodes x ids = (i : ℕ) (t : NodeId) → slice_get ids i ≡ Some t → diagram.IsHeld nodes t
     × diagram.IsAfter markers nodes x t
 
--- the id t is the id a where the Python version is taken to lie in a range, and asks about none but
--- a's variables
+-- the id t is the id a, given that the Python version is in a range, and depends only on a's
+-- variables
 pub record IsAssumed (nodes : List Node) (lower upper : Bound Parts) (a t : NodeId) : Type 0 where
   pub held : diagram.IsHeld nodes t
   pub means : Assumes lower upper (diagram.truth markers nodes a) (diagram.truth markers nodes t)
   pub after : (x : Variable) → diagram.IsAfter markers nodes x a → diagram.IsAfter markers nodes x t
 
--- the ids of one list are those of the other, one by one, where the Python version is taken to lie
--- in a range
+-- the ids of one list are those of the other, one by one, given that the Python version is in a
+-- range
 abbrev pub AreAssumed : List Node → Bound Parts → Bound Parts → List NodeId → List NodeId → Type 0
 AreAssumed nodes lower upper ids made = (i : ℕ) (a t : NodeId) → slice_get ids i ≡ Some a
     → slice_get made i ≡ Some t → IsAssumed nodes lower upper a t
 
--- what is found for an id is it where the Python version is taken to lie in a range
+-- the result for an id is that id, given that the Python version is in a range
 abbrev pub AreFound : List Node → Bound Parts → Bound Parts → List (NodeId × NodeId) → Type 0
 AreFound nodes lower upper found = (a t : NodeId) → lookup (same_id a) found ≡ Some t
     → diagram.IsHeld nodes a × IsAssumed nodes lower upper a t
 
--- what is answered where it is asked whether something is set true: for an extra the answer to its
--- name, and else never
+-- whether a variable is set to true: for an extra the answer for its name, and otherwise never
 abbrev pub Grants : (List ℕ → Bool → Type 0) → TruthVariable → Bool → Type 0
 Grants Answers (Extra name) granted = Answers name granted
 Grants Answers (In x text) granted = granted ≡ false
 Grants Answers (Contains x text) granted = granted ≡ false
 Grants Answers (Arbitrary text) granted = granted ≡ false
 
--- where extras are set true, the node has the child that it had
+-- with the extras set to true, the node has the child that it had
 abbrev pub IsUntouched : (List ℕ → Bool → Type 0) → Node → Type 0
 IsUntouched Answers n = (granted : List ℕ → Bool) → AnswersBy Answers granted → (v : Valuation)
     → pick n (with_extras granted v) ≡ pick n v
 
--- where extras are set true, the node has this child
+-- with the extras set to true, the node has this child
 pub record IsTouched (Answers : List ℕ → Bool → Type 0) (n : Node) (child : NodeId) : Type 0 where
   pub picks : (granted : List ℕ → Bool) → AnswersBy Answers granted → (v : Valuation)
       → pick n (with_extras granted v) ≡ child
   pub some : (v : Valuation) × (pick n v ≡ child)
 
--- The id t is the id a with extras set true, where the answers are those of a fixed set, and asks
--- about none but a's variables.
+-- The id t is the id a with extras set to true, if the answers are those of a fixed set, and
+-- depends only on a's variables.
 pub record IsGranted (nodes : List Node) (Answers : List ℕ → Bool → Type 0)
     (a t : NodeId) : Type 0 where
   pub held : diagram.IsHeld nodes t
@@ -71,17 +70,17 @@ abbrev pub AreGranted : List Node → (List ℕ → Bool → Type 0) → List No
 AreGranted nodes Answers ids made = (i : ℕ) (a t : NodeId) → slice_get ids i ≡ Some a
     → slice_get made i ≡ Some t → IsGranted nodes Answers a t
 
--- what is known of ids is so
+-- the known results are true
 abbrev pub AreKnown : List Node → (List ℕ → Bool → Type 0) → List (NodeId × NodeId) → Type 0
 AreKnown nodes Answers known = (a t : NodeId) → lookup (same_id a) known ≡ Some t
     → diagram.IsHeld nodes a × IsGranted nodes Answers a t
 
--- the node of the id asks about x, and these are its children
+-- the node of the id branches on x, and these are its children
 abbrev pub HasChildren : List Node → NodeId → Variable → (Valuation → NodeId) → Type 0
 HasChildren nodes id x child = (n : Node) × (diagram.node_of nodes id ≡ Some n) × (variable n ≡ x)
     × ((v : Valuation) → pick n v ≡ child v)
 
--- each id stands in the list, below another one
+-- the list of nodes has each id, below another one
 abbrev pub AreUnder : List Node → NodeId → List NodeId → Type 0
 AreUnder nodes parent ids = (i : ℕ) (t : NodeId) → slice_get ids i ≡ Some t → diagram.IsHeld nodes t
     × (place_of t < place_of parent)

@@ -1,4 +1,4 @@
-//! Ids with extras that are granted.
+//! Ids simplified for extras that are active.
 
 ghost use Rattle.std.specs.Prelude.{◌≡◌, ℕ, [], All, IfNone, IfOk, IfSome, List, OnOk, false, length};
 ghost use Rattle.std.specs.Fn.{FnReturnsAt};
@@ -14,12 +14,10 @@ use smallvec::SmallVec;
 use std::alloc::{AllocError, Global};
 use std::collections::HashMap;
 
-/// The id with the extras set true for which the closure answers so, where it answers by a fixed
-/// set. It asks about them no more.
+/// Returns the id with each extra set to true for which the closure returns `true`, if that is a
+/// fixed set of extras. It no longer depends on them.
 ///
-/// Only memory can run out. What the ids of the table mean stays, also then.
-///
-/// Ids that wait for those below them stand in a list, so that depth costs memory and no stack.
+/// Ids that wait for those below them are in a list, so that depth costs memory and no stack.
 pub fn grant_extras<F: Fn(&ExtraName) -> bool>(
     nodes: &mut NodeTable,
     is_extra: &F,
@@ -47,7 +45,7 @@ pub fn grant_extras<F: Fn(&ExtraName) -> bool>(
     }
 }
 
-// The id with extras set true, by what is known of ids without signs.
+// The id with extras set to true, from the results for ids that are not negations.
 fn look_up(known: &HashMap<NodeId, NodeId>, id: NodeId) -> Option<NodeId>
     ensures granted { IfSome result (IsFoundAs known.now.entries id) }
     ensures settled { IfSome result (λ t. ¬ IsUnknown known.now.entries (plain id)) }
@@ -62,7 +60,7 @@ fn look_up(known: &HashMap<NodeId, NodeId>, id: NodeId) -> Option<NodeId>
     }
 }
 
-// The last id of a list that is not known. It leaves the list, and so do those above it.
+// The last id of a list that has no result yet. Removes it and those above it.
 fn next_unknown(known: &HashMap<NodeId, NodeId>, pending: &mut Vec<NodeId>) -> Option<NodeId>
     ensures unknown { IfSome result (λ t. IsUnknown known.now.entries (plain t)) }
     ensures plain { (n : ℕ) → All (IsPlain n) pending.old.items → All (IsPlain n) pending.new.items
@@ -76,8 +74,8 @@ fn next_unknown(known: &HashMap<NodeId, NodeId>, pending: &mut Vec<NodeId>) -> O
     None
 }
 
-// An id that waits for none, this one or one below it, and what it is with extras set true. The ids
-// on the way to it, and those that they wait for, are added to the list.
+// An id that needs no other one, the given one or one below it, and its result. The ids on the way
+// to it and those that they need are appended to the list.
 fn descend<F: Fn(&ExtraName) -> bool>(
     nodes: &mut NodeTable,
     known: &HashMap<NodeId, NodeId>,
@@ -112,15 +110,15 @@ fn descend<F: Fn(&ExtraName) -> bool>(
     }
 }
 
-// What comes next for an id that is not known.
+// The next step for an id without a result.
 enum Step {
-    // With extras set true it is this id.
+    // Its result is this id.
     Made(NodeId),
-    // It waits for these ids, which have no signs: the last one, and the others.
+    // It needs the results of these ids, which are not negations: the last one, and the others.
     Waits(NodeId, Children),
 }
 
-// What comes next for an id without a sign.
+// The next step for an id that is not a negation.
 fn advance<F: Fn(&ExtraName) -> bool>(
     nodes: &mut NodeTable,
     known: &HashMap<NodeId, NodeId>,
@@ -158,7 +156,7 @@ fn advance<F: Fn(&ExtraName) -> bool>(
     Ok(Step::Made(made))
 }
 
-// The ids of a list that are not known, without their signs.
+// The ids of a list without a result, without their signs.
 fn unknown_ids(
     alloc: Global,
     known: &HashMap<NodeId, NodeId>,
@@ -178,7 +176,7 @@ fn unknown_ids(
     Ok(wanted)
 }
 
-// The ids of a list with extras set true. They are known.
+// The results of the ids of a list, which all have one.
 fn look_up_all(
     alloc: Global,
     known: &HashMap<NodeId, NodeId>,
@@ -192,14 +190,14 @@ fn look_up_all(
     for i in 0..ids.len() {
         match look_up(known, ids[i]) {
             Some(child) => children.push(child)?,
-            // Each of the ids is settled.
+            // Each of the ids has a result.
             None => unreachable!(),
         }
     }
     Ok(children)
 }
 
-// Whether it is an extra that is set true.
+// Whether the variable is an extra that is set to true.
 fn is_granted<F: Fn(&ExtraName) -> bool>(is_extra: &F, variable: &TruthVariable) -> bool
     requires { F.IsAlwaysCallable is_extra.now }
     ensures { Grants (FnReturnsAt F.Fn is_extra.now) variable.now result }
@@ -211,7 +209,7 @@ fn is_granted<F: Fn(&ExtraName) -> bool>(is_extra: &F, variable: &TruthVariable)
     }
 }
 
-// The child of the node where it asks for an extra that is set true.
+// The child of a node on an extra that is set to true.
 fn granted_child<F: Fn(&ExtraName) -> bool>(is_extra: &F, node: &Node) -> Option<NodeId>
     requires { F.IsAlwaysCallable is_extra.now }
     ensures touched { IfSome result (IsTouched (FnReturnsAt F.Fn is_extra.now) node.now) }

@@ -1,4 +1,7 @@
-//! Ids with part of what they ask about taken for granted: a range of Python versions, or extras.
+//! Simplifying ids, given a range of Python versions or active extras.
+//!
+//! Calls that allocate return `AllocError` when memory runs out. Even then every id of the table
+//! keeps its meaning.
 #![tactic(auto)]
 
 mod extras;

@@ -1,4 +1,4 @@
-//! Ids under a range of Python versions, which is taken for granted or asked for.
+//! Ids and ranges of Python versions: simplifying for a range, and requiring one.
 
 ghost use Rattle.std.specs.Prelude.{◌≡◌, false, length, IfNone, IfOk, IfSome, Some};
 ghost use Rattle.std.specs.Ordering.{is_eq};
@@ -28,7 +28,7 @@ use std::collections::HashMap;
 use std::ops::Bound;
 use version_ranges::{Cuts, Ranges};
 
-/// Whether a range leaves nothing out.
+/// Returns whether a range has no bounds.
 pub fn is_unbounded(lower: Bound<&Version>, upper: Bound<&Version>) -> bool
     ensures { result ≡ is_whole (bound_of lower.entry) (bound_of upper.entry) }
 {
@@ -52,8 +52,8 @@ fn trimmed_bound(bound: Bound<&Version>) -> Result<Bound<Version>, AllocError>
     }
 }
 
-// The children of an id on the values of a version variable, before the id's sign, where its node
-// asks about that.
+// The children of an id on the values of a version variable, up to the id's sign, if its node
+// branches on that.
 fn edges_at(
     nodes: &NodeTable,
     variable: VersionVariable,
@@ -78,9 +78,7 @@ fn edges_at(
     }
 }
 
-/// The id that is true where the Python version lies between two bounds.
-///
-/// Only memory can run out. What the ids of the table mean stays, also then.
+/// Returns the id that is true where the Python version is between two bounds.
 pub fn python_range(
     nodes: &mut NodeTable,
     lower: Bound<&Version>,
@@ -97,9 +95,7 @@ pub fn python_range(
     asks_version(nodes, VersionVariable::PythonFullVersion, range)
 }
 
-/// The id where the Python version is taken to lie in a range that has a point.
-///
-/// Only memory can run out. What the ids of the table mean stays, also then.
+/// Returns the id simplified, given that the Python version is in a range that is not empty.
 pub fn assume_python_range(
     nodes: &mut NodeTable,
     id: NodeId,
@@ -126,7 +122,7 @@ pub fn assume_python_range(
     Ok(placed.negate(id))
 }
 
-// The same of an id that asks about no variable before the Python version.
+// As `assume_python_range`, of an id that depends on no variable before the Python version.
 fn assume_at_python(
     nodes: &mut NodeTable,
     id: NodeId,
@@ -152,7 +148,7 @@ fn assume_at_python(
     Ok(placed.negate(id))
 }
 
-// The same of each child of an id on the implementation's versions, each once.
+// As `assume_at_python`, of each child of an id on the implementation's versions, each once.
 fn assume_all(
     nodes: &mut NodeTable,
     children: &[NodeId],
@@ -178,7 +174,7 @@ fn assume_all(
     Ok(made)
 }
 
-// The same of one id, which is known then.
+// As `assume_at_python`, of one id, whose result is remembered.
 fn assume_once(
     nodes: &mut NodeTable,
     known: &mut HashMap<NodeId, NodeId>,

@@ -51,12 +51,12 @@ tells_yes nodes a b h = record { disjoint = λ e. h; shared = λ e. absurd (true
 pub tells_no : (nodes : List Node) (a b : NodeId) → AreShared nodes a b → TellsDisjoint nodes a b false
 tells_no nodes a b h = record { disjoint = λ e. absurd (false≢true e); shared = λ e. h }
 
--- what holds where there is nothing
+-- what is true if there is nothing
 pub on_none : {A : Type 0} → (found : Option A) (P : Type 0) → IfNone found P → is_some found ≡ false → P
 on_none None P h e = h
 on_none (Some a) P h e = absurd (true≢false e)
 
--- where two ids are apart, so is the last pair of their children
+-- if two ids are disjoint, so is the last pair of their children
 pub last_apart : (nodes : List Node) (a b left right : NodeId) → AreDisjoint nodes a b → IsLastOf nodes a b left right → AreDisjoint nodes left right
 last_apart nodes a b left right apart last v = by_values (truth markers nodes left v) (truth markers nodes right v) refl refl
   where
@@ -67,7 +67,7 @@ last_apart nodes a b left right apart last v = by_values (truth markers nodes le
     by_values true false e f = ap (λ z. z && truth markers nodes right v) e ∙ f
     by_values false y e f = ap (λ z. z && truth markers nodes right v) e
 
--- at first each pair that is remembered is of FALSE alone
+-- at first each remembered pair is of FALSE only
 pub nothing_apart : (nodes : List Node) (n : ℕ) → AreApart nodes (replicate n (FALSE, FALSE))
 nothing_apart nodes n = All-replicate (λ p. AreDisjoint nodes p.0 p.1) n (FALSE, FALSE) (λ v. ap (λ z. z && z) (false_is nodes v))
 
@@ -81,7 +81,7 @@ module _ (nodes : List Node) (a b : NodeId) where
     abbrev pub IsFound : NodeId × NodeId → Type 0
     IsFound q = (v : Valuation) × HasBranches nodes x a b v q
 
-    -- the pairs that are left of a walk: where each is apart, the ids are
+    -- the pairs that are left of a walk: if each is disjoint, the ids are
     pub record Walks (left : List (NodeId × NodeId)) : Type 0 where
       pub found : EachPair IsFound left
       pub rest : EachPair IsApart left → AreDisjoint nodes a b
@@ -97,8 +97,8 @@ module _ (nodes : List Node) (a b : NodeId) where
     walk_end now e w = tells_yes nodes a b (w.rest (subst (EachPair IsApart) (sym e) tt))
 
   -- The pairs that are left of a walk at the first of the variables, and a last one that is still
-  -- to be looked at: where all of them are apart, the ids are, and where the last is not, the ids
-  -- are not.
+  -- to be visited: if all of them are disjoint, the ids are, and if the last is not, the ids are
+  -- not.
   pub record WalksBut (last : NodeId × NodeId) (left : List (NodeId × NodeId)) : Type 0 where
     pub variable : Variable
     pub first : IsFirst nodes variable a b
@@ -122,7 +122,7 @@ branch_own nodes x t s u = by_node (node_of nodes t)
         by_test false e = refl
 
 module _ (nodes : List Node) (store : IsStore markers nodes) (a b : NodeId) (i : IsHeld nodes a) (j : IsHeld nodes b) where
-  -- ---- where the conjunction needs no node
+  -- ---- the conjunction needs no node
   pub tells_short : (t : NodeId) → IsAnd nodes a b t → (z : Bool) → z ≡ same_id t FALSE → TellsDisjoint nodes a b z
   tells_short t h z e = subst (TellsDisjoint nodes a b) (sym e) (by_test (same_id t FALSE) refl)
     where
@@ -148,7 +148,7 @@ module _ (nodes : List Node) (store : IsStore markers nodes) (a b : NodeId) (i :
               ∙ unseen markers lawful nodes store (branch nodes x b s) x s h.0 (branch_after nodes store x b first.from_b s) ∙ h.2,
         )
 
-    -- the next pair stands below
+    -- the next pair is below
     pub next_smaller : (q : NodeId × NodeId) → IsFound nodes a b x q → (l r : NodeId) → l ≡ signed_id (is_negated a) q.0 → r ≡ signed_id (is_negated b) q.1 → (place_of l + place_of r < place_of a + place_of b) × (IsHeld nodes l × IsHeld nodes r)
     next_smaller q f l r e g =
         let h = pair_below nodes store a b i j x first f.0 q f.1 in
@@ -210,11 +210,11 @@ module _ (nodes : List Node) (store : IsStore markers nodes) (a b : NodeId) (i :
     pub on_right : IsHeld nodes r
     on_right = on_smaller.1.1
 
-    -- where it is not apart, the ids are not
+    -- if it is not disjoint, the ids are not
     pub on_shared : (z : Bool) → TellsDisjoint nodes l r z → z ≡ false → AreShared nodes a b
     on_shared z t k = next_shared w.variable w.first q found_now.0 l r l_is r_is (t.shared k)
 
-    -- it is apart
+    -- it is disjoint
     pub on_told : (z : Bool) → TellsDisjoint nodes l r z → z ≡ true → WalksBut nodes a b last later
     on_told z t k = record {
       variable = w.variable;
@@ -227,7 +227,7 @@ module _ (nodes : List Node) (store : IsStore markers nodes) (a b : NodeId) (i :
       right_held = w.right_held;
     }
 
-    -- the last one is apart, and this one is the last now
+    -- the last one is disjoint, and this one is the last now
     pub on_next : (z : Bool) → TellsDisjoint nodes last.0 last.1 z → z ≡ true → WalksBut nodes a b (l, r) later
     on_next z t k = record {
       variable = w.variable;
@@ -240,11 +240,11 @@ module _ (nodes : List Node) (store : IsStore markers nodes) (a b : NodeId) (i :
       right_held = on_smaller.1.1;
     }
 
-  -- each pair was apart
+  -- each pair was disjoint
   pub on_all : (now : List (NodeId × NodeId)) → now ≡ [] → WalksBut nodes a b (FALSE, FALSE) now → TellsDisjoint nodes a b true
   on_all now e w = walk_end nodes a b w.variable now e (w.walk (λ v. ap (λ z. z && z) (false_is nodes v)))
 
-  -- the ids are apart exactly where the last pair is
+  -- the ids are disjoint exactly if the last pair is
   pub on_end : (last : NodeId × NodeId) (now : List (NodeId × NodeId)) → now ≡ [] → WalksBut nodes a b last now → (z : Bool) → TellsDisjoint nodes last.0 last.1 z → TellsDisjoint nodes a b z
   on_end last now e w true t = walk_end nodes a b w.variable now e (w.walk (t.disjoint refl))
   on_end last now e w false t = tells_no nodes a b (w.shared (t.shared refl))

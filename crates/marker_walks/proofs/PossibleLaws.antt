@@ -93,7 +93,7 @@ enters x versions part = may_lie_in x versions part.lower part.upper
 abbrev pub always : {T : Type 0} → Part T NodeId → Bool
 always part = true
 
--- the Python version may lie where one of the listed ones does
+-- the Python version may be where one of the listed ones is
 pub listed_enter : (x : VersionVariable) (versions : Option (Bor (List Parts))) (list : Bor (List Parts)) (lower upper : Bound Parts) (z : Bool) → x ≡ PythonFullVersion → versions ≡ Some list →
     z ≡ list_any (λ version. is_in_bounds version_cmp lower upper (at version)) list.now → z ≡ may_lie_in x (listed_versions versions) lower upper
 listed_enter x versions list lower upper z e f h =
@@ -101,7 +101,7 @@ listed_enter x versions list lower upper z e f h =
 
 -- ---- valuations that are looked at
 
--- where the Python version stands as in another valuation
+-- the Python version is the same in another valuation
 among_same : (versions : Option (List Parts)) (v w : Valuation) → python_of w ≡ python_of v → IsAmong versions v → IsAmong versions w
 among_same None v w e h = tt
 among_same (Some list) v w e h = (h.0, h.1, e ∙ h.2)
@@ -110,7 +110,7 @@ among_same (Some list) v w e h = (h.0, h.1, e ∙ h.2)
 abbrev plain_at : List (List ℕ) → Point Parts → Valuation
 plain_at extras p = record { version = λ x. p; text = λ x. bottom; inside = λ x s. true; contains = λ x s. true; extra = is_listed extras; arbitrary = λ s. false }
 
--- there is a valuation to look at
+-- there is a valuation to visit
 pub some_sought : (extras : List (List ℕ)) (versions : Option (Bor (List Parts))) → HasSome versions → (v : Valuation) × HasExtras extras v × IsAmong (listed_versions versions) v
 some_sought extras None h = (plain_at extras bottom, record { valid = λ name. refl; arbitrary = λ text. refl }, tt)
 some_sought extras (Some versions) h = by_list versions.now h
@@ -131,7 +131,7 @@ with_implementation p v = record v { version = versions_with_implementation p v 
 abbrev with_text : Point (List ℕ) → Valuation → Valuation
 with_text p v = record v { text = λ x. p }
 
--- the valuation with one answer to all questions about parts of texts, and all else as it is
+-- the valuation with one value for all substring tests, and all else as it is
 abbrev with_answer : Bool → Valuation → Valuation
 with_answer b v = record v { inside = λ x s. b; contains = λ x s. b }
 
@@ -206,7 +206,7 @@ module _ (extras : List (List ℕ)) (versions : Option (List Parts)) where
       by_test true e = among_same versions v (mix t v w) (ap (λ z. cond z (python_of v) (python_of w)) e) h
       by_test false e = among_same versions w (mix t v w) (ap (λ z. cond z (python_of v) (python_of w)) e) k
 
-  -- where two valuations are looked at, each mixture of them is
+  -- if two valuations are in the search, each mixture of them is
   mixed_sought : (t : Variable → Bool) (v w : Valuation) → IsSought v → IsSought w → IsSought (mix t v w)
   mixed_sought t v w h k = (
     record {
@@ -232,7 +232,7 @@ module _ (extras : List (List ℕ)) (versions : Option (List Parts)) where
     IsOut t = (v : Valuation) → HasExtras extras v → IsAmong versions v → truth markers nodes t v ≡ false
 
     module _ (t : NodeId) where
-      -- a child, before the sign of the id, stands below the id, and where it is satisfied, the id is
+      -- a child, up to the sign of the id, is below the id, and if it is satisfied, the id is
       pub record Leads (c : NodeId) : Type 0 where
         pub below : place_of c < place_of t
         pub satisfied : IsSatisfied (signed_id (is_negated t) c) → IsSatisfied t
@@ -242,7 +242,8 @@ module _ (extras : List (List ℕ)) (versions : Option (List Parts)) where
       IsClosed c = IsOut (signed_id (is_negated t) c)
 
       module _ {T : Type 0} (may : Part T NodeId → Bool) where
-        -- the pieces that are left of a walk: each that may be entered leads on, and where all of them are out, the id is
+        -- the pieces that are left of a walk: each possible one leads on, and if all of them are
+        -- impossible, the id is
         pub record Walks (left : List (Part T NodeId)) : Type 0 where
           pub leads : EachValue may Leads left
           pub rest : EachValue may IsClosed left → IsOut t
@@ -258,14 +259,14 @@ module _ (extras : List (List ℕ)) (versions : Option (List Parts)) where
         walk_end now e w = tells_no (truth markers nodes t) (w.rest (subst (EachValue may IsClosed) (sym e) tt))
 
       module _ (c u : NodeId) (u_is : u ≡ signed_id (is_negated t) c) where
-        -- the child stands below
+        -- the child is below
         pub child_below : IsHeld nodes t → Leads c → (place_of u < place_of t) × IsHeld nodes u
         child_below i h =
             let b : place_of c < place_of t = h.below in
             let k : place_of u ≡ place_of c = ap place_of u_is in
             (omega arith, omega arith)
 
-        -- where the child is possible, the id is
+        -- if the child is possible, the id is
         pub child_found : Leads c → (z : Bool) → AnswersPossible extras versions (truth markers nodes u) z → z ≡ true → AnswersPossible extras versions (truth markers nodes t) true
         child_found h z k e =
             let w = k.possible e in
@@ -287,7 +288,7 @@ module _ (extras : List (List ℕ)) (versions : Option (List Parts)) where
             (with_variable markers (variable n) s w.0, m.0, m.1, child_seen markers lawful nodes store t n (variable n) s w.0 stands (tied_itself variable_total (variable n)) ∙ w.3);
       }
 
-      -- where all of these are out, the id is
+      -- if all of these are impossible, the id is
       out_from : ((v : Valuation) → IsSought v → IsClosed t (pick n v)) → IsOut t
       out_from h v i j = truth_child markers nodes t n v (λ k m e. (store.node k m e).below) stands ∙ h v (i, j) v i j
 
@@ -332,7 +333,7 @@ module _ (extras : List (List ℕ)) (versions : Option (List Parts)) where
         pub text_walks : node_of nodes t ≡ Some n → Walks t always parts
         text_walks stands = walks_from store t n stands always parts text_found text_covered
 
-      -- ---- where it is so, and where it is not
+      -- ---- for true and for false
       module _ (x : TruthVariable) (high low : NodeId) (stands : node_of nodes t ≡ Some (Truth x high low)) where
         answering_sought : (b : Bool) → IsSought (with_answer b start)
         answering_sought b = (record { valid = ready.valid; arbitrary = ready.arbitrary }, among_same versions start (with_answer b start) refl among)
@@ -343,7 +344,7 @@ module _ (extras : List (List ℕ)) (versions : Option (List Parts)) where
         pub low_leads : may_not_be_so extras x ≡ true → Leads t low
         low_leads m = subst (Leads t) (ap (λ b. cond b high low) (otherwise_answered extras start ready x m)) (leads_from store t (Truth x high low) stands (with_answer false start) (answering_sought false))
 
-        -- where each child that may be entered is out, the id is
+        -- if each child for a possible value is impossible, the id is
         pub halves_out : (may_be_so extras x ≡ true → IsClosed t high) → (may_not_be_so extras x ≡ true → IsClosed t low) → AnswersPossible extras versions (truth markers nodes t) false
         halves_out h k = tells_no (truth markers nodes t) (out_from store t (Truth x high low) stands (λ v w. by_test v w (answer x v) refl))
           where
@@ -351,7 +352,7 @@ module _ (extras : List (List ℕ)) (versions : Option (List Parts)) where
             by_test v w true e = h (so_entered extras v w.0 x e)
             by_test v w false e = k (otherwise_entered extras v w.0 x e)
 
-        -- where the child for it is out, the id is possible where the other one is
+        -- if the child for true is impossible, the id is possible if the other one is
         pub low_tells : (may_be_so extras x ≡ true → IsClosed t high) → may_not_be_so extras x ≡ true → (u : NodeId) → u ≡ signed_id (is_negated t) low → (z : Bool) → AnswersPossible extras versions (truth markers nodes u) z → AnswersPossible extras versions (truth markers nodes t) z
         low_tells h m u u_is true k = child_found t low u u_is (low_leads m) true k refl
         low_tells h m u u_is false k = halves_out h (λ e. child_closed t low u u_is false k refl)
@@ -366,21 +367,36 @@ module _ (extras : List (List ℕ)) (versions : Option (List Parts)) where
       end_tells e true z_is = tells_yes (truth markers nodes t) start ready among (end_means nodes t start e ∙ sym z_is)
       end_tells e false z_is = tells_no (truth markers nodes t) (λ v i j. end_means nodes t v e ∙ sym z_is)
 
--- at first the id that is remembered is FALSE alone
+-- at first the only remembered id is FALSE
 pub nothing_out : (extras : List (List ℕ)) (versions : Option (Bor (List Parts))) (nodes : List Node) (n : ℕ) → AreOut extras versions nodes (replicate n FALSE)
 nothing_out extras versions nodes n = All-replicate (searches.IsOut extras versions nodes) n FALSE (λ v i j. false_is nodes v)
 
--- the constants
+-- what is satisfied by nothing that is looked for answers no
+pub out_tells : (extras : List (List ℕ)) (versions : Option (Bor (List Parts))) (nodes : List Node) (t : NodeId) → searches.IsOut extras versions nodes t → AnswersPossible extras (listed_versions versions) (truth markers nodes t) false
+out_tells extras versions nodes t out = tells_no extras (listed_versions versions) (truth markers nodes t) out
+
+pub false_out : (extras : List (List ℕ)) (versions : Option (Bor (List Parts))) (nodes : List Node) (t : NodeId) → t ≡ FALSE → searches.IsOut extras versions nodes t
+false_out extras versions nodes t e v i j = ap (λ u. truth markers nodes u v) e ∙ false_is nodes v
+
+-- and an id that answers as it does is out with it
+pub child_out : (extras : List (List ℕ)) (versions : Option (Bor (List Parts))) (nodes : List Node) (t u : NodeId) → ((answer : Bool) → searches.Answers extras versions nodes u answer → searches.Answers extras versions nodes t answer) →
+    searches.IsOut extras versions nodes t → searches.IsOut extras versions nodes u
+child_out extras versions nodes t u tells out v h k = by_value (truth markers nodes u v) refl
+  where
+    by_value : (z : Bool) → truth markers nodes u v ≡ z → truth markers nodes u v ≡ false
+    by_value false e = e
+    by_value true e =
+        let s = (tells true (tells_yes extras (listed_versions versions) (truth markers nodes u) v h k e)).possible refl in
+        absurd (true≢false (sym s.3 ∙ out s.0 s.1 s.2))
+
+-- a constant
 module _ (extras : List (List ℕ)) (versions : Option (Bor (List Parts))) (ready : HasSome versions) (nodes : List Node) where
   pub true_tells : (t : NodeId) → t ≡ TRUE → AnswersPossible extras (listed_versions versions) (truth markers nodes t) true
   true_tells t e =
       let s = some_sought extras versions ready in
       tells_yes extras (listed_versions versions) (truth markers nodes t) s.0 s.1 s.2 (ap (λ u. truth markers nodes u s.0) e ∙ true_is nodes s.0)
 
-  pub false_tells : (t : NodeId) → t ≡ FALSE → AnswersPossible extras (listed_versions versions) (truth markers nodes t) false
-  false_tells t e = tells_no extras (listed_versions versions) (truth markers nodes t) (λ v i j. ap (λ u. truth markers nodes u v) e ∙ false_is nodes v)
-
--- the children of a node that asks whether something is so
+-- the children of a node that branches on a substring test or an extra
 module _ (extras : List (List ℕ)) (versions : Option (Bor (List Parts))) (ready : HasSome versions) (nodes : List Node) (store : IsStore markers nodes) (t : NodeId) (held : IsHeld nodes t)
     (x : TruthVariable) (high low : NodeId) (stands : node_of nodes t ≡ Some (Truth x high low)) where
   abbrev Answers : NodeId → Bool → Type 0
@@ -402,11 +418,11 @@ module _ (extras : List (List ℕ)) (versions : Option (Bor (List Parts))) (read
     pub high_found : may_be_so extras x ≡ true → (z : Bool) → Answers u z → z ≡ true → Answers t true
     high_found m = child_found extras (listed_versions versions) nodes t high u u_is (to_high m)
 
-    -- where the other child is out of reach
+    -- the other value is impossible
     pub high_alone : may_be_so extras x ≡ true → may_not_be_so extras x ≡ false → (z : Bool) → Answers u z → Answers t z
     high_alone m k = let s = some_sought extras versions ready in high_tells extras (listed_versions versions) nodes store t s.0 s.1 s.2 x high low stands (λ e. absurd (true≢false (sym e ∙ k))) m u u_is
 
-    -- where the other child is out
+    -- the other child is impossible
     pub high_after : may_be_so extras x ≡ true → (w : NodeId) → w ≡ signed_id (is_negated t) low → (y : Bool) → Answers w y → y ≡ false → (z : Bool) → Answers u z → Answers t z
     high_after m w w_is y k e = let s = some_sought extras versions ready in
         high_tells extras (listed_versions versions) nodes store t s.0 s.1 s.2 x high low stands (λ l. child_closed extras (listed_versions versions) nodes t low w w_is y k e) m u u_is

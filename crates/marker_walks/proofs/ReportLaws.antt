@@ -27,11 +27,11 @@ adds_more (Some told) b c ks ls h k =
     let there : Adds (Some (told ++ ks)) c ls = subst (λ (x : Kinds). Adds x c ls) h k in
     there ∙ ap Some (append_assoc told ks ls)
 
--- nothing was told
+-- nothing was reported
 pub told_nothing : (kinds : Kinds) → AddsComparisons kinds kinds
 told_nothing kinds = ([], adds_nothing kinds, All-nil IsComparison)
 
--- more was told
+-- more was reported
 pub told_more : (a b c : Kinds) → AddsComparisons a b → AddsComparisons b c → AddsComparisons a c
 told_more a b c h k = (h.0 ++ k.0, adds_more a b c h.0 k.0 h.1 k.1, All-append IsComparison h.0 k.0 h.2 k.2)
 
@@ -56,7 +56,7 @@ kinds_apart P [] h k d l = absurd (omega arith)
 kinds_apart P (warning ∷ warnings) h zero d l = h 0 d.0 (omega arith)
 kinds_apart P (warning ∷ warnings) h (suc k) d l = kinds_apart P warnings (λ i e m. h (suc i) e (omega arith)) k d (omega arith)
 
--- what a list without warnings was told
+-- what was reported to a list without warnings
 module _ (old new : List (MarkerWarningKind × String Global)) (e : old ≡ []) (h : AddsComparisons (Some (map (λ warning. warning.0) old)) (Some (map (λ warning. warning.0) new))) where
   kinds_are : map (λ warning. warning.0) new ≡ h.0
   kinds_are = same_some _ _ h.1 ∙ ap (λ (l : List (MarkerWarningKind × String Global)). map (λ warning. warning.0) l ++ h.0) e

@@ -1,5 +1,5 @@
 -- Truths that some valuation with given extras satisfies.
-use Rattle.std.specs.Prelude.{◌≡◌, ◌<◌, ⊤, ℕ, length, All, Bool, true, false, not, bytes_eq, List, Contains, Option, Some, None}
+use Rattle.std.specs.Prelude.{◌≡◌, ◌<◌, ⊤, ℕ, length, Bool, true, false, not, bytes_eq, List, Contains, Option, Some, None}
 use Rattle.std.specs.Borrow.{Bor}
 use Rattle.std.specs.List.{list_any}
 use Rattle.std.specs.Option.{option_map}
@@ -10,9 +10,6 @@ use Rattle.pep440_version.specs.Order.{version_cmp}
 use Rattle.marker_words.specs.declared.key.VersionVariable.{VersionVariable}
 use Rattle.marker_words.specs.declared.key.VersionVariable.TheVariants.{ImplementationVersion, PythonFullVersion}
 use Rattle.marker_environment.specs.Valuation.{Valuation}
-use Rattle.marker_diagrams.specs.declared.node_id.NodeId.{NodeId}
-use Rattle.marker_diagrams.specs.Diagram.{truth}
-use Rattle.marker_nodes.specs.Node.{Node, markers}
 use Rattle.marker_nodes.specs.Python.{python_of}
 use Rattle.marker_nodes.specs.declared.variable.TruthVariable.{TruthVariable}
 use Rattle.marker_nodes.specs.declared.variable.TruthVariable.TheVariants as truths
@@ -53,17 +50,17 @@ IsImpossibleAt extras versions f = (v : Valuation) → HasExtras extras v → Ha
 abbrev pub listed_versions : Option (Bor (List Parts)) → Option (List Parts)
 listed_versions versions = option_map (λ list. list.now) versions
 
--- where versions are listed, there is one
+-- if versions are listed, there is one
 abbrev pub HasSome : Option (Bor (List Parts)) → Type 0
 HasSome None = ⊤
 HasSome (Some versions) = 0 < length versions.now
 
--- the Python version is at one of these, where some are listed
+-- the Python version is one of these, if some are listed
 abbrev pub IsAmong : Option (List Parts) → Valuation → Type 0
 IsAmong None v = ⊤
 IsAmong (Some versions) v = HasVersion versions v
 
--- the answer tells whether some valuation with exactly these extras, at one of these versions,
+-- the answer is whether some valuation with exactly these extras, at one of these versions,
 -- satisfies the truth
 pub record AnswersPossible (extras : List (List ℕ)) (versions : Option (List Parts))
     (f : Valuation → Bool) (answer : Bool) : Type 0 where
@@ -72,7 +69,7 @@ pub record AnswersPossible (extras : List (List ℕ)) (versions : Option (List P
   pub impossible : answer ≡ false → (v : Valuation) → HasExtras extras v → IsAmong versions v
       → f v ≡ false
 
--- whether a version variable may stand between two bounds: any may but the Python version, where
+-- whether a version variable may be between two bounds: always, except for the Python version if
 -- versions are listed
 abbrev pub may_lie_in : VersionVariable → Option (List Parts) → Bound Parts → Bound Parts → Bool
 may_lie_in ImplementationVersion versions lower upper = true
@@ -80,7 +77,7 @@ may_lie_in PythonFullVersion None lower upper = true
 may_lie_in PythonFullVersion (Some versions) lower upper =
     list_any (λ version. is_in_bounds version_cmp lower upper (at version)) versions
 
--- whether it may be so, where exactly these extras are true: a text may be part of another
+-- whether the variable may be true with exactly these extras: a substring test may
 abbrev pub may_be_so : List (List ℕ) → TruthVariable → Bool
 may_be_so extras (truths.In x text) = true
 may_be_so extras (truths.Contains x text) = true

@@ -1,4 +1,4 @@
--- What a reporter is told in an evaluation.
+-- What is reported in an evaluation.
 use Rattle.std.specs.Prelude.{◌≡◌, Bool, false, List, Option, All, String}
 use Rattle.std.specs.Global.{Global}
 use Rattle.std.specs.String.{string_eq}
@@ -8,7 +8,7 @@ use Rattle.pep508_errors.specs.declared.warning.MarkerWarningKind.{MarkerWarning
 use Rattle.pep508_errors.specs.declared.warning.MarkerWarningKind.TheVariants.{LexicographicComparison}
 use Rattle.pep508_errors.specs.Kinds.{Adds}
 
--- whether one value alone lies between two bounds
+-- whether only one value is between two bounds
 abbrev pub is_single : Bound (String Global) → Bound (String Global) → Bool
 is_single (Included first) (Included last) = string_eq first last
 is_single (Included first) (Excluded end) = false
@@ -16,7 +16,7 @@ is_single (Included first) Unbounded = false
 is_single (Excluded before) upper = false
 is_single Unbounded upper = false
 
--- comparisons by order were told, and nothing else
+-- only comparisons by order were reported
 abbrev pub AddsComparisons : Option (List MarkerWarningKind) → Option (List MarkerWarningKind)
     → Type 0
 AddsComparisons before after = (kinds : List MarkerWarningKind) × Adds before after kinds

@@ -11,18 +11,18 @@ use Rattle.marker_walks.specs.declared.possible.Rest.{Rest}
 use Rattle.marker_walks.specs.declared.possible.Rest.TheVariants.{Satisfied, Child}
 use Rattle.marker_walks.specs.Possible.{AnswersPossible, HasExtras, HasSome, IsAmong, listed_versions}
 
--- the nodes keep the rules of diagrams, and where versions are listed, there is one
+-- the nodes satisfy the rules of diagrams, and if versions are listed, there is one
 pub record IsSearch (nodes : List Node) (versions : Option (Bor (List Parts))) : Type 0 where
   pub rules : IsStore markers nodes
   pub some : HasSome versions
 
 module _ (extras : List (List ℕ)) (versions : Option (Bor (List Parts))) (nodes : List Node) where
-  -- the answer tells whether a valuation that is looked for satisfies the id
+  -- the answer is whether a valuation of the search satisfies the id
   abbrev pub Answers : NodeId → Bool → Type 0
   Answers t answer = AnswersPossible extras (listed_versions versions)
       (truth markers nodes t) answer
 
-  -- no valuation that is looked for satisfies the id
+  -- no valuation of the search satisfies the id
   abbrev pub IsOut : NodeId → Type 0
   IsOut t = (v : Valuation) → HasExtras extras v → IsAmong (listed_versions versions) v
       → truth markers nodes t v ≡ false
@@ -31,9 +31,13 @@ module _ (extras : List (List ℕ)) (versions : Option (Bor (List Parts))) (node
   abbrev pub AreOut : List NodeId → Type 0
   AreOut ids = All IsOut ids
 
-  -- what is left to look at of an id: nothing, where it is satisfied, or else an older id that
-  -- answers for it
+  -- what remains of an id: nothing if it is satisfied, otherwise an older id with the same answer
   abbrev pub Leaves : NodeId → Rest → Type 0
   Leaves t Satisfied = Answers t true
   Leaves t (Child u) = (place_of u < place_of t)
       × ((answer : Bool) → Answers u answer → Answers t answer)
+
+-- the id is out in each search in which these are
+abbrev pub IsOutWith : List NodeId → NodeId → Type 0
+IsOutWith ids t = (extras : List (List ℕ)) (versions : Option (Bor (List Parts)))
+    (nodes : List Node) → AreOut extras versions nodes ids → IsOut extras versions nodes t

@@ -27,7 +27,7 @@ pub(crate) fn child_in(node: &Node, environment: &MarkerEnvironment, extras: &[E
     }
 }
 
-// Whether it is so in the environment with these extras.
+// Whether the substring test or extra is true in the environment with these extras.
 fn is_so(variable: &TruthVariable, environment: &MarkerEnvironment, extras: &[ExtraName]) -> bool
     ensures { result ≡ answer variable.now (valuation_of (values_of environment.now) extras.now) }
 {
@@ -39,7 +39,7 @@ fn is_so(variable: &TruthVariable, environment: &MarkerEnvironment, extras: &[Ex
     }
 }
 
-/// Whether the extra is one of the list.
+/// Returns whether the extra is in the list.
 pub fn is_listed(name: &ExtraName, extras: &[ExtraName]) -> bool
     ensures { result ≡ list_any (λ listed. bytes_eq listed name.now) extras.now }
 {

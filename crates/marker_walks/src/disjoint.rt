@@ -1,8 +1,8 @@
-//! Whether two ids are true together.
+//! Whether nothing satisfies two ids.
 //!
-//! A walk looks at pairs of ids, each pair at the pairs of their children. What it found apart it
-//! remembers in an array on the stack, which forgets; so a walk that takes too many looks begins
-//! anew with a larger array.
+//! A walk visits pairs of ids, and at each pair the pairs of their children. Disjoint pairs are
+//! remembered in an array on the stack, which may overwrite them. So a walk that needs too many
+//! visits starts again with a larger array.
 
 ghost use Rattle.std.specs.Prelude.{◌≡◌, ◌+◌, ◌<◌, ◌≤◌, Bool, IfNone, IfSome, IsSome, List};
 ghost use Rattle.marker_diagrams.specs.Diagram as diagram;
@@ -14,24 +14,25 @@ ghost use Rattle.marker_walks.specs.Looks.{AreUnbounded};
 use crate::looks::{FIRST, Looks, SECOND, THIRD};
 use marker_nodes::{NodeId, NodeTable, short_cut};
 
-// A pair of ids that was found apart: no valuation satisfies both.
+// A disjoint pair of ids: no valuation satisfies both.
 type Pair = (NodeId, NodeId);
 
-// What a walk remembers, and how many looks it may take. A pair has two places, and shares them
-// with others.
+// What a walk remembers, and how many visits are left. A pair has two places, which other pairs may
+// overwrite.
 #[derive(Drop)]
 struct Memory<const N: usize> {
     apart: [Pair; N],
     looks: Looks,
 }
 
-// A way of so many last pairs is gone again where it leads to one; a longer one is remembered.
+// A path of at most this many last pairs is walked again when it is met; a longer one is
+// remembered.
 const SHORT_WAY: usize = 32;
 
-/// Whether no valuation satisfies both ids.
+/// Returns whether no valuation satisfies both ids.
 ///
-/// This takes no memory: pairs that were found apart are remembered on the stack, up to 65,536 of
-/// them. The calls are nested no deeper than the ids have variables.
+/// Disjoint pairs are remembered on the stack, up to 65,536 of them. Calls are nested at most as
+/// deep as the ids have variables.
 pub fn are_disjoint(nodes: &NodeTable, a: NodeId, b: NodeId) -> bool
     requires rules { diagram.IsStore markers nodes.now }
     requires a { diagram.IsHeld nodes.now a }
@@ -44,7 +45,8 @@ pub fn are_disjoint(nodes: &NodeTable, a: NodeId, b: NodeId) -> bool
     }
 }
 
-/// The same, or `None` where that takes more looks at pairs of nodes than given.
+/// Returns whether no valuation satisfies both ids, or `None` if that takes more than `looks`
+/// visits of pairs of nodes.
 pub fn are_disjoint_within(nodes: &NodeTable, a: NodeId, b: NodeId, looks: usize) -> Option<bool>
     requires rules { diagram.IsStore markers nodes.now }
     requires a { diagram.IsHeld nodes.now a }
@@ -54,7 +56,7 @@ pub fn are_disjoint_within(nodes: &NodeTable, a: NodeId, b: NodeId, looks: usize
     tell(nodes, Looks::new(Some(looks)), a, b)
 }
 
-// The same within some looks: most walks end within the first of them.
+// The answer within some visits: most walks end within the first of them.
 fn tell(nodes: &NodeTable, mut looks: Looks, a: NodeId, b: NodeId) -> Option<bool>
     requires rules { diagram.IsStore markers nodes.now }
     requires a { diagram.IsHeld nodes.now a }
@@ -74,7 +76,7 @@ fn tell(nodes: &NodeTable, mut looks: Looks, a: NodeId, b: NodeId) -> Option<boo
     walk::<65_536>(nodes, looks, a, b)
 }
 
-// The same by a walk with so many places. They are on the stack of this call, so that no other walk
+// The answer by a walk with `N` places. They are on the stack of this call, so that no other walk
 // pays for them.
 #[inline(never)]
 fn walk<const N: usize>(nodes: &NodeTable, looks: Looks, a: NodeId, b: NodeId) -> Option<bool>
@@ -93,15 +95,15 @@ fn walk<const N: usize>(nodes: &NodeTable, looks: Looks, a: NodeId, b: NodeId) -
     are_apart::<N>(nodes, &mut memory, a, b)
 }
 
-// What is left to look at of a pair, where all other pairs of its children are apart: nothing,
-// where one is true together, or else the last one.
+// What remains of a pair if all other pairs of its children are disjoint: nothing if one is not,
+// otherwise the last pair.
 #[derive(Drop)]
 pub(crate) enum Rest {
     Shared,
     Last(NodeId, NodeId),
 }
 
-// The same, by what is remembered and is to be.
+// The answer, using and extending what is remembered.
 #[cycle(apart)]
 fn are_apart<const N: usize>(
     nodes: &NodeTable,
@@ -141,7 +143,7 @@ fn are_apart<const N: usize>(
     }
 }
 
-// Remembers a pair that is apart, and those on the way from each to the last pair of its children.
+// Remembers a disjoint pair, and those on the path from each to the last pair of its children.
 #[cycle(apart)]
 fn remember_way<const N: usize>(nodes: &NodeTable, memory: &mut Memory<N>, a: NodeId, b: NodeId)
     requires rules { diagram.IsStore markers nodes.now }
@@ -169,7 +171,7 @@ fn remember_way<const N: usize>(nodes: &NodeTable, memory: &mut Memory<N>, a: No
     }
 }
 
-// Looks at all pairs of children but the last one about which something is to be found out.
+// Visits all pairs of children but the last undecided one.
 #[cycle(apart)]
 fn all_but_last<const N: usize>(
     nodes: &NodeTable,
@@ -211,7 +213,7 @@ fn all_but_last<const N: usize>(
 }
 
 impl<const N: usize> Memory<N> {
-    // Whether no valuation satisfies both ids, where that is remembered or needs no look at a node.
+    // Whether no valuation satisfies both ids, if that is remembered or needs no visit of a node.
     fn recall(&self, a: NodeId, b: NodeId) -> Option<bool>
         requires { 2 ≤ N }
         ensures answer { IfSome result (λ answer. (nodes : List Node)
@@ -234,7 +236,7 @@ impl<const N: usize> Memory<N> {
         None
     }
 
-    // Remembers a pair in the first of its places, and what was there in the second one.
+    // Remembers a pair in the first of its places, and moves what was there to the second.
     fn remember(&mut self, a: NodeId, b: NodeId)
         requires { 2 ≤ N }
         ensures looks { self.new.looks ≡ self.old.looks }
@@ -247,8 +249,8 @@ impl<const N: usize> Memory<N> {
     }
 }
 
-// The first of the two places of a pair among so many: by the high bits of a sum of products, since
-// many pairs of a walk have ids at one distance.
+// The first of the two of `places` for a pair: by the high bits of a sum of products, because many
+// pairs of a walk have ids at one distance.
 fn first_place(places: usize, a: NodeId, b: NodeId) -> usize
     requires { 2 ≤ places }
     ensures { result + 1 < places }
@@ -259,7 +261,7 @@ fn first_place(places: usize, a: NodeId, b: NodeId) -> usize
     mixed % (places / 2) * 2
 }
 
-// A number of an id, another one for each.
+// A number of an id, different for each.
 fn number(id: NodeId) -> usize {
     let index = id.index().unwrap_or(0);
     index

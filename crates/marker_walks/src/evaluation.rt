@@ -10,7 +10,7 @@ use marker_environment::MarkerEnvironment;
 use marker_nodes::{NodeId, NodeTable};
 use pep508_names::ExtraName;
 
-/// Whether the id is true in the environment with these extras. This takes no memory.
+/// Returns whether the id is true in the environment with these extras.
 pub fn evaluate(
     nodes: &NodeTable,
     id: NodeId,

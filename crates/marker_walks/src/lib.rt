@@ -1,5 +1,7 @@
-//! Walks over the nodes of a table that only read: evaluation, with reports and without, what is
-//! possible, and whether two ids are true together.
+//! Walks over the nodes of a table that only read: evaluation, with and without reports,
+//! satisfiability with given extras, and disjointness.
+//!
+//! Walks allocate nothing, except for the warnings that they report.
 #![tactic(auto)]
 
 mod child;

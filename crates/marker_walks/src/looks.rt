@@ -1,31 +1,31 @@
-//! How many looks a walk may take.
+//! Limits on the visits of a walk.
 
 ghost use Rattle.std.specs.Prelude.{◌≡◌, ◌+◌, ℕ, IsNone, IsSome, None, Some};
 ghost use Rattle.marker_walks.specs.Looks.{AreUnbounded};
 
-/// How many looks a walk takes that remembers hardly anything, since most end within them, and then
-/// one with 256 and one with 4,096 places: sixteen for each place.
+/// How many visits a walk has that remembers hardly anything, because most end within them. Then
+/// come one with 256 and one with 4,096 places: sixteen visits for each place.
 pub(crate) const FIRST: usize = 64;
 
 pub(crate) const SECOND: usize = 4_096;
 
 pub(crate) const THIRD: usize = 65_536;
 
-/// How many looks a walk may still take; `None` stands for as many as it needs.
+/// How many visits a walk has left; `None` for any number.
 #[derive(Drop)]
 pub(crate) struct Looks {
     left: Option<usize>,
 }
 
 impl Looks {
-    /// So many looks, or as many as are needed.
+    /// Returns a limit of `left` visits, or no limit.
     pub(crate) fn new(left: Option<usize>) -> Self
         ensures { left ≡ None → AreUnbounded result }
     {
         Looks { left }
     }
 
-    /// Takes a look, if one is left.
+    /// Uses up a visit, if one is left.
     pub(crate) fn take(&mut self) -> Option<()>
         ensures taken { AreUnbounded self.old → IsSome result }
         ensures unbounded { AreUnbounded self.old → AreUnbounded self.new }
@@ -38,7 +38,7 @@ impl Looks {
         Some(())
     }
 
-    /// Sets so many looks aside, or those that are left.
+    /// Splits off `most` visits, or those that are left if these are fewer.
     pub(crate) fn set_aside(&mut self, most: usize) -> Looks
         ensures unbounded { AreUnbounded self.old → AreUnbounded self.new }
         ensures shared { (n : ℕ) → self.old.left ≡ Some n → (aside left : ℕ)

@@ -1,8 +1,8 @@
 //! Whether some valuation with given extras satisfies an id.
 //!
-//! A walk looks at ids, each at its children. What it found to be satisfied by no valuation it
-//! remembers in an array on the stack, which forgets; so a walk that takes too many looks begins
-//! anew with a larger array.
+//! A walk visits ids, and at each id its children. Those that no valuation satisfies are remembered
+//! in an array on the stack, which may overwrite them. So a walk that needs too many visits starts
+//! again with a larger array.
 
 ghost use Rattle.std.specs.Prelude.{◌≡◌, ◌+◌, ◌<◌, ◌≤◌, IfSome, IsSome, List, Option, Some, length, true, ℕ};
 ghost use Rattle.std.specs.Borrow.{Bor};
@@ -13,7 +13,7 @@ ghost use Rattle.marker_nodes.specs.Node.{Node, markers};
 ghost use Rattle.marker_words.specs.declared.key.TextVariable.{TextVariable};
 ghost use Rattle.marker_nodes.specs.declared.node.Branches.TheVariants as kinds;
 ghost use Rattle.marker_walks.specs.Possible.{AnswersPossible, HasSome, listed_versions, may_be_so, may_lie_in, may_not_be_so};
-ghost use Rattle.marker_walks.specs.Search.{Answers, AreOut, IsOut, IsSearch, Leaves};
+ghost use Rattle.marker_walks.specs.Search.{Answers, AreOut, IsOut, IsOutWith, IsSearch, Leaves};
 ghost use Rattle.marker_walks.specs.Looks.{AreUnbounded};
 
 use crate::child::is_listed;
@@ -24,19 +24,23 @@ use pep440_version::Version;
 use pep508_names::ExtraName;
 use version_ranges::{Cuts, Piece};
 
-// What is left to look at of an id that asks first whether something is so: nothing, where a child
-// is satisfied, or else the other child.
+// A path of at most this many remaining children is walked again when it is met; a longer one is
+// remembered.
+const SHORT_WAY: usize = 32;
+
+// What remains of an id that branches on a substring test or an extra: nothing if a child is
+// satisfied, otherwise the other child.
 #[derive(Drop)]
 pub(crate) enum Rest {
     Satisfied,
     Child(NodeId),
 }
 
-/// Whether some valuation with exactly these extras, no arbitrary one, and the Python version at
-/// one of the versions, where they are given, satisfies the id.
+/// Returns whether some valuation satisfies the id with exactly these extras, without an arbitrary
+/// one, and if versions are given with one of these as the Python version.
 ///
-/// This takes no memory: ids that were found to be satisfied by none are remembered on the stack,
-/// up to 65,536 of them. The calls are nested no deeper than the id has variables.
+/// Ids that no valuation satisfies are remembered on the stack, up to 65,536 of them. Calls are
+/// nested at most as deep as the id has variables.
 pub fn is_possible(
     nodes: &NodeTable,
     extras: &[ExtraName],
@@ -55,7 +59,7 @@ pub fn is_possible(
     }
 }
 
-/// The same, or `None` where that takes more looks at nodes than given.
+/// Returns what [`is_possible`] does, or `None` if that takes more than `looks` visits of nodes.
 pub fn is_possible_within(
     nodes: &NodeTable,
     extras: &[ExtraName],
@@ -72,7 +76,7 @@ pub fn is_possible_within(
     first_walks(nodes, extras, versions, Looks::new(Some(looks)), id)
 }
 
-// The answer within some looks: most walks end within the first of them.
+// The answer within some visits: most walks end within the first of them.
 fn first_walks(
     nodes: &NodeTable,
     extras: &[ExtraName],
@@ -97,8 +101,8 @@ fn first_walks(
     walk::<65_536>(nodes, extras, versions, looks, id)
 }
 
-// The same by a walk with so many places. They are on the stack of this call, so that no other
-// walk pays for them.
+// The answer by a walk with `N` places. They are on the stack of this call, so that no other walk
+// pays for them.
 #[inline(never)]
 fn walk<const N: usize>(
     nodes: &NodeTable,
@@ -119,7 +123,7 @@ fn walk<const N: usize>(
     possible(nodes, extras, versions, &mut out, &mut looks, id)
 }
 
-// The same, by what is remembered and is to be.
+// The answer, using and extending what is remembered.
 #[cycle(possible)]
 fn possible(
     nodes: &NodeTable,
@@ -142,10 +146,7 @@ fn possible(
     if id.is_true() {
         return Some(true);
     }
-    if id.is_false() {
-        return Some(false);
-    }
-    if is_remembered(out, id) {
+    if is_known_out(out, id) {
         return Some(false);
     }
     let answer = possible_by_nodes(nodes, extras, versions, out, looks, id)?;
@@ -155,7 +156,7 @@ fn possible(
     Some(answer)
 }
 
-// The same of an id about which nothing is remembered.
+// The answer for an id that is not remembered.
 #[cycle(possible)]
 fn possible_by_nodes(
     nodes: &NodeTable,
@@ -176,6 +177,7 @@ fn possible_by_nodes(
     ensures out { AreOut extras.now versions.entry nodes.now out.new }
 {
     let mut at = id;
+    let mut passed = 0usize;
     loop {
         looks.take()?;
         match nodes.node(at) {
@@ -191,7 +193,16 @@ fn possible_by_nodes(
                 match rest_at_truth(
                     nodes, extras, versions, out, looks, at, variable, *high, *low,
                 )? {
-                    Rest::Child(child) => at = child,
+                    Rest::Child(child) => {
+                        if is_known_out(out, child) {
+                            if passed > SHORT_WAY {
+                                remember_way(nodes, extras, versions, out, looks, id);
+                            }
+                            return Some(false);
+                        }
+                        at = child;
+                        passed = passed.saturating_add(1);
+                    }
                     Rest::Satisfied => return Some(true),
                 }
             }
@@ -200,7 +211,44 @@ fn possible_by_nodes(
     }
 }
 
-// The same of an id that asks for a version first.
+// Remembers the children that remain on the path from an id that nothing satisfies.
+#[cycle(possible)]
+fn remember_way(
+    nodes: &NodeTable,
+    extras: &[ExtraName],
+    versions: Option<&[Version]>,
+    out: &mut [NodeId],
+    looks: &mut Looks,
+    id: NodeId,
+)
+    requires search { IsSearch nodes.now versions }
+    requires id { diagram.IsHeld nodes.now id }
+    requires impossible { IsOut extras.now versions nodes.now id }
+    requires places { 2 ≤ length out.old }
+    requires out { AreOut extras.now versions nodes.now out.old }
+    ensures unbounded { AreUnbounded looks.old → AreUnbounded looks.new }
+    ensures places { length out.new ≡ length out.old }
+    ensures out { AreOut extras.now versions.entry nodes.now out.new }
+{
+    let mut at = id;
+    loop {
+        let Some(Branches::Truth(variable, high, low)) = nodes.node(at) else {
+            return;
+        };
+        match rest_at_truth(
+            nodes, extras, versions, out, looks, at, variable, *high, *low,
+        ) {
+            Some(Rest::Child(child)) => at = child,
+            _ => return,
+        }
+        if is_known_out(out, at) {
+            return;
+        }
+        remember(out, at);
+    }
+}
+
+// The answer for an id that branches on a version.
 #[cycle(possible)]
 fn possible_at_version(
     nodes: &NodeTable,
@@ -234,7 +282,7 @@ fn possible_at_version(
     Some(false)
 }
 
-// The same of an id that asks for a text first.
+// The answer for an id that branches on a text.
 #[cycle(possible)]
 fn possible_at_text(
     nodes: &NodeTable,
@@ -265,8 +313,8 @@ fn possible_at_text(
     Some(false)
 }
 
-// Looks at one child of an id that asks first whether something is so, unless it is out of
-// reach. A constant is never the other one where both are looked at.
+// Visits one child of an id that branches on a substring test or an extra, unless that value is
+// impossible. If both are possible, the child that remains is never a constant.
 #[cycle(possible)]
 fn rest_at_truth(
     nodes: &NodeTable,
@@ -308,12 +356,21 @@ fn rest_at_truth(
     Some(Rest::Child(low.negate(id)))
 }
 
-// Whether an id is remembered. It has two places, and shares them with others.
+// Whether an id is false or remembered.
+fn is_known_out(out: &[NodeId], id: NodeId) -> bool
+    requires { 2 ≤ length out.now }
+    ensures { result ≡ true → IsOutWith out.now id }
+{
+    if id.is_false() {
+        return true;
+    }
+    is_remembered(out, id)
+}
+
+// Whether an id is remembered. It has two places, which other ids may overwrite.
 fn is_remembered(out: &[NodeId], id: NodeId) -> bool
     requires { 2 ≤ length out.now }
-    ensures { result ≡ true → (extras : List (List ℕ)) (versions : Option (Bor (List Parts)))
-        (nodes : List Node) → AreOut extras versions nodes out.now
-        → IsOut extras versions nodes id }
+    ensures { result ≡ true → IsOutWith out.now id }
 {
     let place = first_place(out.len(), id);
     if out[place] == id {
@@ -322,7 +379,7 @@ fn is_remembered(out: &[NodeId], id: NodeId) -> bool
     out[place + 1] == id
 }
 
-// Remembers an id in the first of its places, and what was there in the second one.
+// Remembers an id in the first of its places, and moves what was there to the second.
 fn remember(out: &mut [NodeId], id: NodeId)
     requires { 2 ≤ length out.old }
     ensures places { length out.new ≡ length out.old }
@@ -335,18 +392,20 @@ fn remember(out: &mut [NodeId], id: NodeId)
     out[place] = id;
 }
 
-// The first of the two places of an id among so many.
+// The first of the two of `places` for an id: by the high bits of a product, because the ids of a
+// walk often differ by a power of two.
 fn first_place(places: usize, id: NodeId) -> usize
     requires { 2 ≤ places }
     ensures { result + 1 < places }
 {
     let index = id.index().unwrap_or(0).wrapping_mul(2);
     let number = index.wrapping_add(usize::from(id.is_complement()));
-    number % (places / 2) * 2
+    let mixed = number.wrapping_mul(0x9e37_79b9_7f4a_7c15) >> 40;
+    mixed % (places / 2) * 2
 }
 
-// Whether the variable's version may lie in a piece: any may but the Python version, where versions
-// are listed.
+// Whether the variable's version may be in a piece: always, except for the Python version if
+// versions are given.
 fn may_lie_in(
     variable: VersionVariable,
     versions: Option<&[Version]>,
@@ -364,8 +423,7 @@ fn may_lie_in(
     }
 }
 
-// Whether it may be so: a text may be part of another, and an extra is asked for where it is
-// listed.
+// Whether the variable may be true: a substring test may, and an extra if it is listed.
 fn may_be_so(variable: &TruthVariable, extras: &[ExtraName]) -> bool
     ensures { result ≡ may_be_so extras.now variable.now }
 {
@@ -376,7 +434,7 @@ fn may_be_so(variable: &TruthVariable, extras: &[ExtraName]) -> bool
     }
 }
 
-// Whether it may be otherwise.
+// Whether the variable may be false.
 fn may_not_be_so(variable: &TruthVariable, extras: &[ExtraName]) -> bool
     ensures { result ≡ may_not_be_so extras.now variable.now }
 {

@@ -1,4 +1,4 @@
-//! Evaluation that tells of comparisons of texts by their order.
+//! Evaluation that reports comparisons of texts by order.
 
 ghost use Rattle.std.specs.Prelude.{◌≡◌, IfOk, string_bytes};
 ghost use Rattle.std.specs.Range.Bound.{bound_map};
@@ -19,10 +19,11 @@ use std::alloc::{AllocError, Global};
 use std::ops::Bound;
 use version_ranges::{Cuts, Piece};
 
-/// Answers as `evaluate` does, and tells the reporter of each bound by whose order the value of a
-/// text key was compared.
+/// Evaluates the id as [`evaluate`](crate::evaluate) does, and reports each bound with which the
+/// value of a text key was compared by order.
 ///
-/// Only memory can run out, here or at the reporter. What was told until then stays told.
+/// # Errors
+/// - `AllocError` when memory runs out, here or in the reporter. Earlier warnings stay reported.
 pub fn evaluate_and_report<R: Reporter>(
     nodes: &NodeTable,
     id: NodeId,
@@ -46,7 +47,7 @@ pub fn evaluate_and_report<R: Reporter>(
     Ok(!at.is_complement())
 }
 
-// Tells of the comparisons of a node that asks for a text.
+// Reports the comparisons of a node that branches on a text.
 fn report_node<R: Reporter>(
     alloc: Global,
     node: &Node,
@@ -65,7 +66,7 @@ fn report_node<R: Reporter>(
     }
 }
 
-// Tells of the bounds of the pieces up to that of the text.
+// Reports the bounds of the pieces up to that of the text.
 fn report_order<R: Reporter>(
     alloc: Global,
     text: &str,
@@ -85,7 +86,7 @@ fn report_order<R: Reporter>(
     Ok(())
 }
 
-// Tells of the bounds of a piece, but not of those of a single value.
+// Reports the bounds of a piece, unless it is a single value.
 fn report_piece<R: Reporter>(
     alloc: Global,
     text: &str,
@@ -103,7 +104,7 @@ fn report_piece<R: Reporter>(
     report_bound(alloc, text, piece.upper, reporter)
 }
 
-// Tells that a text was compared with a bound.
+// Reports that a text was compared with a bound.
 fn report_bound<R: Reporter>(
     alloc: Global,
     text: &str,
@@ -123,7 +124,7 @@ fn report_bound<R: Reporter>(
     }
 }
 
-// Whether the piece is one text alone.
+// Whether the piece is a single text.
 fn is_single(piece: &Piece<'_, String, NodeId>) -> bool
     ensures { result ≡ is_single (bound_of piece.now.lower) (bound_of piece.now.upper) }
 {
@@ -133,7 +134,7 @@ fn is_single(piece: &Piece<'_, String, NodeId>) -> bool
     }
 }
 
-// Whether a text is not past an upper bound.
+// Whether a text is not above an upper bound.
 fn is_up_to(text: &str, upper: Bound<&String>) -> bool
     ensures { result ≡ is_until text_cmp (bound_map string_bytes (bound_of upper.entry))
         (at text.now) }

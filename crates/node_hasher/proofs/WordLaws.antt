@@ -1,5 +1,4 @@
--- What is written as at most eight bytes goes in as the word that these are, and what is written as
--- more as its words.
+-- At most eight bytes are mixed in as the word that they are, and more as their words.
 use Rattle.std.proofs.Common.{◌≡◌, ℕ, ◌*◌, ◌/◌, ◌%◌, ◌^◌, ◌<◌, ◌≤◌, Bool, cond, List, [], ◌∷◌, length, arith}
 use Rattle.std.proofs.lemmas.Bool.{eq-eqb, ne_eqb}
 use mathlib.Core.Path.{ap, sym, ◌∙◌}

@@ -4,7 +4,7 @@ use Rattle.std.specs.Int.{from_le_bytes, w64}
 use Rattle.node_hasher.specs.declared.NodeHasher.{NodeHasher}
 use Rattle.node_hasher.specs.declared.NodeState.{NodeState}
 
--- what the tables of a key hash by: no word of it is 0 where the key is
+-- the state of a key: a word of it is 0 only by the key
 unfoldable pub keyed : ℕ → ℕ → NodeState
 keyed first second = record {
   initial = bit_xor first 0x243f_6a88_85a3_08d3;

@@ -7,10 +7,10 @@ ghost use Rattle.node_hasher.specs.Hash as hash;
 
 use std::hash::{BuildHasher, Hasher};
 
-/// What the tables of nodes hash by: a key of two words.
+/// Makes the hashers of the tables of nodes, with a key of two words.
 ///
-/// Who chooses what is hashed and does not know the key cannot make it collide. The key is shown
-/// nowhere: there is no `Debug`, and no call that returns it.
+/// The key protects against values that are chosen to collide. It is never shown: there is no
+/// `Debug`, and no call returns it.
 #[derive(Clone, Copy)]
 pub struct NodeState {
     initial: u64,
@@ -18,16 +18,16 @@ pub struct NodeState {
 }
 
 impl NodeState {
-    /// The fixed key, which everybody knows. Who chooses what is hashed can make it collide, which
-    /// costs time alone.
+    /// Returns the state with the fixed key, which everybody knows. Values that are chosen to
+    /// collide can make tables slow, and nothing worse.
     pub fn new() -> Self
         ensures { result ≡ hash.keyed 0 0 }
     {
         NodeState::with_key([0, 0])
     }
 
-    /// With a key. Its words should be random, and be told to nobody. The key of two zeros is the
-    /// fixed one.
+    /// Returns the state with a key. Its words should be random and secret. The key of two zeros is
+    /// the fixed one.
     pub fn with_key(key: [u64; 2]) -> Self
         ensures { result ≡ hash.keyed (slice_index key 0) (slice_index key 1) }
     {
@@ -60,8 +60,9 @@ impl BuildHasher for NodeState {
     }
 }
 
-/// Takes in a word of eight bytes by one multiplication, whose halves it joins. A number is one
-/// word, and a text a word for each eight bytes. A word that has fewer adds how many it has.
+/// A hasher that mixes in a word of eight bytes by one multiplication, and combines the halves of
+/// the product. A number is one word, and a text one word for each eight bytes; a word of fewer
+/// bytes also mixes in their count.
 #[derive(Clone, Copy)]
 pub struct NodeHasher {
     state: u64,
@@ -69,7 +70,7 @@ pub struct NodeHasher {
 }
 
 impl NodeHasher {
-    // Takes in a word.
+    // Mixes in a word.
     fn mix(&mut self, word: u64)
         ensures { self.new ≡ hash.mixed self.old word }
     {
@@ -77,7 +78,7 @@ impl NodeHasher {
         self.state = (product & 0xFFFF_FFFF_FFFF_FFFF) as u64 ^ (product >> 64) as u64;
     }
 
-    // Takes in a word of so many bytes, which are fewer than eight.
+    // Mixes in a word of fewer than eight bytes, and their count.
     fn mix_part(&mut self, word: u64, count: u64)
         ensures { self.new ≡ hash.mixed_part self.old word count }
     {
@@ -123,7 +124,7 @@ impl Hasher for NodeHasher {
     }
 }
 
-// The eight bytes from a place on as one word, the first the lowest. One that is not there is 0.
+// The eight bytes from an index on as one little-endian word. Missing bytes are 0.
 fn word_at(bytes: &[u8], at: usize) -> u64
     requires { at ≤ length bytes.now }
     ensures { result ≡ hash.word_of bytes.now at }
@@ -149,7 +150,7 @@ fn word_at(bytes: &[u8], at: usize) -> u64
     }
 }
 
-// The three bytes from a place on as one number, the first the lowest. One that is not there is 0.
+// The three bytes from an index on as one little-endian number. Missing bytes are 0.
 fn last_bytes(bytes: &[u8], at: usize) -> u32
     requires { at ≤ length bytes.now }
     ensures { result ≡ from_le_bytes w32 (take 3 (drop at bytes.now)) }

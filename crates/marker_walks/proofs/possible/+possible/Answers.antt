@@ -3,14 +3,16 @@ use Rattle.std.proofs.lemmas.Bool.{true≢false}
 use Rattle.version_ranges.specs.Parts.{parts_of, parts_left}
 use Rattle.marker_nodes.specs.declared.node.Branches.TheVariants.{Version, Text}
 use Rattle.marker_walks.specs.Possible.{listed_versions}
-use Rattle.marker_walks.proofs.PossibleLaws.{enters, always, Walks, some_sought, otherwise_may, version_walks, text_walks, walk_leads, walk_next, walk_end, child_below, child_found, child_closed, end_tells, true_tells, false_tells, high_below, high_found, high_alone, high_after, low_below, low_found, low_alone, low_after}
+use Rattle.marker_walks.specs.Search.{Leaves}
+use Rattle.marker_walks.specs.declared.possible.Rest.TheVariants.{Child}
+use Rattle.marker_walks.proofs.PossibleLaws.{enters, always, Walks, some_sought, otherwise_may, version_walks, text_walks, walk_leads, walk_next, walk_end, child_below, child_found, child_closed, end_tells, true_tells, out_tells, child_out, high_below, high_found, high_alone, high_after, low_below, low_found, low_alone, low_after}
 use Rattle.marker_walks.proofs.possible.+possible.Goals as goal
 
 pub possible-returns-then-is_true-clause-answer : goal.possible-returns-then-is_true-clause-answer
 possible-returns-then-is_true-clause-answer t c = true_tells c.args.extras.now c.args.versions c.requires.search.some c.args.nodes.now c.args.id (c.is_true.ensures.0 c.if-is_true.true)
 
-pub possible-returns-then-is_false-clause-answer : goal.possible-returns-then-is_false-clause-answer
-possible-returns-then-is_false-clause-answer t c = false_tells c.args.extras.now c.args.versions c.requires.search.some c.args.nodes.now c.args.id (c.is_false.ensures.0 c.if-is_false.true)
+pub possible-returns-then-is_known_out-clause-answer : goal.possible-returns-then-is_known_out-clause-answer
+possible-returns-then-is_known_out-clause-answer t c = out_tells c.args.extras.now c.args.versions c.args.nodes.now c.args.id (c.is_known_out.ensures c.if-is_known_out.true c.args.extras.now c.args.versions c.args.nodes.now c.requires.out)
 
 pub possible_by_nodes-returns-in-None-clause-answer : goal.possible_by_nodes-returns-in-None-clause-answer
 possible_by_nodes-returns-in-None-clause-answer t c =
@@ -135,3 +137,45 @@ rest_at_truth-returns-clause-rest t c = (
   (low_below c.args.extras.now c.args.versions c.requires.search.some c.args.nodes.now c.requires.search.rules c.args.id c.requires.id c.args.variable.now c.args.high c.args.low c.requires.node c.negate-3.result c.negate-3.ensures (sym c.may_not_be_so.ensures ∙ c.if-not-may_not_be_so.false)).0,
   low_after c.args.extras.now c.args.versions c.requires.search.some c.args.nodes.now c.requires.search.rules c.args.id c.requires.id c.args.variable.now c.args.high c.args.low c.requires.node c.negate-3.result c.negate-3.ensures (sym c.may_not_be_so.ensures ∙ c.if-not-may_not_be_so.false) c.negate-2.result c.negate-2.ensures _ c.in_ok-possible-2.ensures.answer c.if-branch-2.false,
 )
+
+pub possible_by_nodes-returns-then-passed-gt-SHORT_WAY-clause-answer : goal.possible_by_nodes-returns-then-passed-gt-SHORT_WAY-clause-answer
+possible_by_nodes-returns-then-passed-gt-SHORT_WAY-clause-answer t c =
+    let rest = subst (Leaves c.args.extras.now c.args.versions c.args.nodes.now c.loop-variable.at) c.in-Child.is c.in_ok-child-in-Some-Truth.ensures.rest in
+    let out = c.is_known_out.ensures c.if-is_known_out.true c.args.extras.now c.args.versions c.args.nodes.now c.rest_at_truth.ensures.out in
+    c.loop-variable.invariant.rest _ (rest.1 _ (out_tells c.args.extras.now c.args.versions c.args.nodes.now c.in-Child.child out))
+
+pub possible_by_nodes-returns-else-passed-gt-SHORT_WAY-clause-answer : goal.possible_by_nodes-returns-else-passed-gt-SHORT_WAY-clause-answer
+possible_by_nodes-returns-else-passed-gt-SHORT_WAY-clause-answer t c =
+    let rest = subst (Leaves c.args.extras.now c.args.versions c.args.nodes.now c.loop-variable.at) c.in-Child.is c.in_ok-child-in-Some-Truth.ensures.rest in
+    let out = c.is_known_out.ensures c.if-is_known_out.true c.args.extras.now c.args.versions c.args.nodes.now c.rest_at_truth.ensures.out in
+    c.loop-variable.invariant.rest _ (rest.1 _ (out_tells c.args.extras.now c.args.versions c.args.nodes.now c.in-Child.child out))
+
+pub possible_by_nodes-remember_way-requires : goal.possible_by_nodes-remember_way-requires
+possible_by_nodes-remember_way-requires t c =
+    let rest = subst (Leaves c.args.extras.now c.args.versions c.args.nodes.now c.loop-variable.at) c.in-Child.is c.in_ok-child-in-Some-Truth.ensures.rest in
+    let out = c.is_known_out.ensures c.if-is_known_out.true c.args.extras.now c.args.versions c.args.nodes.now c.rest_at_truth.ensures.out in
+    let answer = c.loop-variable.invariant.rest _ (rest.1 _ (out_tells c.args.extras.now c.args.versions c.args.nodes.now c.in-Child.child out)) in
+    (omega (arith, c.decreases), (c.requires.search, (c.requires.id, (answer.impossible refl, (search rules, c.rest_at_truth.ensures.out)))))
+
+pub remember_way-loop-variable-preserved : goal.remember_way-loop-variable-preserved
+remember_way-loop-variable-preserved t c =
+    let rest : Leaves c.args.extras.now c.args.versions c.args.nodes.now c.loop-variable.at (Child c.in-Some-Child.child) = search rules in
+    let impossible = child_out c.args.extras.now c.args.versions c.args.nodes.now c.loop-variable.at c.in-Some-Child.child rest.1 c.loop-variable.invariant.impossible in
+    record {
+      places = search rules;
+      out = c.remember.ensures.out c.args.extras.now c.args.versions c.args.nodes.now impossible c.rest_at_truth.ensures.out;
+      unbounded = λ u. c.rest_at_truth.ensures.unbounded (c.loop-variable.invariant.unbounded u);
+      below = omega (arith, rest.0, c.loop-variable.invariant.below);
+      impossible = impossible;
+    }
+
+pub possible_by_nodes-loop-variable-preserved : goal.possible_by_nodes-loop-variable-preserved
+possible_by_nodes-loop-variable-preserved t c =
+    let rest = subst (Leaves c.args.extras.now c.args.versions c.args.nodes.now c.loop-variable.at) c.in-Child.is c.in_ok-child-in-Some-Truth.ensures.rest in
+    record {
+      places = c.rest_at_truth.ensures.places ∙ c.loop-variable.invariant.places;
+      out = c.rest_at_truth.ensures.out;
+      unbounded = λ u. c.rest_at_truth.ensures.unbounded (c.take.ensures.unbounded (c.loop-variable.invariant.unbounded u));
+      below = omega (arith, rest.0, c.loop-variable.invariant.below);
+      rest = λ answer a. c.loop-variable.invariant.rest answer (rest.1 answer a);
+    }

@@ -1,28 +1,41 @@
 use Rattle.std.proofs.Common.{◌≡◌, ◌+◌, ◌*◌, ◌≤◌, Bool, length}
 use Rattle.version_ranges.specs.Parts.{parts_left}
 use Rattle.marker_diagrams.specs.Id.{place_of}
-use Rattle.marker_diagrams.specs.Diagram.{truth}
-use Rattle.marker_nodes.specs.Node.{markers}
 use Rattle.marker_walks.specs.Looks.{AreUnbounded}
 use Rattle.marker_walks.specs.Possible.{listed_versions}
-use Rattle.marker_walks.specs.Search.{Answers, AreOut}
+use Rattle.marker_walks.specs.Search.{Answers, AreOut, IsOut}
 use Rattle.marker_walks.proofs.PossibleLaws.{enters, always, Walks}
 use Rattle.marker_walks.proofs.possible.+possible.Given as goal
 
 abbrev pub decreases-possible : goal.decreases-possible
-decreases-possible l = 4 * place_of l.id + 3
+decreases-possible l = 5 * place_of l.id + 4
 
 abbrev pub decreases-possible_by_nodes : goal.decreases-possible_by_nodes
-decreases-possible_by_nodes l = 4 * place_of l.id + 2
+decreases-possible_by_nodes l = 5 * place_of l.id + 3
+
+abbrev pub decreases-remember_way : goal.decreases-remember_way
+decreases-remember_way l = 5 * place_of l.id + 2
+
+abbrev pub invariant-remember_way-loop-variable : goal.invariant-remember_way-loop-variable
+invariant-remember_way-loop-variable l = record {
+  places : length l.out ≡ length l.fn.out;
+  out : AreOut l.extras l.versions l.nodes l.out;
+  unbounded : AreUnbounded l.fn.looks → AreUnbounded l.looks;
+  below : place_of l.at ≤ place_of l.fn.id;
+  impossible : IsOut l.extras l.versions l.nodes l.at;
+}
+
+abbrev pub decreases-remember_way-loop-variable : goal.decreases-remember_way-loop-variable
+decreases-remember_way-loop-variable l = place_of l.at
 
 abbrev pub decreases-possible_at_version : goal.decreases-possible_at_version
-decreases-possible_at_version l = 4 * place_of l.id + 1
+decreases-possible_at_version l = 5 * place_of l.id + 1
 
 abbrev pub decreases-possible_at_text : goal.decreases-possible_at_text
-decreases-possible_at_text l = 4 * place_of l.id + 1
+decreases-possible_at_text l = 5 * place_of l.id + 1
 
 abbrev pub decreases-rest_at_truth : goal.decreases-rest_at_truth
-decreases-rest_at_truth l = 4 * place_of l.id + 1
+decreases-rest_at_truth l = 5 * place_of l.id + 1
 
 abbrev pub invariant-possible_by_nodes-loop-variable : goal.invariant-possible_by_nodes-loop-variable
 invariant-possible_by_nodes-loop-variable l = record {

@@ -1,17 +1,16 @@
 use Rattle.std.proofs.Common.{◌+◌, sym, ◌∙◌, subst}
 use Rattle.marker_diagrams.specs.Id.{place_of}
 use Rattle.marker_diagrams.proofs.IdLaws.{same_id_is}
-use Rattle.marker_diagrams.proofs.NodeLaws.{keeps_both, keeps_itself}
 use Rattle.marker_nodes.specs.And.{IsAnd}
-use Rattle.marker_nodes.specs.Node.{markers}
 use Rattle.marker_conjunctions.specs.Contents.{contents}
+use Rattle.marker_conjunctions.proofs.ReleaseLaws.{kept_both, kept_itself}
 use Rattle.marker_conjunctions.proofs.StepLaws.{pair_itself, spends_nothing, waiting_pairs, round_spends, round_fewer}
 use Rattle.marker_conjunctions.proofs.conjunctions.Conjunctions.and.Goals as goal
 
 pub loop-pending-init : goal.loop-pending-init
 loop-pending-init c = record {
   rules = c.requires.rules;
-  kept = keeps_itself markers c.args.nodes.now;
+  kept = kept_itself (contents c.args.nodes.now c.args.self.now);
   spent = spends_nothing (contents c.args.nodes.now c.args.self.now) c.args.nodes.now (place_of c.args.a + place_of c.args.b + 1) c.args.a c.args.b;
   remembers = λ p h. h;
   pairs = rw c.new-pending.ensures.items tt;
@@ -37,7 +36,7 @@ loop-pending-preserved-in-Some-next_open c =
     let left = c.in-Some-next_open.ensures.pairs c.args.nodes.now c.args.a c.args.b waiting in
     record {
       rules = c.in_ok-id.ensures.rules;
-      kept = keeps_both markers c.args.nodes.now c.loop-pending.nodes c.compute.new.nodes c.loop-pending.invariant.kept c.in_ok-id.ensures.kept;
+      kept = kept_both (contents c.args.nodes.now c.args.self.now) (contents c.loop-pending.nodes c.loop-pending.self) (contents c.compute.new.nodes c.compute.new.self) c.loop-pending.invariant.kept c.in_ok-id.ensures.kept;
       spent = round_spends (contents c.args.nodes.now c.args.self.now) (contents c.loop-pending.nodes c.loop-pending.self) (contents c.compute.new.nodes c.compute.new.self) c.loop-pending.invariant.kept c.requires.rules
           c.args.a c.args.b c.loop-pending.next (c.in_ok-left.left, c.in_ok-left.right) c.loop-pending.invariant.pair c.in_ok-left.ensures.pair c.loop-pending.invariant.spent c.in_ok-id.ensures.spends;
       remembers = λ p h. c.in_ok-id.ensures.remembers p (c.loop-pending.invariant.remembers p h);
@@ -63,7 +62,7 @@ loop-pending-preserved c =
     c.loop-pending.pending.items c.descend.new.pending.items c.loop-pending.invariant.pairs c.in_ok-left.ensures.waits in
     record {
       rules = c.in_ok-id.ensures.rules;
-      kept = keeps_both markers c.args.nodes.now c.loop-pending.nodes c.compute.new.nodes c.loop-pending.invariant.kept c.in_ok-id.ensures.kept;
+      kept = kept_both (contents c.args.nodes.now c.args.self.now) (contents c.loop-pending.nodes c.loop-pending.self) (contents c.compute.new.nodes c.compute.new.self) c.loop-pending.invariant.kept c.in_ok-id.ensures.kept;
       spent = round_spends (contents c.args.nodes.now c.args.self.now) (contents c.loop-pending.nodes c.loop-pending.self) (contents c.compute.new.nodes c.compute.new.self) c.loop-pending.invariant.kept c.requires.rules
           c.args.a c.args.b c.loop-pending.next (c.in_ok-left.left, c.in_ok-left.right) c.loop-pending.invariant.pair c.in_ok-left.ensures.pair c.loop-pending.invariant.spent c.in_ok-id.ensures.spends;
       remembers = λ p h. c.in_ok-id.ensures.remembers p (c.loop-pending.invariant.remembers p h);

@@ -1,8 +1,6 @@
 use Rattle.std.proofs.Common.{◌+◌}
 use Rattle.marker_diagrams.specs.Id.{place_of}
-use Rattle.marker_diagrams.specs.Diagram.{Keeps}
-use Rattle.marker_nodes.specs.Node.{markers}
-use Rattle.marker_conjunctions.specs.Contents.{contents, IsWellKept}
+use Rattle.marker_conjunctions.specs.Contents.{contents, IsKept, IsWellKept}
 use Rattle.marker_conjunctions.specs.Count.{Spends}
 use Rattle.marker_conjunctions.specs.Step.{ArePairs, IsOpen, IsPair, Remembers}
 use Rattle.marker_conjunctions.proofs.StepLaws.{open_pairs}
@@ -11,7 +9,7 @@ use Rattle.marker_conjunctions.proofs.conjunctions.Conjunctions.and.Given as goa
 abbrev pub invariant-loop-pending : goal.invariant-loop-pending
 invariant-loop-pending l = record {
   rules : IsWellKept (contents l.nodes l.self);
-  kept : Keeps markers l.initial.nodes l.nodes;
+  kept : IsKept (contents l.initial.nodes l.initial.self) (contents l.nodes l.self);
   spent : Spends (contents l.initial.nodes l.initial.self) (contents l.nodes l.self) (place_of l.a + place_of l.b + 1) l.a l.b;
   remembers : Remembers l.initial.self.memo.entries l.self.memo.entries;
   pairs : ArePairs l.initial.nodes l.a l.b l.pending.items;

@@ -1,0 +1,270 @@
+-- How far conjunctions reach, which of them stay, and what is left when the newest are removed.
+use Rattle.std.proofs.Common.{◌≡◌, ℕ, zero, suc, ◌+◌, ◌-◌, ◌<◌, ◌≤◌, min, max, Bool, true, false, cond, ◌&&◌, List, [], ◌∷◌, ◌++◌, length, get_or, take, Some, None, refl, sym, ap, ◌∙◌, subst, arith, length-append, length-drop}
+use Rattle.std.specs.Prelude.{◌↔◌, slice_get, nat_le}
+use Rattle.std.specs.Map.{lookup}
+use Rattle.std.proofs.lemmas.Bool.{ne_eqb, leb-true, leb-false}
+use Rattle.std.proofs.lemmas.List.{take_all}
+use Rattle.std.proofs.lemmas.Option.{slice_get-get_or}
+use Rattle.std.proofs.Math.Seq.{take-length}
+use Rattle.indexmap.specs.IndexMap.{insert_entry}
+use Rattle.marker_diagrams.specs.declared.node_id.NodeId.{NodeId}
+use Rattle.marker_diagrams.specs.Id.{place_of}
+use Rattle.marker_diagrams.specs.Diagram.{IsHeld, Keeps}
+use Rattle.marker_diagrams.proofs.KeyLaws.{get_last}
+use Rattle.marker_diagrams.proofs.NodeLaws.{same_some, none_some, truth_still, after_still, after_before, keeps_itself, keeps_both}
+use Rattle.marker_nodes.specs.Node.{Node, markers}
+use Rattle.marker_nodes.specs.And.{IsAnd}
+use Rattle.marker_nodes.specs.Table.{oldest}
+use Rattle.marker_nodes.proofs.OldestLaws.{oldest_store, oldest_kept, oldest_undoes}
+use Rattle.marker_conjunctions.specs.Contents.{Contents, IsKept, HoldsTheSame, IsWellKept, StaysFirst, released, same_pair}
+use Rattle.marker_conjunctions.specs.Reach.{Memo, first_within, reach, reach_from, reaches_from, top}
+use Rattle.marker_conjunctions.proofs.CountLaws.{same_pair_is}
+
+-- ---- the highest places
+pub reach_more : (place : ℕ) (memo : Memo) (e : (NodeId × NodeId) × NodeId) → reach_from place (memo ++ e ∷ []) ≡ max (reach_from place memo) (top e)
+reach_more place [] e = refl
+reach_more place (x ∷ memo) e = reach_more (max place (top x)) memo e
+
+pub reaches_more : (place : ℕ) (memo : Memo) (e : (NodeId × NodeId) × NodeId) → reaches_from place (memo ++ e ∷ []) ≡ reaches_from place memo ++ max (reach_from place memo) (top e) ∷ []
+reaches_more place [] e = refl
+reaches_more place (x ∷ memo) e = ap (λ l. max place (top x) ∷ l) (reaches_more (max place (top x)) memo e)
+
+reaches_taken : (k place : ℕ) (memo : Memo) → take k (reaches_from place memo) ≡ reaches_from place (take k memo)
+reaches_taken zero place memo = refl
+reaches_taken (suc k) place [] = refl
+reaches_taken (suc k) place (x ∷ memo) = ap (λ l. max place (top x) ∷ l) (reaches_taken k (max place (top x)) memo)
+
+length_reaches : (place : ℕ) (memo : Memo) → length (reaches_from place memo) ≡ length memo
+length_reaches place [] = refl
+length_reaches place (x ∷ memo) = ap suc (length_reaches (max place (top x)) memo)
+
+reach_at : (k place : ℕ) (memo : Memo) (r : ℕ) → slice_get (reaches_from place memo) k ≡ Some r → r ≡ reach_from place (take (suc k) memo)
+reach_at k place [] r e = none_some r e
+reach_at zero place (x ∷ memo) r e = sym (same_some (max place (top x)) r e)
+reach_at (suc k) place (x ∷ memo) r e = reach_at k (max place (top x)) memo r e
+
+reach_low : (place : ℕ) (memo : Memo) → place ≤ reach_from place memo
+reach_low place [] = omega arith
+reach_low place (x ∷ memo) = let h : max place (top x) ≤ reach_from (max place (top x)) memo = reach_low (max place (top x)) memo in omega arith
+
+reach_taken : (k place : ℕ) (memo : Memo) → reach_from place (take k memo) ≤ reach_from place memo
+reach_taken zero place memo = reach_low place memo
+reach_taken (suc k) place [] = omega arith
+reach_taken (suc k) place (x ∷ memo) = reach_taken k (max place (top x)) memo
+
+-- fewer than all, or all
+take_fewer : (memo : Memo) (known last : ℕ) → last + 1 ≡ min known (length memo) → take known memo ≡ take (suc last) memo
+take_fewer memo known last e = by_size (nat_le known (length memo)) refl
+  where
+    by_size : (b : Bool) → nat_le known (length memo) ≡ b → take known memo ≡ take (suc last) memo
+    by_size true f = let l : known ≤ length memo = leb-true known (length memo) f in let k : known ≡ suc last = omega (arith, e, l) in ap (λ i. take i memo) k
+    by_size false f =
+        let l : length memo < known = leb-false known (length memo) f in
+        let k : length memo ≡ suc last = omega (arith, e, l) in
+        take_all known memo (omega (arith, l)) ∙ sym (take_all (suc last) memo (omega (arith, k)))
+
+module _ (memo : Memo) (reaches : List ℕ) (known : ℕ) (all : reaches ≡ reaches_from 0 memo) where
+  size : length reaches ≡ length memo
+  size = ap length all ∙ length_reaches 0 memo
+
+  pub reach_found : (size last r : ℕ) → size ≡ min known (length reaches) → 1 ≤ size → last ≡ size - 1 → r ≡ get_or reaches last r → r ≡ reach (take known memo)
+  reach_found m last r m_is some last_is found =
+      let s : m ≡ min known (length memo) = m_is ∙ ap (min known) size in
+      let e : last + 1 ≡ min known (length memo) = omega (arith, s, some, last_is) in
+      let within : last < length reaches = omega (arith, m_is, some, last_is) in
+      let at : slice_get reaches last ≡ Some r = slice_get-get_or reaches last r within ∙ ap Some (sym found) in
+      reach_at last 0 memo r (sym (ap (λ l. slice_get l last) all) ∙ at) ∙ ap reach (sym (take_fewer memo known last e))
+
+-- the highest place with one more conjunction
+pub reach_now : (memo : Memo) (a b t : NodeId) (known before left right made both all now : ℕ) → known ≡ length memo → before ≡ reach (take known memo) →
+    left ≡ place_of a → right ≡ place_of b → made ≡ place_of t → both ≡ max left right → all ≡ max both made → now ≡ max before all →
+    now ≡ max (reach memo) (top ((a, b), t))
+reach_now memo a b t known before left right made both all now known_is before_is left_is right_is made_is both_is all_is now_is =
+    let first : before ≡ reach memo = before_is ∙ ap (λ k. reach (take k memo)) known_is ∙ ap reach (take-length memo) in
+    omega (arith, first, left_is, right_is, made_is, both_is, all_is, now_is)
+
+-- some are left
+pub left_reaches : (left : ℕ) (reaches rest : List ℕ) (old new : Memo) → reaches ≡ reaches_from 0 old → rest ≡ take left reaches → new ≡ take left old → rest ≡ reaches_from 0 new
+left_reaches left reaches rest old new all rest_is new_is = rest_is ∙ ap (take left) all ∙ reaches_taken left 0 old ∙ ap (reaches_from 0) (sym new_is)
+
+-- ---- one conjunction more
+last_entry : (old : Memo) (p : NodeId × NodeId) (t : NodeId) → lookup (same_pair p) old ≡ None → insert_entry same_pair old p t ≡ old ++ (p, t) ∷ []
+last_entry [] p t e = refl
+last_entry (x ∷ old) p t e = by_test (same_pair p x.0) e (last_entry old p t)
+  where
+    by_test : (b : Bool) → cond b (Some x.1) (lookup (same_pair p) old) ≡ None → (lookup (same_pair p) old ≡ None → insert_entry same_pair old p t ≡ old ++ (p, t) ∷ []) →
+        cond b ((x.0, t) ∷ old) (x ∷ insert_entry same_pair old p t) ≡ x ∷ old ++ (p, t) ∷ []
+    by_test true f h = none_some x.1 (sym f)
+    by_test false f h = ap (λ l. x ∷ l) (h f)
+
+module _ (old new : Memo) (p : NodeId × NodeId) (t : NodeId) (unknown : lookup (same_pair p) old ≡ None) (is : new ≡ insert_entry same_pair old p t) where
+  pub added_last : new ≡ old ++ (p, t) ∷ []
+  added_last = is ∙ last_entry old p t unknown
+
+  pub added_reach : reach new ≡ max (reach old) (top (p, t))
+  added_reach = ap reach added_last ∙ reach_more 0 old (p, t)
+
+  pub added_reaches : (reaches : List ℕ) (r : ℕ) → reaches ≡ reaches_from 0 old → r ≡ max (reach old) (top (p, t)) → reaches ++ r ∷ [] ≡ reaches_from 0 new
+  added_reaches reaches r all r_is =
+      ap (λ (l : List ℕ). l ++ r ∷ []) all
+      ∙ ap (λ (x : ℕ). reaches_from 0 old ++ x ∷ []) r_is
+      ∙ sym (reaches_more 0 old (p, t))
+      ∙ ap (reaches_from 0) (sym added_last)
+
+  pub added_first : StaysFirst old new
+  added_first = subst (StaysFirst old) (sym added_last) (record {
+    longer = omega (arith, length-append old ((p, t) ∷ []));
+    known = λ i h. get_last old (p, t) i ∙ ap (λ b. cond b (Some (p, t)) (slice_get old i)) (ne_eqb i (length old) (λ e. omega (arith, e, h)));
+  })
+
+-- ---- what stays
+pub stays_itself : (memo : Memo) → StaysFirst memo memo
+stays_itself memo = record { longer = omega arith; known = λ i h. refl }
+
+stays_both : (a b c : Memo) → StaysFirst a b → StaysFirst b c → StaysFirst a c
+stays_both a b c k l = record {
+  longer = let x = k.longer in let y = l.longer in omega arith;
+  known = λ i h. l.known i (let x = k.longer in omega arith) ∙ k.known i h;
+}
+
+pub kept_itself : (c : Contents) → IsKept c c
+kept_itself c = record { nodes = keeps_itself markers c.nodes; memo = stays_itself c.memo }
+
+pub kept_both : (c d e : Contents) → IsKept c d → IsKept d e → IsKept c e
+kept_both c d e k l = record { nodes = keeps_both markers c.nodes d.nodes e.nodes k.nodes l.nodes; memo = stays_both c.memo d.memo e.memo k.memo l.memo }
+
+-- nothing but nodes came
+pub kept_nodes : (c d : Contents) → Keeps markers c.nodes d.nodes → d.memo ≡ c.memo → IsKept c d
+kept_nodes c d k same = record { nodes = k; memo = subst (StaysFirst c.memo) (sym same) (stays_itself c.memo) }
+
+pub kept_same : (c d : Contents) → HoldsTheSame c d → IsKept c d
+kept_same c d same = kept_nodes c d (subst (Keeps markers c.nodes) (sym same.nodes) (keeps_itself markers c.nodes)) same.memo
+
+-- ---- what is left
+pub first_is : (old new : Memo) → StaysFirst old new → take (length old) new ≡ old
+first_is [] new s = refl
+first_is (x ∷ old) [] s = absurd (omega (arith, s.longer))
+first_is (x ∷ old) (y ∷ new) s =
+    let first : y ≡ x = same_some y x (s.known 0 (omega arith)) in
+    let rest : take (length old) new ≡ old =
+    first_is old new (record { longer = omega (arith, s.longer); known = λ i h. s.known (suc i) (omega (arith, h)) }) in
+    ap (λ z. z ∷ take (length old) new) first ∙ ap (λ l. x ∷ l) rest
+
+taken_first : (k : ℕ) (memo : Memo) → StaysFirst (take k memo) memo
+taken_first zero memo = record { longer = omega arith; known = λ i h. absurd (omega (arith, h)) }
+taken_first (suc k) [] = stays_itself []
+taken_first (suc k) (x ∷ memo) = let s = taken_first k memo in record { longer = omega (arith, s.longer); known = λ i h. known_at s i h }
+  where
+    known_at : StaysFirst (take k memo) memo → (i : ℕ) → i < suc (length (take k memo)) → slice_get (x ∷ memo) i ≡ slice_get (x ∷ take k memo) i
+    known_at s zero h = refl
+    known_at s (suc i) h = s.known i (omega (arith, h))
+
+lookup_taken : (p : NodeId × NodeId) (k : ℕ) (memo : Memo) (t : NodeId) → lookup (same_pair p) (take k memo) ≡ Some t → lookup (same_pair p) memo ≡ Some t
+lookup_taken p zero memo t e = none_some t e
+lookup_taken p (suc k) [] t e = none_some t e
+lookup_taken p (suc k) (x ∷ memo) t e = by_test (same_pair p x.0) (lookup_taken p k memo t) e
+  where
+    by_test : (b : Bool) → (lookup (same_pair p) (take k memo) ≡ Some t → lookup (same_pair p) memo ≡ Some t) → cond b (Some x.1) (lookup (same_pair p) (take k memo)) ≡ Some t → cond b (Some x.1) (lookup (same_pair p) memo) ≡ Some t
+    by_test true h f = f
+    by_test false h f = h f
+
+-- the ids of a known conjunction are no higher
+lookup_reach : (a b t : NodeId) (place : ℕ) (memo : Memo) → lookup (same_pair (a, b)) memo ≡ Some t → max (max (place_of a) (place_of b)) (place_of t) ≤ reach_from place memo
+lookup_reach a b t place [] e = none_some t e
+lookup_reach a b t place (x ∷ memo) e = by_test (same_pair (a, b) x.0) refl (lookup_reach a b t (max place (top x)) memo) e
+  where
+    by_test : (s : Bool) → same_pair (a, b) x.0 ≡ s → (lookup (same_pair (a, b)) memo ≡ Some t → max (max (place_of a) (place_of b)) (place_of t) ≤ reach_from (max place (top x)) memo) →
+        cond s (Some x.1) (lookup (same_pair (a, b)) memo) ≡ Some t → max (max (place_of a) (place_of b)) (place_of t) ≤ reach_from (max place (top x)) memo
+    by_test true f h g =
+        let same = same_pair_is (a, b) x.0 f in
+        let left : place_of a ≡ place_of x.0.0 = ap (λ (p : NodeId × NodeId). place_of p.0) same in
+        let right : place_of b ≡ place_of x.0.1 = ap (λ (p : NodeId × NodeId). place_of p.1) same in
+        let made : place_of t ≡ place_of x.1 = ap place_of (sym (same_some x.1 t g)) in
+        let low : max place (top x) ≤ reach_from (max place (top x)) memo = reach_low (max place (top x)) memo in
+        omega (arith, left, right, made, low)
+    by_test false f h g = h g
+
+-- a conjunction of ids that are left is one of what is left
+and_left : (new old : List Node) (a b t : NodeId) → Keeps markers new old → IsHeld new a → IsHeld new b → IsHeld new t → IsAnd old a b t → IsAnd new a b t
+and_left new old a b t k i j held h = record {
+  held = held;
+  means = λ v. sym (truth_still markers new old t v k held) ∙ h.means v ∙ (λ z. truth_still markers new old a v k i z && truth_still markers new old b v k j z);
+  after = λ x p q. after_before markers new old x t k held (h.after x (after_still markers new old x a k i p) (after_still markers new old x b k j q));
+}
+
+-- ---- the newest nodes and conjunctions are given up
+module _ (nodes known : ℕ) (c : Contents) where
+  left_size : length (oldest nodes c.nodes) ≡ length c.nodes - (length c.nodes - nodes)
+  left_size = length-drop (length c.nodes - nodes) c.nodes
+
+  abbrev Left : Bool → Memo
+  Left b = cond b (take known c.memo) []
+
+  module _ (w : IsWellKept c) where
+    known_left : reach (take known c.memo) ≤ nodes → (a b t : NodeId) → lookup (same_pair (a, b)) (take known c.memo) ≡ Some t →
+        IsHeld (oldest nodes c.nodes) a × (IsHeld (oldest nodes c.nodes) b × IsAnd (oldest nodes c.nodes) a b t)
+    known_left r a b t e =
+        let h = w.known a b t (lookup_taken (a, b) known c.memo t e) in
+        let high : max (max (place_of a) (place_of b)) (place_of t) ≤ reach (take known c.memo) = lookup_reach a b t 0 (take known c.memo) e in
+        let left : place_of a ≤ length c.nodes = h.0 in
+        let right : place_of b ≤ length c.nodes = h.1.0 in
+        let made : place_of t ≤ length c.nodes = h.1.1.held in
+        let size : length (oldest nodes c.nodes) ≡ length c.nodes - (length c.nodes - nodes) = left_size in
+        let i : IsHeld (oldest nodes c.nodes) a = omega (arith, high, left, size, r) in
+        let j : IsHeld (oldest nodes c.nodes) b = omega (arith, high, right, size, r) in
+        let k : IsHeld (oldest nodes c.nodes) t = omega (arith, high, made, size, r) in
+        (i, (j, and_left (oldest nodes c.nodes) c.nodes a b t (oldest_kept nodes c.nodes) i j k h.1.1))
+
+    well_by : (b : Bool) → nat_le (reach (take known c.memo)) nodes ≡ b → IsWellKept record { nodes = oldest nodes c.nodes; memo = Left b; expansions = c.expansions }
+    well_by true e =
+        let r : reach (take known c.memo) ≤ nodes = leb-true (reach (take known c.memo)) nodes e in
+        let fewer : reach (take known c.memo) ≤ reach c.memo = reach_taken known 0 c.memo in
+        let size : length (oldest nodes c.nodes) ≡ length c.nodes - (length c.nodes - nodes) = left_size in
+        let all : reach c.memo ≤ length c.nodes = w.within in
+        record { nodes = oldest_store nodes c.nodes w.nodes; known = known_left r; within = omega (arith, r, fewer, size, all) }
+    well_by false e = record { nodes = oldest_store nodes c.nodes w.nodes; known = λ a b t f. none_some t f; within = omega arith }
+
+    -- what is left keeps the rules
+    pub released_well : IsWellKept (released nodes known c)
+    released_well = well_by (nat_le (reach (take known c.memo)) nodes) refl
+
+  first_by : (b : Bool) → StaysFirst (Left b) c.memo
+  first_by true = taken_first known c.memo
+  first_by false = record { longer = omega arith; known = λ i h. absurd (omega (arith, h)) }
+
+  -- what is left was there before, with its meaning
+  pub released_kept : IsKept (released nodes known c) c
+  released_kept = record { nodes = oldest_kept nodes c.nodes; memo = first_by (nat_le (reach (take known c.memo)) nodes) }
+
+le_leb : (a b : ℕ) → a ≤ b → nat_le a b ≡ true
+le_leb a b h = by_test (nat_le a b) refl
+  where
+    by_test : (t : Bool) → nat_le a b ≡ t → nat_le a b ≡ true
+    by_test true e = e
+    by_test false e = absurd (let l : b < a = leb-false a b e in omega (arith, l, h))
+
+-- exactly what was added since is removed
+pub released_same : (c d : Contents) → reach c.memo ≤ length c.nodes → IsKept c d → HoldsTheSame c (released (length c.nodes) (length c.memo) d)
+released_same c d within k = record { nodes = oldest_undoes c.nodes d.nodes k.nodes; memo = left_is ∙ first }
+  where
+    first : take (length c.memo) d.memo ≡ c.memo
+    first = first_is c.memo d.memo k.memo
+
+    left_is : first_within (length c.memo) (length c.nodes) d.memo ≡ take (length c.memo) d.memo
+    left_is = ap (λ b. cond b (take (length c.memo) d.memo) []) (ap (λ m. nat_le (reach m) (length c.nodes)) first ∙ le_leb (reach c.memo) (length c.nodes) within)
+
+-- ---- the parts of an interner that gave up what came since a mark
+module _ (nodes known : ℕ) where
+  pub released_is : (c : Contents) (left : List Node) (memo : Memo) (expansions : ℕ) → left ≡ oldest nodes c.nodes → memo ≡ first_within known nodes c.memo → expansions ≡ c.expansions →
+      record { nodes = left; memo = memo; expansions = expansions } ≡ released nodes known c
+  released_is c left memo expansions p q r = λ i. record { nodes = p i; memo = q i; expansions = r i }
+
+  pub released_held : (c : Contents) (t : NodeId) → IsHeld (oldest nodes c.nodes) t ↔ (IsHeld c.nodes t × (place_of t ≤ nodes))
+  released_held c t =
+      let size : length (oldest nodes c.nodes) ≡ length c.nodes - (length c.nodes - nodes) = left_size nodes known c in
+      (λ h. (omega (arith, size, h), omega (arith, size, h)), λ h. omega (arith, size, h.0, h.1))
+
+  pub released_undone : (c d : Contents) → nodes ≡ length c.nodes → known ≡ length c.memo → reach c.memo ≤ length c.nodes → IsKept c d → HoldsTheSame c (released nodes known d)
+  released_undone c d n k within kept =
+      subst (λ (x : ℕ). HoldsTheSame c (released x known d)) (sym n)
+      (subst (λ (y : ℕ). HoldsTheSame c (released (length c.nodes) y d)) (sym k) (released_same c d within kept))

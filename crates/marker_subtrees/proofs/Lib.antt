@@ -1,0 +1,4 @@
+pub mod GrowthLaws
+pub mod WalkLaws
+pub mod DependLaws
+pub mod KeyLaws
