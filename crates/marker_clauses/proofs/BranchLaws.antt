@@ -1,5 +1,5 @@
 -- Branches that lead to the children of a node are those of its marker.
-use Rattle.std.proofs.Common.{◌≡◌, ◌≢◌, ◌⊎◌, inl, inr, ◌++◌, get_or, string_bytes, ℕ, zero, suc, ◌<◌, Bool, true, false, not, cond, ◌&&◌, ◌||◌, List, [], ◌∷◌, length, Some, refl, sym, ap, ◌∙◌, subst, arith}
+use Rattle.std.proofs.Common.{◌≡◌, ◌≢◌, ◌⊎◌, inl, inr, ◌++◌, get_or, string_bytes, ℕ, ◌<◌, Bool, true, false, not, cond, ◌&&◌, ◌||◌, List, [], ◌∷◌, length, Some, refl, sym, ap, ◌∙◌, subst, arith}
 use Rattle.std.specs.Prelude.{slice_get, String, Result, Ok, Err, IfOk, Vec, ⊤}
 use Rattle.std.specs.Borrow.{Bor}
 use Rattle.std.specs.Global.{Global}
@@ -42,7 +42,7 @@ use Rattle.marker_diagrams.specs.Diagram.{IsStore}
 use Rattle.marker_diagrams.specs.Residue as residue
 use Rattle.marker_diagrams.specs.declared.node_id.NodeId.{NodeId}
 use Rattle.marker_diagrams.proofs.Canonicity.{descends}
-use Rattle.marker_diagrams.proofs.NodeLaws.{none_some, same_some, truth_child}
+use Rattle.marker_diagrams.proofs.NodeLaws.{none_some, truth_child}
 use Rattle.marker_nodes.specs.Branches.{value_at}
 use Rattle.marker_nodes.specs.Node.{Node, lowest, markers}
 use Rattle.marker_nodes.specs.Variable.{answer, truth_variable}
@@ -65,7 +65,7 @@ use Rattle.marker_graph.specs.declared.tree.TheConstants.MarkerTree.{FALSE, TRUE
 use Rattle.marker_clauses.proofs.JoinLaws.{gathered_part, get_last, joined_leads, text_found, text_sets}
 use Rattle.marker_clauses.specs.declared.branch.Branch.{Branch}
 use Rattle.marker_clauses.specs.Readable.{IsPlainNode, IsPlainVariable}
-use Rattle.marker_clauses.specs.Branch.{extra_of_ref, reaches, AreAnswers, AreBranches, HasReleases, HavePrintableBranches, IsAnswered, IsBelow, IsOne, IsReleaseNode, LeadTo}
+use Rattle.marker_clauses.specs.Branch.{extra_of_ref, reaches, AreAnswers, AreBranches, HasReleases, HavePrintableBranches, IsAnswered, IsBelow, IsReleaseNode, LeadTo}
 
 module _ (c : Contents) (store : IsStore markers c.nodes) (t : MarkerTree) (held : IsHeld c t) (n : Node) (node : node_of c t ≡ Some n) where
   child_below : (v : Valuation) → IsBelow c t (child_of t (value_at n v))
@@ -80,7 +80,7 @@ module _ (c : Contents) (store : IsStore markers c.nodes) (t : MarkerTree) (held
     printable = λ r. plain (r t n residue.itself node);
   }
 
-  -- the premise of a node that asks about a version
+  -- the premise of a node that branches on a version
   pub node_releases : HasReleases c t → IsReleaseNode n
   node_releases r = r t n residue.itself node
 
@@ -170,7 +170,7 @@ two_lead x t so other none one two p n high low z a b h l ph nh = record {
     by_second i d (inr e) = (denied, e ∙ l ∙ ap (λ y. child_of t (cond y so other)) (sym (not_denied x)))
 
 module _ (c : Contents) (store : IsStore markers c.nodes) (t : MarkerTree) (held : IsHeld c t) where
-  -- the branches of a marker that asks about a version, or about a text
+  -- the branches of a marker that branches on a version, or on a text
   pub version_result : {A : Type 0} (view : VersionMarkerTree) → IsKind c t (VersionKind view) → (r : Result (Vec Branch A) AllocError) →
       IfOk r (λ bs. LeadTo (all_cuts is_release view.cuts.now ≡ true) (λ v. child_of view.tree (value_of version_cmp view.cuts.now (v.version view.variable))) bs.items) → IfOk r (λ bs. HavePrintableBranches bs.items) → IfOk r (λ bs. AreBranches c t bs.items)
   version_result view k (Err e) h p = h
@@ -186,7 +186,7 @@ module _ (c : Contents) (store : IsStore markers c.nodes) (t : MarkerTree) (held
       lead_branches c store t held (Text view.variable view.cuts.now) k.0 bs.items ⊤ (λ r. tt) p
       (subst (λ s. LeadTo ⊤ (λ v. child_of s (value_by string_bytes text_cmp view.cuts.now (v.text view.variable))) bs.items) k.1 h)
 
-  -- the branches of a marker that asks for a truth
+  -- the branches of a marker that branches on a substring test or an extra
   pub truth_result : {A : Type 0} (x : TruthVariable) (high low so other : MarkerTree) → AsksForTruth c t x so other → high ≡ so → low ≡ other → (p n : asked.Test) →
       ((v : Valuation) → holds p v ≡ answer x v) → ((v : Valuation) → holds n v ≡ not (answer x v)) →
       (IsPlainVariable (truth_variable x) → (term : MarkerExpression) → test_of term ≡ p → IsPrintable term) → (IsPlainVariable (truth_variable x) → (term : MarkerExpression) → test_of term ≡ n → IsPrintable term) →

@@ -6,6 +6,7 @@ use Rattle.marker_environment.specs.Valuation.{Valuation}
 use Rattle.marker_parts.specs.declared.expression.MarkerExpression.{MarkerExpression}
 use Rattle.marker_terms.specs.Clauses.{clause_holds, clauses_hold}
 use Rattle.marker_terms.specs.Plain.{ArePrintable, HavePrintableTerms, IsPrintableClause}
+use Rattle.marker_terms.specs.Numbering.{IsReductionOf}
 use Rattle.marker_nodes.specs.Node.{Node}
 use Rattle.marker_nodes.specs.declared.node.Branches.TheVariants.{Text, Truth, Version}
 use Rattle.marker_graph.specs.Contents.{Contents, IsHeld, truth}
@@ -13,18 +14,18 @@ use Rattle.marker_graph.specs.declared.tree.MarkerTree.{MarkerTree}
 use Rattle.marker_graph.specs.declared.tree.TheConstants.MarkerTree.{TRUE, FALSE}
 use Rattle.marker_clauses.specs.Branch.{HasReleases, IsReleaseNode}
 use Rattle.marker_clauses.specs.Readable.{IsPlainNode, IsReadable}
-use Rattle.marker_clauses.specs.Dnf.{AreClausesOf}
+use Rattle.marker_clauses.specs.Dnf.{AreClausesOf, ArePathsOf}
 use Rattle.marker_clauses.proofs.BranchLaws.{false_means}
 
 module _ (c : Contents) (t : MarkerTree) (clauses : List (List MarkerExpression)) where
   pub of_true : clauses ≡ [] → t ≡ TRUE → AreClausesOf c t clauses
-  of_true n e = record { mean = λ r ne v. absurd (ne e); constants = λ k. n; printable = λ r ne nf. absurd (ne e) }
+  of_true n e = record { reduced = λ ne nf. absurd (ne e); mean = λ r ne v. absurd (ne e); constants = λ k. n; printable = λ r ne nf. absurd (ne e) }
 
   pub of_false : clauses ≡ [] → t ≡ FALSE → AreClausesOf c t clauses
-  of_false n e = record { mean = λ r ne v. ap (λ cs. clauses_hold cs v) n ∙ sym (false_means c t e v); constants = λ k. n; printable = λ r ne nf. absurd (nf e) }
+  of_false n e = record { reduced = λ ne nf. absurd (nf e); mean = λ r ne v. ap (λ cs. clauses_hold cs v) n ∙ sym (false_means c t e v); constants = λ k. n; printable = λ r ne nf. absurd (nf e) }
 
-  pub of_paths : t ≢ TRUE → t ≢ FALSE → (HasReleases c t → (v : Valuation) → clauses_hold clauses v ≡ truth c t v) → (IsReadable c t → ArePrintable clauses) → AreClausesOf c t clauses
-  of_paths ne nf h p = record { mean = λ r k v. h r v; constants = by_constant; printable = λ r k l. p r }
+  pub of_paths : t ≢ TRUE → t ≢ FALSE → (paths : List (List MarkerExpression)) × ArePathsOf c t paths × IsReductionOf clauses paths → (HasReleases c t → (v : Valuation) → clauses_hold clauses v ≡ truth c t v) → (IsReadable c t → ArePrintable clauses) → AreClausesOf c t clauses
+  of_paths ne nf q h p = record { reduced = λ k l. q; mean = λ r k v. h r v; constants = by_constant; printable = λ r k l. p r }
     where
       by_constant : (t ≡ TRUE) ⊎ (t ≡ FALSE) → clauses ≡ []
       by_constant (inl e) = absurd (ne e)
@@ -40,7 +41,7 @@ plain_releases (Truth x high low) h = tt
 pub readable_releases : (c : Contents) (t : MarkerTree) → IsReadable c t → HasReleases c t
 readable_releases c t r s n sub node = plain_releases n (r s n sub node)
 
--- where a disjunction of printable terms is not true everywhere, each of its clauses has a term
+-- if a disjunction of printable terms is not true everywhere, each of its clauses has a term
 each_some : (clauses : List (List MarkerExpression)) → HavePrintableTerms clauses → ¬ ((v : Valuation) → clauses_hold clauses v ≡ true) → AllByRecursion IsPrintableClause clauses
 each_some [] h n = tt
 each_some (c ∷ clauses) h n = (

@@ -114,7 +114,7 @@ any_more p r old new b qs i q e l is s h =
     or_end true = refl
     or_end false = refl
 
--- where nothing reaches through one more, there need be no more
+-- if nothing reaches through one more, none is needed
 pub any_skipped : {Q : Type 0} (r : Q → Bool) (old : Bool) (qs : List Q) (i : ℕ) (q : Q) → i < length qs → q ≡ get_or qs i q → r q ≡ false → old ≡ list_any r (take i qs) → old ≡ list_any r (take (i + 1) qs)
 any_skipped r old qs i q l is z h = h ∙ sym (list_any_more r qs i q l ∙ ap (λ x. list_any r (take i qs) || x) (ap r (sym is) ∙ z) ∙ or_end (list_any r (take i qs)))
   where

@@ -1,4 +1,5 @@
 pub mod JoinLaws
 pub mod BranchLaws
+pub mod EdgeLaws
 pub mod WalkLaws
 pub mod DnfLaws

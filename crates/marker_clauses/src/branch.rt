@@ -1,4 +1,4 @@
-//! What a marker asks first, as clauses for each subtree.
+//! The clauses that lead to each subtree of a marker.
 
 ghost use Rattle.std.specs.Prelude.{◌≡◌, IfOk, OnOk, string_bytes, true, ⊤};
 ghost use Rattle.version_ranges.specs.Bounds.{all_cuts};
@@ -13,31 +13,36 @@ ghost use Rattle.marker_nodes.specs.Variable.{truth_variable};
 ghost use Rattle.marker_terms.specs.Plain.{IsPlainExtra, is_plain};
 ghost use Rattle.marker_graph.specs.Contents.{IsHeld};
 ghost use Rattle.marker_graph.specs.Edges.{child_of};
-ghost use Rattle.marker_graph.specs.Kind.{extra_question};
-ghost use Rattle.marker_clauses.specs.Branch.{AreAnswers, AreBranches, HavePrintableBranches, IsAnswered, IsOne, LeadTo, extra_of_ref};
+ghost use Rattle.marker_graph.specs.Kind.{extra_question, string_edges, version_edges};
+ghost use Rattle.marker_clauses.specs.Branch.{AreAnswers, AreBranches, FollowEdges, HavePrintableBranches, IsAnswered, IsOne, LeadTo, extra_of_ref};
 ghost use Rattle.marker_clauses.specs.Readable.{IsPlainVariable};
 
 use marker_graph::{
     ExtraMarkerTree, Interner, MarkerTree, MarkerTreeKind, MarkerValueExtraRef, StringMarkerTree,
     VersionMarkerTree,
 };
+use marker_nodes::NodeId;
 use marker_parts::{MarkerExpression, MarkerValueExtra};
-use marker_terms::{text_clauses, version_clauses};
+use marker_terms::{
+    one_clause, text_clauses, text_range_terms, version_clauses, version_range_terms,
+};
 use marker_words::{ExtraOperator, MarkerOperator, MarkerValueString};
 use pep440_rs::laws::version_clones_are_equal;
 use std::alloc::{AllocError, Global};
+use version_ranges::Cuts;
 use version_ranges::laws::pieces_have_the_values_of_points;
 
-/// A subtree, and the clauses that lead to it: each is an answer to what is asked first.
+/// A subtree, and the clauses that lead to it: each is a range of values of the marker's first
+/// variable.
 #[derive(Drop)]
 pub(crate) struct Branch {
     pub(crate) clauses: Vec<Vec<MarkerExpression>>,
     pub(crate) child: MarkerTree,
 }
 
-/// The subtrees of a marker but for `FALSE`, with the clauses that lead to them, in the order of
-/// their first edges; `TRUE` and `FALSE` have none. Edges with one subtree are joined, and where a
-/// truth is asked for the subtree where it is so comes first.
+/// Returns the subtrees of a marker except `FALSE`, with the clauses that lead to them, in the
+/// order of their first edges; none for `TRUE` and `FALSE`. Edges to one subtree are joined. Of a
+/// substring test or an extra the subtree for true comes first.
 pub(crate) fn branches(interner: &Interner, tree: MarkerTree) -> Result<Vec<Branch>, AllocError>
     requires { IsHeld interner.now tree }
     ensures { IfOk result (λ branches. AreBranches interner.now tree branches.items) }
@@ -47,8 +52,20 @@ pub(crate) fn branches(interner: &Interner, tree: MarkerTree) -> Result<Vec<Bran
     match tree.kind(interner) {
         MarkerTreeKind::True => Ok(Vec::new(alloc)),
         MarkerTreeKind::False => Ok(Vec::new(alloc)),
-        MarkerTreeKind::Version(view) => version_branches(alloc, view),
-        MarkerTreeKind::String(view) => text_branches(alloc, view),
+        MarkerTreeKind::Version(view) => {
+            if leads_apart(view.cuts(), view.subtree(NodeId::FALSE)) {
+                version_edge_branches(alloc, view)
+            } else {
+                version_branches(alloc, view)
+            }
+        }
+        MarkerTreeKind::String(view) => {
+            if leads_apart(view.cuts(), view.subtree(NodeId::FALSE)) {
+                text_edge_branches(alloc, view)
+            } else {
+                text_branches(alloc, view)
+            }
+        }
         MarkerTreeKind::In(view) => text_answers(
             alloc,
             view.key(),
@@ -70,7 +87,43 @@ pub(crate) fn branches(interner: &Interner, tree: MarkerTree) -> Result<Vec<Bran
     }
 }
 
-// The branches of a marker that asks about a version.
+// Whether no two of at most three pieces have one value other than that of `FALSE`. Neighbors have
+// different ones.
+fn leads_apart<T: Ord>(cuts: &Cuts<T, NodeId>, falsehood: MarkerTree) -> bool {
+    let mut pieces = cuts.pieces();
+    match (pieces.next(), pieces.next(), pieces.next()) {
+        (Some(first), Some(_), Some(third)) => {
+            pieces.next().is_none()
+                && (first.value != third.value || *first.value == falsehood.id())
+        }
+        _ => true,
+    }
+}
+
+// The branches of a marker that asks about a version, one for each edge.
+fn version_edge_branches(
+    alloc: Global,
+    view: VersionMarkerTree<'_>,
+) -> Result<Vec<Branch>, AllocError>
+    ensures follow { IfOk result (λ branches. FollowEdges version_cmp
+        (λ v. v.version view.entry.variable) (all_cuts is_release view.entry.cuts.now ≡ true)
+        (version_edges view.entry) branches.items) }
+    ensures printable { IfOk result (λ branches. HavePrintableBranches branches.items) }
+{
+    let mut branches = Vec::new(alloc);
+    for edge in view.edges() {
+        let (lower, upper, child) = edge;
+        if child.is_false() {
+            continue;
+        }
+        let terms = version_range_terms(alloc, view.variable(), (lower, upper))?;
+        let clauses = one_clause(alloc, terms)?;
+        branches.push(Branch { clauses, child })?;
+    }
+    Ok(branches)
+}
+
+// The same, where the edges of each subtree are joined.
 fn version_branches(alloc: Global, view: VersionMarkerTree<'_>) -> Result<Vec<Branch>, AllocError>
     ensures lead { IfOk result (λ branches. LeadTo (all_cuts is_release view.entry.cuts.now ≡ true)
         (λ v. child_of view.entry.tree
@@ -94,7 +147,28 @@ fn version_branches(alloc: Global, view: VersionMarkerTree<'_>) -> Result<Vec<Br
     Ok(branches)
 }
 
-// The branches of a marker that asks about a text.
+// The branches of a marker that asks about a text, one for each edge.
+fn text_edge_branches(alloc: Global, view: StringMarkerTree<'_>) -> Result<Vec<Branch>, AllocError>
+    ensures follow { IfOk result (λ branches. FollowEdges text_cmp
+        (λ v. v.text view.entry.variable) ⊤ (string_edges view.entry) branches.items) }
+    ensures printable { IfOk result (λ branches.
+        all_cuts (λ t. is_plain (string_bytes t)) view.entry.cuts.now ≡ true
+        → HavePrintableBranches branches.items) }
+{
+    let mut branches = Vec::new(alloc);
+    for edge in view.children() {
+        let (lower, upper, child) = edge;
+        if child.is_false() {
+            continue;
+        }
+        let terms = text_range_terms(alloc, view.key(), (lower, upper))?;
+        let clauses = one_clause(alloc, terms)?;
+        branches.push(Branch { clauses, child })?;
+    }
+    Ok(branches)
+}
+
+// The same, where the edges of each subtree are joined.
 fn text_branches(alloc: Global, view: StringMarkerTree<'_>) -> Result<Vec<Branch>, AllocError>
     ensures lead { IfOk result (λ branches. LeadTo ⊤
         (λ v. child_of view.entry.tree
@@ -232,13 +306,14 @@ fn extra_test(
     Ok(MarkerExpression::Extra { operator, name })
 }
 
-// Beside `extra` stands a name in normal form, or else a text: it can be printed where it is plain.
+// `extra` is compared with a name in normal form, or with a text: either can be printed if it is
+// plain.
 fn names_are_normal(extra: MarkerValueExtraRef<'_>)
     ensures { IsPlainVariable (truth_variable (extra_question extra.entry))
         → IsPlainExtra (extra_of_ref extra.entry) }
 {
     if let MarkerValueExtraRef::Extra(name) = extra {
-        // A look at the text of a name shows that it is in normal form.
+        // Reading the text of a name shows that it is in normal form.
         let _ = name.as_str();
     }
 }

@@ -14,16 +14,17 @@ use marker_terms::{common_extra, reduce};
 use marker_words::ExtraOperator;
 use std::alloc::AllocError;
 
-/// The marker as a disjunction of conjunctions: a list of clauses, each a list of comparisons. Of
-/// `TRUE` and of `FALSE` there is none.
+/// Returns the marker as a disjunction of conjunctions: a list of clauses, each a list of
+/// comparisons. The list is empty for `TRUE` and for `FALSE`.
 ///
-/// The clauses mean the marker, `TRUE` aside, where its bounds of versions are release numbers
-/// alone. Those of a readable marker other than `TRUE` and `FALSE` can be printed, so that they are
-/// read back: there is one, each has a term, and no text has both quotes.
+/// The clauses mean the marker, unless it is `TRUE`, if its bounds of versions are only release
+/// numbers. Those of a readable marker other than `TRUE` and `FALSE` can be printed, and parse
+/// back: there is at least one, each has a term, and no text has both quotes.
 ///
-/// They are the paths of the marker in the order of its edges, without the terms and clauses that
-/// others make up for. Only memory can run out: there may be as many clauses as the marker has
-/// paths.
+/// They are the paths of the marker in the order of its edges, without redundant terms and clauses.
+/// There may be as many clauses as the marker has paths. All paths together may have as many terms
+/// as the interner has room for pieces of nodes; beyond that the call fails as when memory runs
+/// out.
 pub fn to_dnf(
     interner: &Interner,
     tree: MarkerTree,
@@ -38,18 +39,19 @@ pub fn to_dnf(
         return Ok(Vec::new(interner.allocator()));
     }
     let mut clauses = Vec::new(interner.allocator());
-    let path = Vec::new(interner.allocator());
-    collect(interner, tree, path, &mut clauses)?;
-    reduce(&mut clauses);
-    // Without a clause the marker would be `FALSE`, and without a term in one `TRUE`.
+    let mut path = Vec::new(interner.allocator());
+    let mut room = interner.room();
+    collect(interner, tree, &mut path, &mut room, &mut clauses)?;
+    let left = reduce(interner.allocator(), clauses)?;
+    // Without clauses the marker would be `FALSE`, and without terms in one `TRUE`.
     interner.keeps_the_rules();
     same_truth_is_same_tree();
     truths_of_constants();
-    Ok(clauses)
+    Ok(left)
 }
 
-/// The first `extra ==` of every clause of the marker, where there is a clause and all are the
-/// same. Only memory can run out.
+/// Returns the first `extra == '..'` of each clause of the marker, if there is a clause and all
+/// have the same.
 pub fn top_level_extra(
     interner: &Interner,
     tree: MarkerTree,

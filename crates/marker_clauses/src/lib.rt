@@ -1,4 +1,7 @@
-//! A marker as a disjunction of conjunctions of comparisons, by what it asks first.
+//! Markers as disjunctions of conjunctions of comparisons.
+//!
+//! Calls that allocate return `AllocError` when memory runs out; every existing value keeps its
+//! meaning.
 #![tactic(auto)]
 
 mod branch;

@@ -23,7 +23,7 @@ last_scalar (x ∷ xs) c p = last_scalar xs c (second_of _ _ p)
 pub last_utf8 : (text front : List ℕ) (c : ℕ) → IsUtf8 text → chars text ≡ chars front ++ (c ∷ []) → IsUtf8 (encode_utf8 c)
 last_utf8 text front c utf8 e = ((c ∷ []), (last_scalar (chars front) c (ap scalars (sym e) ∙ scalars-chars text utf8), append-nil (encode_utf8 c)))
 
--- a text that goes on by a character in place of a keyword
+-- a text with a character in place of a keyword
 pub unexpected_at : (text piece others : List ℕ) (c last : ℕ) → IsUtf8 text → text ≡ encode_utf8 c ++ others → text ≡ piece ++ encode_utf8 last → chars text ≡ chars piece ++ (last ∷ []) → HasNoSpace text → NoKeyword (chars text) → IsFaultAt IsMarker text (Unexpected c) piece (length text)
 unexpected_at text piece others c last utf8 begins ends last_is spaceless wordless =
     let found : IsAllButLast c piece (encode_utf8 last) = record { others = others; last = last; begins = sym ends ∙ begins; ends = refl } in

@@ -1,4 +1,4 @@
--- A text has one reading: what another one makes of it goes along with the first, part by part.
+-- A text is parsed in one way: another parse follows the first, part by part.
 use Rattle.std.proofs.Common.{◌≡◌, ℕ, List, [], ◌∷◌, Option, None, refl, sym, ap, ◌∙◌, subst}
 use Rattle.pep508_text.proofs.RunLaws.{trimmed_by_run, spaces_end}
 use Rattle.pep508_errors.specs.declared.warning.MarkerWarningKind.{MarkerWarningKind}
@@ -8,7 +8,7 @@ use Rattle.marker_grammar.specs.Reading.{Level, ended, After, goes, Before, befo
 use Rattle.marker_grammar.proofs.ReadingLaws.{open_on, compare_on, and_on, or_on, close_on, end_on, start_on}
 
 module _ (g : Option Formula) (l : List MarkerWarningKind) where
-  -- the other reading stands behind the same `or`, whose formula may be joined in other steps
+  -- the other parse is after the same `or`, whose formula may be joined in other steps
   record Behind (outer : List Level) (f : Option Formula) (o : List ℕ) (w : List MarkerWarningKind) : Type 0 where
     ors : Option Formula
     ands : Option Formula
@@ -16,7 +16,7 @@ module _ (g : Option Formula) (l : List MarkerWarningKind) where
     after : After outer ors ands o w g l
 
   mutual
-    -- it stands behind the same atom
+    -- it is after the same atom
     atom_along : {i o : List ℕ} {w x : List MarkerWarningKind} {f : Option Formula} → Atom i w o x f → (outer : List Level) (ors ands : Option Formula) → Before outer ors ands i w g l → After outer ors (and_of ands f) o x g l
     atom_along (comparison c) outer ors ands other = compare_on c other
     atom_along {o = o} {x = x} (group s (or (and inner rest) more) closing) outer ors ands other =

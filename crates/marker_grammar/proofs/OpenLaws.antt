@@ -1,4 +1,4 @@
--- What stands behind an open parenthesis, from its first step to the end of the text.
+-- The text after an open parenthesis, from its first step to the end of the text.
 use Rattle.std.proofs.Common.{◌≡◌, ℕ, Bool, List, [], ◌∷◌, ◌++◌, Option, None, refl, sym, ap, ◌∙◌, subst}
 use Rattle.std.specs.Prelude.{codes, reverse, encode_utf8}
 use Rattle.std.specs.Str.{chars}
@@ -79,11 +79,11 @@ opened_compare groups has_or w v {has_and} {any} {added} {stack} {new} {i} {o} {
     (λ outer q. (q.0, (q.1.0, compare_back c (as_type (same outer q.0 q.1.0) q.1.1)))) h in
     subst (λ (s : List Formula). AllOpen (EndsRest (Ors has_or any new) (Ands has_or any new) o v) groups s) (sym (ap (below has_or) a.rest)) there
 
--- `and` stands behind an atom
+-- `and` follows an atom
 pub opened_and : (groups : List Group) (stack : List Formula) (ors ands : Option Formula) (i : List ℕ) (w : Kinds) {t b : List ℕ} → t ≡ after_space i → Run NotSpace t (codes "and") b → AllOpen (EndsRest ors ands i w) groups stack → AllOpen (EndsAtom ors ands b w) groups stack
 opened_and groups stack ors ands i w {t} {b} e run h = all_map (EndsRest ors ands i w) (EndsAtom ors ands b w) groups stack (λ outer q. (q.0, (q.1.0, and_back e run q.1.1))) h
 
--- `or` stands behind an atom
+-- `or` follows an atom
 pub opened_or : (groups : List Group) (i : List ℕ) (w : Kinds) {has_or has_and any : Bool} {stack new : List Formula} {t b : List ℕ} →
     IsJoined symbols.or or_of has_or has_and any stack new → t ≡ after_space i → Run NotSpace t (codes "or") b →
     AllOpen (EndsRest (Ors has_or has_and stack) (Ands has_or has_and stack) i w) groups (under has_or has_and stack) → AllOpen (EndsAtom (top_if any new) None b w) groups (below any new)

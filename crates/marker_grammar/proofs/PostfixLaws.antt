@@ -27,7 +27,7 @@ all_fit-push stack (y ∷ xs) x all fit = both_true _ _ (first_of _ _ all) (all_
 pub postfix_put : (ts : List Token) (t : Token) → IsPostfix ts → fits (symbol_of t) (stack_of ts) ≡ true → IsPostfix (ts ++ (t ∷ []))
 postfix_put ts t all fit = ap (all_fit []) (map_push symbol_of ts t) ∙ all_fit-push [] (map symbol_of ts) (symbol_of t) all fit
 
--- where there are two formulas everything fits
+-- with two formulas on the stack everything fits
 fits_two : (s : Symbol) (stack : List Formula) → 2 ≤ length stack → fits s stack ≡ true
 fits_two (symbols.test t) stack two = refl
 fits_two symbols.and [] two = absurd (omega (arith, two))
@@ -37,7 +37,7 @@ fits_two symbols.or [] two = absurd (omega (arith, two))
 fits_two symbols.or (g ∷ []) two = absurd (omega (arith, two))
 fits_two symbols.or (g ∷ f ∷ stack) two = refl
 
--- two formulas are joined where both are there
+-- two formulas are joined if both exist
 pub postfix_join : (first second : Bool) (t : Token) (old : List Token) {new : List Token} → new ≡ (if first && second then old ++ (t ∷ []) else old) →
     count second + count first ≤ length (stack_of old) → IsPostfix old → IsPostfix new
 postfix_join true true t old put two all = subst IsPostfix (sym put) (postfix_put old t all (fits_two (symbol_of t) (stack_of old) (omega (arith, two))))

@@ -92,7 +92,7 @@ compare_same gs has_or {has_and} {any} {added} {stack} {new} {i} {o} {w} {v} {m}
 pub compare_full : (has_or : Bool) (n : ℕ) {has_and any : Bool} {added : Option Formula} {stack new : List Formula} → Appends has_and any added stack new → length stack ≡ count has_and + (count has_or + n) → length new ≡ count any + (count has_or + n)
 compare_full has_or n a full = omega (arith, full, a.length_is)
 
--- `or` stands behind an atom
+-- `or` follows an atom
 pub or_same : (gs : List Group) {has_or has_and any : Bool} {stack new : List Formula} {i t b : List ℕ} {w : List MarkerWarningKind} →
     IsJoined symbols.or or_of has_or has_and any stack new → t ≡ after_space i → Run NotSpace t (codes "or") b → (f : Option Formula) (k : List MarkerWarningKind) →
     After (Outer has_or has_and stack gs) (Ors has_or has_and stack) (Ands has_or has_and stack) i w f k ↔ Before (outer_of (reverse gs) (below any new)) (top_if any new) None b w f k
@@ -190,7 +190,7 @@ module _ (r : Reader) (sound : IsSound r) where
       IsJoined symbols.or or_of r.has_or r.has_and any (stack_in r) (stack_of new)
   ored any new put is = join_stack symbols.or or_of joins_or r.has_or r.has_and any _ _ (omega (arith, sound.full)) (joined_tokens (r.has_or && r.has_and) tokens.Or r.tokens.items new put) is
 
-  -- and that by an `and` with what stands before the parenthesis
+  -- and that by an `and` with what is before the parenthesis
   pub anded : (gs : List Group) (g : Group) → r.groups.items ≡ gs ++ (g ∷ []) → (whole any : Bool) (mid new : List Token) → IsJoined symbols.or or_of r.has_or r.has_and whole (stack_in r) (stack_of mid) →
       new ≡ (if g.has_and && whole then mid ++ (tokens.And ∷ []) else mid) → any ≡ (g.has_and || whole) → IsJoined symbols.and and_of g.has_and whole any (stack_of mid) (stack_of new)
   anded gs g popped whole any mid new joined put is =

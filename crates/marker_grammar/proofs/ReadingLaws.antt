@@ -41,7 +41,7 @@ after_of (next_and s r (before a (goes rest more e))) = goes (one_and s r a rest
 after_of (next_or s r (before a (goes rest more e))) = goes no_and (one_or s r (and a rest) more) e
 after_of (next_end e) = goes no_and no_or e
 
--- where a parenthesis stands, no comparison does
+-- a parenthesis does not begin a comparison
 no_comparison_opens : {i o a : List ℕ} {m : Meaning} → Compared i o m → after_space i ≡ 40 ∷ a → ⊥
 no_comparison_opens (compared s means) e = sides_begins s e
 
@@ -76,7 +76,7 @@ pub no_atom : {outer : List Level} {ors ands : Option Formula} {i t : List ℕ} 
 no_atom e plain nothing (before (group s body closing) after) = plain _ (e ∙ spaces_end s refl)
 no_atom e plain nothing (before (comparison c) after) = nothing _ _ c
 
--- What stands behind an atom, past white space, decides how the reading goes on.
+-- The text after an atom, without white space, decides how parsing goes on.
 run_at : {a b t i r : List ℕ} {c : ℕ} → t ≡ after_space i → Spaces i a → Run NotSpace a (c ∷ r) b → holds Space c ≡ false → Run NotSpace t (c ∷ r) b
 run_at {b = b} {r = r} {c = c} e s run plain = subst (λ (x : List ℕ). Run NotSpace x (c ∷ r) b) (sym (e ∙ spaces_end s (trimmed_by_run run plain))) run
 
@@ -143,7 +143,7 @@ end_on {ors} {ands} {i} {t} {w} {f} {k} e ends after = go (next_of after)
 pub end_back : {ors ands : Option Formula} {i t : List ℕ} {w : List MarkerWarningKind} {f : Option Formula} {k : List MarkerWarningKind} → t ≡ after_space i → t ≡ [] → or_of ors ands ≡ f → w ≡ k → After [] ors ands i w f k
 end_back {i = i} e ends same kinds = after_of (next_end (ended (subst (Spaces i) (sym e ∙ ends) (spaces_all i)) same kinds))
 
--- nothing that may follow stands there
+-- nothing that may follow is there
 pub fault_inside : {outer : List Level} {outside : Level} {ors ands : Option Formula} {i t : List ℕ} {w : List MarkerWarningKind} {f : Option Formula} {k : List MarkerWarningKind} → t ≡ after_space i → NoKeyword t → ((a : List ℕ) → t ≢ 41 ∷ a) → After (outside ∷ outer) ors ands i w f k → ⊥
 fault_inside {outer} {outside} {ors} {ands} {i} {t} {w} {f} {k} e nothing unclosed after = go (next_of after)
   where

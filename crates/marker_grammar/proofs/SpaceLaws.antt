@@ -1,4 +1,4 @@
--- A comparison stands behind white space where it stands in front of it.
+-- A comparison after white space is one before it.
 use Rattle.std.proofs.Common.{◌≡◌, ℕ, List, sym, ap, ◌∙◌, subst}
 use Rattle.pep508_text.specs.Run.{after_space}
 use Rattle.pep508_text.specs.declared.classes.Class.TheVariants.{Space}
@@ -8,7 +8,7 @@ use Rattle.marker_words.specs.Lexical.{Value, IsValue, Sides}
 use Rattle.marker_words.proofs.LexicalLaws.{sides_at, sides_from}
 use Rattle.marker_parts.specs.Comparison.{Meaning, Compared, compared}
 
--- two texts between which there is white space alone
+-- two texts with only white space between them
 moved : (i t : List ℕ) {o : List ℕ} {l r : Value} {p : MarkerOperator} → after_space i ≡ after_space t → Sides i o l p r → Sides t o l p r
 moved i t {l = l} e d =
     let a = sides_at d in

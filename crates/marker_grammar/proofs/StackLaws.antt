@@ -16,7 +16,7 @@ stack_from-push stack (y ∷ xs) x = stack_from-push (stack_after y stack) xs x
 pub stack_of-push : (ts : List Token) (t : Token) → stack_of (ts ++ (t ∷ [])) ≡ stack_after (symbol_of t) (stack_of ts)
 stack_of-push ts t = ap (stack_from []) (map_push symbol_of ts t) ∙ stack_from-push [] (map symbol_of ts) (symbol_of t)
 
--- what a connective makes of two formulas, either of which may be nothing
+-- what a connective makes of two formulas, either of which may be missing
 module _ (connective : Symbol) (joined_of : Option Formula → Option Formula → Option Formula) where
   -- the two on top are joined
   pub record Joins : Type 0 where
@@ -24,7 +24,7 @@ module _ (connective : Symbol) (joined_of : Option Formula → Option Formula �
     pub left : (f : Option Formula) → joined_of f None ≡ f
     pub right : (f : Option Formula) → joined_of None f ≡ f
 
-  -- what two lists may have is joined, and stands on top if any of it is there
+  -- the formulas of two lists are joined, and the result is on top if either exists
   pub record IsJoined (first second any : Bool) (old new : List Formula) : Type 0 where
     pub top : top_if any new ≡ joined_of (top_if first (below second old)) (top_if second old)
     pub rest : below any new ≡ below first (below second old)
@@ -82,7 +82,7 @@ append_some has_and any t old mid new fits put same is =
       length_is = omega (arith, j.length_is, grown);
     }
 
--- where no list but the outermost is left, the formula on top is the whole
+-- if only the outermost list is left, the formula on top is the whole
 pub top_is : (any : Bool) (stack : List Formula) → length stack ≡ count any → top_of stack ≡ top_if any stack
 top_is true stack e = refl
 top_is false [] e = refl

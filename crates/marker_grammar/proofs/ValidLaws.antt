@@ -17,7 +17,7 @@ use Rattle.marker_grammar.specs.declared.formula.Token.{Token}
 use Rattle.marker_grammar.specs.Postfix.{Symbol, symbol_of}
 use Rattle.marker_grammar.specs.Valid.{is_valid, is_valid_symbol, are_valid, IsValid}
 
--- what a comparison asks
+-- the test of a comparison
 abbrev Valid : Option Test → Type 0
 Valid asked = IfSome asked (λ t. is_valid t ≡ true)
 
@@ -110,7 +110,7 @@ valid_push (x ∷ xs) s all one = both_true _ _ (first_of _ _ all) (valid_push x
 pub valid_put : (ts : List Token) (t : Token) → IsValid ts → is_valid_symbol (symbol_of t) ≡ true → IsValid (ts ++ (t ∷ []))
 valid_put ts t all one = ap are_valid (map_push symbol_of ts t) ∙ valid_push (map symbol_of ts) (symbol_of t) all one
 
--- or a connective, where it is put
+-- or a connective, if it is put
 pub valid_join : (both : Bool) (t : Token) (old : List Token) {new : List Token} → new ≡ (if both then old ++ (t ∷ []) else old) → is_valid_symbol (symbol_of t) ≡ true → IsValid old → IsValid new
 valid_join true t old put one all = subst IsValid (sym put) (valid_put old t all one)
 valid_join false t old put one all = subst IsValid (sym put) all

@@ -1,8 +1,8 @@
--- The grammar of marker texts, and what each derivation says (PEP 508, "Grammar", in which a
--- keyword may end at a parenthesis: here it is the longest run of characters without white space,
--- so that `and(` is none). Each relation goes from what is left of the text before a part, and the
--- kinds of warnings so far, to both behind the part. The last argument is the part's formula, or
--- nothing where all of it is dropped.
+-- The grammar of marker texts, and the formula of each derivation (PEP 508, "Grammar", in which a
+-- keyword may end at a parenthesis; here it is the longest run of characters other than white
+-- space, so that `and(` is not one). Each relation goes from the text before a part, and the kinds
+-- of warnings so far, to both after the part. The last argument is the part's formula, or nothing
+-- if all of it is dropped.
 use Rattle.std.specs.Prelude.{◌≡◌, ℕ, List, [], ◌∷◌, ◌++◌, Option, codes}
 use Rattle.std.specs.Str.{chars}
 use Rattle.pep508_text.specs.Run.{Run, Spaces}
@@ -23,7 +23,7 @@ mutual
     comparison : {input output : List ℕ} {kinds : Kinds} {m : Meaning} →
         Compared input output m → Atom input kinds output (kinds ++ m.kinds) (of_test m.test)
 
-  -- any number of times `and` and an atom, behind a first part
+  -- any number of times `and` and an atom, after a first part
   pub data AndRest : Option Formula → List ℕ → Kinds → List ℕ → Kinds → Option Formula →
       Type 0 where
     no_and : {f : Option Formula} {input : List ℕ} {kinds : Kinds} →
@@ -38,7 +38,7 @@ mutual
         Atom input kinds a kinds' f → AndRest f a kinds' output kinds'' g →
         And input kinds output kinds'' g
 
-  -- any number of times `or` and an `And`, behind a first part
+  -- any number of times `or` and an `And`, after a first part
   pub data OrRest : Option Formula → List ℕ → Kinds → List ℕ → Kinds → Option Formula →
       Type 0 where
     no_or : {f : Option Formula} {input : List ℕ} {kinds : Kinds} →

@@ -54,7 +54,7 @@ abbrev pub all_fit : List Formula → List Symbol → Bool
 all_fit stack [] = true
 all_fit stack (symbol ∷ symbols) = fits symbol stack && all_fit (stack_after symbol stack) symbols
 
--- each connective joins two formulas that stand before it
+-- each connective joins two formulas before it
 abbrev pub IsPostfix : List Token → Type 0
 IsPostfix ts = all_fit [] (map symbol_of ts) ≡ true
 

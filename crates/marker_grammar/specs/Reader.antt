@@ -1,4 +1,4 @@
--- What a reader stands for: which readings of the whole text its state leaves.
+-- The meaning of a parser's state: which results for the whole text are still possible.
 use Rattle.std.specs.Prelude.{◌≡◌, ◌↔◌, ℕ, ◌+◌, Bool, List, [], ◌∷◌, Option, reverse, length, All}
 use Rattle.std.specs.Str.{chars}
 use Rattle.pep508_text.specs.Suffix.{IsSuffix}
@@ -54,8 +54,8 @@ module _ (r : Reader) where
   abbrev pub formula_in : Option Formula
   formula_in = top_of stack_in
 
-  -- as many formulas stand on the stack as the lists have, none was lost, no test compares texts by
-  -- `~=`, and what is left and each open parenthesis stand in the text
+  -- the stack has as many formulas as the lists, none was lost, no test compares texts by `~=`, and
+  -- the rest and each open parenthesis are at the end of the text
   pub record IsSound : Type 0 where
     pub full : length stack_in ≡ count r.has_and + (count r.has_or + total (reverse r.groups.items))
     pub postfix : IsPostfix r.tokens.items
@@ -80,7 +80,7 @@ abbrev pub LeavesOne : Reader → Reader → Type 0
 LeavesOne r s = (f : Option Formula) (k : Kinds) →
     MayRead wanted.Rest r f k ↔ ((formula_in s ≡ f) × (s.kinds.items ≡ k))
 
--- what is left of a text may end it, where these lists are open
+-- the rest of a text may end it, with these lists open
 abbrev pub EndsAtom : Option Formula → Option Formula → List ℕ → Kinds → List Level → Type 0
 EndsAtom ors ands input kinds outer =
     (f : Option Formula) × ((k : Kinds) × Before outer ors ands input kinds f k)
@@ -93,8 +93,8 @@ abbrev pub MayEnd : Wanted → Reader → List Level → Type 0
 MayEnd wanted.Atom r = EndsAtom (ors_in r) (ands_in r) (chars r.rest.now) r.kinds.items
 MayEnd wanted.Rest r = EndsRest (ors_in r) (ands_in r) (chars r.rest.now) r.kinds.items
 
--- Each parenthesis, the innermost first, opens a marker where what is left may end the text with no
--- other parenthesis open but those inside it.
+-- Each parenthesis, the innermost first, opens a marker if the rest may end the text with no other
+-- parenthesis open but those inside it.
 abbrev pub AllOpen : (List Level → Type 0) → List Group → List Formula → Type 0
 AllOpen May [] stack = Unit {0}
 AllOpen May (g ∷ groups) stack =

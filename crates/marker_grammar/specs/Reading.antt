@@ -16,7 +16,7 @@ pub record Level : Type 0 where
   pub ands : Option Formula
 
 mutual
-  -- behind an atom
+  -- after an atom
   pub data After : List Level → Option Formula → Option Formula → List ℕ → Kinds →
       Option Formula → Kinds → Type 0 where
     goes : {outer : List Level} {ors ands g h f : Option Formula} {input a output : List ℕ}
@@ -24,7 +24,7 @@ mutual
         AndRest ands input kinds a kinds' g → OrRest (or_of ors g) a kinds' output kinds'' h →
         Ends outer output kinds'' h f k → After outer ors ands input kinds f k
 
-  -- behind an `or`: the text ends, or its parenthesis closes and the one outside goes on
+  -- after an `or`: the text ends, or its parenthesis closes and the outer one continues
   pub data Ends : List Level → List ℕ → Kinds → Option Formula →
       Option Formula → Kinds → Type 0 where
     ended : {input : List ℕ} {kinds k : Kinds} {g f : Option Formula} →
@@ -34,7 +34,7 @@ mutual
         Spaces input (41 ∷ a) → After outer outside.ors (and_of outside.ands g) a kinds f k →
         Ends (outside ∷ outer) input kinds g f k
 
--- where an atom is wanted
+-- before an atom
 pub data Before : List Level → Option Formula → Option Formula → List ℕ → Kinds →
     Option Formula → Kinds → Type 0 where
   before : {outer : List Level} {ors ands g f : Option Formula} {input output : List ℕ}

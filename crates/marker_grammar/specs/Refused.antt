@@ -12,7 +12,7 @@ use Rattle.marker_grammar.specs.Grammar.{Reads}
 abbrev pub IsMarker : List ℕ → Type 0
 IsMarker text = (f : Option Formula) × ((k : List MarkerWarningKind) × Reads text f k)
 
--- a text that begins with a parenthesis, and behind it a marker stands, to its end
+-- a text that begins with a parenthesis, and the rest of it is a marker
 abbrev pub OpensMarker : List ℕ → Type 0
 OpensMarker text = (back : List ℕ) → text ≡ encode_utf8 40 ++ back → IsMarker back
 
@@ -20,8 +20,8 @@ OpensMarker text = (back : List ℕ) → text ≡ encode_utf8 40 ++ back → IsM
 abbrev pub IsNoMarker : List ℕ → Type 0
 IsNoMarker text = (f : Option Formula) (k : List MarkerWarningKind) → Reads text f k → ⊥
 
--- a fault that is true of the text: a parenthesis is not closed where a marker stands behind it, to
--- the end of the text
+-- a fault that is true of the text; a parenthesis is not closed if a marker follows it, to the end
+-- of the text
 abbrev pub IsTextFault : List ℕ → Fault → Type 0
 IsTextFault = IsFault IsMarker
 

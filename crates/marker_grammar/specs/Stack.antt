@@ -1,9 +1,9 @@
--- Lists of formulas that may have one yet: their formulas stand on a stack, one above another.
+-- Lists that may have a formula so far: their formulas are on a stack.
 use Rattle.std.specs.Prelude.{◌≡◌, ℕ, ◌+◌, Bool, true, false, List, [], ◌∷◌, Option, None, length}
 use Rattle.marker_grammar.specs.Formula.{Formula, and_of}
 use Rattle.marker_grammar.specs.Postfix.{top_of}
 
--- the formula of a list that may have one: it stands on top of the stack if it does
+-- the formula of a list that may have one: on top of the stack if it has
 abbrev pub top_if : Bool → List Formula → Option Formula
 top_if true stack = top_of stack
 top_if false stack = None

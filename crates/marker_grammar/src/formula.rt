@@ -1,4 +1,4 @@
-//! A formula as one flat list, so that neither its drop nor any walk over it calls itself.
+//! A formula as one flat list, so that neither dropping it nor walking over it is recursive.
 
 ghost use Rattle.std.specs.Prelude.{◌≡◌, ◌≤◌, ◌++◌, ◌∷◌, [], ◌&&◌, ◌||◌, if◌then◌else◌, length, option_map, true, IfOk, IfSome, OnOk};
 ghost use Rattle.marker_parts.specs.Expression.{test_of};
@@ -21,8 +21,8 @@ pub enum Token {
     Or,
 }
 
-/// A formula in postfix order. A formula of which nothing is left has no tokens. None of its
-/// comparisons is one of texts by `~=`: a reader drops those.
+/// A formula in postfix order. It is empty if all comparisons were dropped. None of its comparisons
+/// is one of texts by `~=`: the parser drops those.
 #[derive(Debug, Drop)]
 pub struct FlatFormula {
     pub(crate) tokens: Vec<Token>,
@@ -31,8 +31,8 @@ pub struct FlatFormula {
 }
 
 impl FlatFormula {
-    /// The tokens in postfix order: each connective joins two formulas that stand before it, and
-    /// one formula is left, or nothing.
+    /// Returns the tokens in postfix order: each connective joins the two formulas before it, and
+    /// at most one formula is left.
     pub fn into_tokens(self) -> Vec<Token>
         ensures tokens { result ≡ self.tokens }
         ensures whole { IsWhole result.items }
@@ -44,7 +44,7 @@ impl FlatFormula {
     }
 }
 
-// Joins the last two formulas of a list by `and` where both are there, and tells whether one is.
+// Joins the last two formulas of a list by `and` if both exist. Returns whether one exists then.
 pub(crate) fn join_and(
     tokens: &mut Vec<Token>,
     first: bool,
@@ -60,7 +60,7 @@ pub(crate) fn join_and(
     Ok(first || second)
 }
 
-// The same by `or`.
+// Joins the last two formulas of a list by `or` if both exist. Returns whether one exists then.
 pub(crate) fn join_or(
     tokens: &mut Vec<Token>,
     first: bool,
@@ -76,8 +76,8 @@ pub(crate) fn join_or(
     Ok(first || second)
 }
 
-// Adds an expression to an `and` that may have a formula yet, and tells whether it has one then.
-// Nothing is added where a comparison is dropped.
+// Adds an expression to an `and` that may be empty so far, unless the comparison was dropped.
+// Returns whether the `and` has a formula then.
 pub(crate) fn append(
     tokens: &mut Vec<Token>,
     has_and: bool,

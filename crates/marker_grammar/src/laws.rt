@@ -4,7 +4,7 @@ ghost use Rattle.pep508_errors.specs.declared.warning.MarkerWarningKind.{MarkerW
 ghost use Rattle.marker_grammar.specs.Formula.{Formula};
 ghost use Rattle.marker_grammar.specs.Grammar.{Reads, IsOnlyReading};
 
-/// A text says one formula at most, or nothing, and has one list of warnings.
+/// A text denotes at most one formula, which may be empty, with one list of warnings.
 pub fn text_says_one_formula()
     ensures { (text : List ℕ) (f : Option Formula) (kinds : List MarkerWarningKind) →
         Reads text f kinds → IsOnlyReading text f kinds }

@@ -1,4 +1,5 @@
-//! Marker texts (PEP 508, "Environment Markers"): how a whole text is read, and what it says.
+//! The grammar of marker texts (PEP 508, "Environment Markers"): its parser, and the formula of a
+//! text.
 #![tactic(auto)]
 
 mod formula;

@@ -1,5 +1,5 @@
-//! The reader of marker texts. It keeps its open parentheses, and what their `or` and `and` have so
-//! far, in a list of its own and never calls itself.
+//! The parser of marker texts. It keeps open parentheses, and what their `or` and `and` have so
+//! far, in a list of its own, and is not recursive.
 
 ghost use Rattle.std.specs.Prelude.{◌≡◌, ◌<◌, List, ℕ, Some, slice_get, [], IfOk, IfSome, IfNone, IfErr, OnOk, length};
 ghost use Rattle.std.specs.Prelude.{◌⊎◌, ◌≢◌, ◌++◌, ◌∷◌};
@@ -10,14 +10,14 @@ ghost use Rattle.marker_grammar.specs.First.{BeginsWith};
 ghost use Rattle.marker_grammar.specs.Refused.{IsTextFault, OpensMarker};
 
 use crate::formula::{FlatFormula, Token, append, join_and, join_or};
-use marker_parts::{ComparisonError, read_comparison};
+use marker_parts::internal::{ComparisonError, read_comparison};
 use marker_words::{Fault, FaultKind, Keyword, keyword};
 use pep508_errors::MarkerWarningKind;
 use pep508_text::{Place, first, last, skip_space, strip};
 use std::alloc::{AllocError, Global};
 
-// An open parenthesis: the text from it on, and whether the `or` and the `and` that it stands in
-// have a formula yet.
+// An open parenthesis: the text from it on, and whether the `or` and the `and` around it have a
+// formula yet.
 #[derive(Clone, Copy, Debug)]
 pub struct Group<'a> {
     pub text: &'a str,
@@ -26,15 +26,14 @@ pub struct Group<'a> {
     ghost opens: { slice_get (chars text.now) 0 ≡ Some 40 },
 }
 
-// What may stand next: an atom, or what follows one.
+// What is expected next: an atom, or what follows one.
 #[derive(Clone, Copy, Debug, PartialEq, Eq)]
 pub enum Wanted {
     Atom,
     Rest,
 }
 
-// A text that is read so far: the formulas of all lists that are not finished stand in `tokens`,
-// one after another.
+// The state of the parser. `tokens` has the formulas of all unfinished lists, one after another.
 #[derive(Debug, Drop)]
 pub struct Reader<'a> {
     pub text: &'a str,
@@ -46,8 +45,8 @@ pub struct Reader<'a> {
     pub kinds: Vec<MarkerWarningKind>,
 }
 
-// Where a text goes on by a character in place of a keyword or its end. The last character is left
-// out of the span.
+// The fault of a character in place of a keyword or the end. The span ends before the last
+// character.
 fn unexpected_fault(text: &str, found: char) -> Fault<'_>
     requires begins { BeginsWith found text.now }
     requires some { chars text.now ≢ [] }
@@ -59,7 +58,7 @@ fn unexpected_fault(text: &str, found: char) -> Fault<'_>
     }
 }
 
-// What is wrong where the parenthesis should close. At the end of the text the fault stands at the
+// The fault where a parenthesis should close. At the end of the text it is at the opening
 // parenthesis.
 fn unclosed_fault<'a>(text: &'a str, group: &'a str) -> Fault<'a>
     requires { slice_get (chars group.now) 0 ≡ Some 40 }
@@ -76,7 +75,7 @@ fn unclosed_fault<'a>(text: &'a str, group: &'a str) -> Fault<'a>
     }
 }
 
-// Opens a parenthesis. A refused one leaves the list as it was.
+// Opens a parenthesis. After an error the list is as it was.
 fn open<'a>(groups: &mut Vec<Group<'a>>, group: Group<'a>) -> Result<(), AllocError>
     ensures { OnOk result (groups.new.items ≡ groups.old.items ++ group.entry ∷ []) }
 {
@@ -90,7 +89,7 @@ impl<'a> Reader<'a> {
     ghost use Rattle.marker_grammar.specs.Reader as half;
     ghost use Rattle.marker_grammar.specs.Reader.{IsSound, IsOpened, LeavesReadings, LeavesOne};
 
-    // An open parenthesis, or a comparison.
+    // Parses an open parenthesis or a comparison.
     fn atom(&mut self, alloc: Global) -> Result<Wanted, ComparisonError<'a>>
         requires { IsSound self.old }
         ensures sound { OnOk result (IsSound self.new) }
@@ -120,8 +119,8 @@ impl<'a> Reader<'a> {
         Ok(Wanted::Rest)
     }
 
-    // What follows an atom: a keyword, a closing parenthesis, or the end of the text, which gives
-    // None.
+    // Parses what follows an atom: a keyword, a closing parenthesis, or the end of the text, for
+    // which it returns `None`.
     fn follow(&mut self) -> Result<Option<Wanted>, ComparisonError<'a>>
         requires { IsSound self.old }
         ensures sound { IfOk result (λ next. IfSome next (λ _. IsSound self.new)) }
@@ -168,11 +167,11 @@ impl<'a> Reader<'a> {
     }
 }
 
-/// What a marker text is read as.
+/// The result of parsing a marker text.
 #[derive(Debug, Drop)]
 pub struct Reading {
-    /// Its comparisons, joined as the text joins them, without those that are dropped. Where all of
-    /// them are, the formula is empty.
+    /// Its comparisons, joined as in the text, without those that are dropped. It is empty if all
+    /// are.
     pub formula: FlatFormula,
     /// The kinds of its warnings, in the order of the text.
     pub kinds: Vec<MarkerWarningKind>,
@@ -182,16 +181,19 @@ ghost use Rattle.marker_grammar.specs.Grammar.{Reads, IsOnlyReading};
 ghost use Rattle.marker_grammar.specs.Flat.{formula_of};
 ghost use Rattle.marker_grammar.specs.Refused.{IsRefusal};
 
-/// Reads a whole marker text (PEP 508, "Grammar"): exactly those of the grammar, each as its
-/// formula with the kinds of its warnings. Every other text is refused with its fault, and any text
-/// may be refused for want of memory.
+/// Parses a whole marker text (PEP 508, "Grammar"). Accepts exactly the texts of the grammar, and
+/// returns the formula with the kinds of its warnings.
+///
+/// # Errors
+/// - The fault, if the text is not in the grammar.
+/// - `OutOfMemory` when memory runs out.
 pub fn read(alloc: Global, text: &str) -> Result<Reading, ComparisonError<'_>>
     ensures found { IfOk result (λ r. Reads text.now (formula_of r.formula) r.kinds.items) }
     ensures only { IfOk result (λ r.
         IsOnlyReading text.now (formula_of r.formula) r.kinds.items) }
     ensures err { IfErr result (IsRefusal text.now) }
 {
-    // Three comparisons and what joins them.
+    // Three comparisons and two connectives.
     let tokens = Vec::with_capacity(alloc, 5)?;
     let mut reader = Reader {
         text,

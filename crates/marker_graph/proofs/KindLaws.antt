@@ -65,7 +65,7 @@ other_constant c t h e n = by_sign (is_negated t.id) refl
 
 -- ---- subtrees
 
--- an id that asks about variables after x depends on such alone
+-- an id on variables after x depends only on such
 depends_later : (c : Contents) → IsStore markers c.nodes → (x : Variable) (s : MarkerTree) → IsAfter markers c.nodes x s.id → (y : Variable) → DependsOn (truth c s) y → variable_cmp x y ≡ Less
 depends_later c store x s after y h = by_order (variable_cmp x y) refl
   where
@@ -226,7 +226,7 @@ module _ (c : Contents) (store : IsStore markers c.nodes) (t : MarkerTree) (held
   edges_of_kind (kinds.Contains view) h = boolean_edges_mean (questions.Contains view.variable view.text.now) view.high view.low h
   edges_of_kind (kinds.Extra view) h = boolean_edges_mean (extra_question view.name) view.high view.low h
 
--- a kind that asks for a truth shows the node that does
+-- a kind of a substring test or an extra shows the node that branches on it
 pub truth_shown : (c : Contents) (t : MarkerTree) (x : TruthVariable) (so other : NodeId) (high low : MarkerTree) (kind : MarkerTreeKind) → node_of c t ≡ Some (Truth x so other) → high ≡ child_of t so → low ≡ child_of t other →
     IsKindOfTruth x high low kind → IsKind c t kind
 truth_shown c t x so other high low kinds.True e f g h = absurd h

@@ -1,4 +1,5 @@
 pub mod CountLaws
+pub mod KeptLaws
 pub mod KindLaws
 pub mod ShownLaws
 pub mod SortedNames

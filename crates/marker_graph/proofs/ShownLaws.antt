@@ -37,7 +37,7 @@ use Rattle.marker_graph.proofs.TextParts.{text_parts}
 
 -- ---- what is shown is a subtree
 
--- where an edge leads, there is a subtree
+-- an edge leads to a subtree
 led : (c : Contents) → IsStore markers c.nodes → (t : MarkerTree) → IsHeld c t → (kind : MarkerTreeKind) → IsKind c t kind → (s : MarkerTree) → LeadsTo kind s → IsSubtree c t s
 led c store t i kinds.True k s h = absurd h
 led c store t i kinds.False k s h = absurd h

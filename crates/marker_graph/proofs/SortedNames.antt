@@ -1,4 +1,4 @@
--- A name is found in a list that is in order exactly where it is one of the list.
+-- A name is found in a sorted list exactly if it is in the list.
 use Rattle.std.proofs.Common.{◌≡◌, ℕ, ◌<◌, Bool, true, false, List, [], ◌∷◌, length, map, Result, Ok, Err, refl, ap, sym, inl, inr, ◌∙◌, ◌||◌, arith, bytes_eq}
 use Rattle.std.specs.Borrow.{Bor}
 use Rattle.std.specs.Cmp.Lexicographic.{slice_cmp, texts_ties, nat_list_cmp_total}
@@ -26,7 +26,7 @@ found_at key x [] i inside equal = absurd (omega arith)
 found_at key x (y ∷ ys) i inside equal =
     list_any_at (λ z. bytes_eq (key z) x) (y ∷ ys) i y inside (same_by_order _ x Equal (equal y))
 
--- where all stand before or behind this text, none is found
+-- if all are before or after this text, none is found
 none_around : {X : Type 0} (key : X → List ℕ) (x : List ℕ) (xs : List X) (i : ℕ)
     → IsPartitionPoint (λ y. slice_cmp nat_cmp (key y) x ≡ Less)
     (λ y. slice_cmp nat_cmp (key y) x ≡ Greater) xs i
@@ -56,7 +56,7 @@ through_references p [] = refl
 through_references p (name ∷ names) =
     ap (λ b. p name.now || b) (through_references p names)
 
--- so it is where they point to these names, in another order
+-- this is true if they point to these names, in another order
 pub listed_in_order : (gathered sorted : List (Bor (List ℕ))) (names : List (List ℕ))
     → map (λ name. name.now) gathered ≡ names → IsPermutation gathered sorted
     → (name : List ℕ) → has_reference_to sorted name ≡ is_listed names name

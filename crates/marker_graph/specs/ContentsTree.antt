@@ -4,7 +4,7 @@ use Rattle.marker_graph.specs.declared.contents.MarkerTreeContents.{MarkerTreeCo
 use Rattle.marker_graph.specs.declared.tree.MarkerTree.{MarkerTree}
 use Rattle.marker_graph.specs.declared.tree.TheConstants.MarkerTree.{TRUE}
 
--- what contents stand for: `TRUE` where there are none
+-- the marker of contents: `TRUE` without any
 abbrev pub tree_of_contents : Option MarkerTreeContents → MarkerTree
 tree_of_contents None = TRUE
 tree_of_contents (Some contents) = contents.tree

@@ -31,7 +31,7 @@ by_bytes p = record {
   value = p.value;
 }
 
--- what an item lends
+-- an edge without its references
 abbrev pub version_edge : Bound (Bor Parts) × Bound (Bor Parts) × MarkerTree → Part Parts MarkerTree
 version_edge e = record {
   lower = bound_map (λ v. v.now) e.0;

@@ -1,4 +1,4 @@
--- What a marker asks first, and what its edges mean.
+-- The variable on which a marker branches, and what its edges mean.
 use Rattle.std.specs.Prelude.{◌≡◌, ◌≢◌, ◌⊎◌, ℕ, ◌+◌, ◌<◌, ⊤, Bool, true, false, List, [], ◌∷◌, map, Some, slice_get}
 use Rattle.std.specs.Ordering.{is_lt}
 use Rattle.std.specs.declared.cmp.Ordering.{Ordering}
@@ -44,8 +44,8 @@ modern_key PlatformSystem = keys.PlatformSystem
 modern_key PlatformVersion = keys.PlatformVersion
 modern_key SysPlatform = keys.SysPlatform
 
--- the edges of a view, in order: those of texts by their bytes, and where it is so before where it
--- is not
+-- the edges of a view, in order: those of texts by their bytes, and the one for true before the one
+-- for false
 abbrev pub version_edges : VersionMarkerTree → List (Part Parts MarkerTree)
 version_edges view = map (under view.tree) (parts_of view.cuts.now)
 
@@ -55,14 +55,14 @@ string_edges view = map (λ p. by_bytes (under view.tree p)) (parts_of view.cuts
 abbrev pub boolean_edges : MarkerTree → MarkerTree → List (Bool × MarkerTree)
 boolean_edges high low = (true, high) ∷ (false, low) ∷ []
 
--- what is asked beside `extra`
+-- the variable of `extra` and a name or text
 abbrev pub extra_question : MarkerValueExtraRef → TruthVariable
 extra_question (extras.Extra name) = questions.Extra name.now
 extra_question (extras.Arbitrary text) = questions.Arbitrary text.now
 
 -- ---- which node is shown
 
--- the marker's node asks for a truth and has these subtrees
+-- the marker's node branches on a substring test or an extra, and has these subtrees
 abbrev pub AsksForTruth : Contents → MarkerTree → TruthVariable → MarkerTree → MarkerTree → Type 0
 AsksForTruth c t x high low = (so : NodeId) × (other : NodeId)
     × (node_of c t ≡ Some (nodes.Truth x so other))
@@ -89,7 +89,7 @@ pub record IsFirstVariable (f : Valuation → Bool) (x : Variable) : Type 0 wher
   pub depends : DependsOn f x
   pub none_before : (y : Variable) → DependsOn f y → is_lt (variable_cmp y x) ≡ false
 
--- the marker s is a subtree of t that asks about variables after x alone
+-- the marker s is a subtree of t that depends only on variables after x
 pub record IsBehind (c : Contents) (t : MarkerTree) (x : Variable) (s : MarkerTree) : Type 0 where
   pub subtree : IsSubtree c t s
   pub held : IsHeld c s
@@ -102,9 +102,9 @@ abbrev pub IsFixed : Contents → MarkerTree → Variable → Valuation → Mark
 IsFixed c t x v s = (w : Valuation)
     → truth c s w ≡ truth c t (diagram.with_variable markers x v w)
 
--- The edges of a marker that asks about the variable x first, whose values are points: their ranges
--- have points, ascend, lie apart and cover all points; each subtree is the marker's truth with the
--- variable fixed there and asks about later variables alone; neighbors have different subtrees.
+-- The edges of a marker that branches on the variable x, whose values are points. Their ranges are
+-- not empty, ascend, are disjoint and cover all points. Each subtree is the marker's truth with the
+-- variable fixed there, and depends only on later variables. Neighbors have different subtrees.
 pub record AreEdges {T : Type 0} (cmp : T → T → Ordering) (place : Valuation → Point T)
     (c : Contents) (t : MarkerTree) (x : Variable) (edges : List (Part T MarkerTree)) : Type 0 where
   pub first : IsFirstVariable (truth c t) x
@@ -126,7 +126,7 @@ pub record AreEdges {T : Type 0} (cmp : T → T → Ordering) (place : Valuation
   pub neighbors : (i : ℕ) (e f : Part T MarkerTree) → slice_get edges i ≡ Some e
       → slice_get edges (i + 1) ≡ Some f → e.value ≢ f.value
 
--- The two edges of a marker that asks first whether it is so: where it is, and where it is not.
+-- The two edges of a marker that branches on a substring test or an extra: for true, and for false.
 pub record AreBooleanEdges (c : Contents) (t : MarkerTree) (x : TruthVariable)
     (high low : MarkerTree) : Type 0 where
   pub first : IsFirstVariable (truth c t) (truth_variable x)
@@ -154,7 +154,7 @@ AreItsEdges c t (Contains view) =
 AreItsEdges c t (Extra view) =
     AreBooleanEdges c t (extra_question view.name) view.high view.low
 
--- the kind asks for a truth, and has these subtrees
+-- the kind is of a substring test or an extra, and has these subtrees
 abbrev pub IsKindOfTruth : TruthVariable → MarkerTree → MarkerTree → MarkerTreeKind → Type 0
 IsKindOfTruth x high low True = ⊥
 IsKindOfTruth x high low False = ⊥
@@ -181,7 +181,7 @@ LeadsTo (In view) s = (view.high ≡ s) ⊎ (view.low ≡ s)
 LeadsTo (Contains view) s = (view.high ≡ s) ⊎ (view.low ≡ s)
 LeadsTo (Extra view) s = (view.high ≡ s) ⊎ (view.low ≡ s)
 
--- the marker s is shown under t: t itself, or where an edge of a marker leads that is shown
+-- the marker s is shown under t: it is t, or the subtree at an edge of a marker that is shown
 pub data IsShown (c : Contents) (t : MarkerTree) : MarkerTree → Type 0 where
   itself : IsShown c t t
   edge : (s u : MarkerTree) (kind : MarkerTreeKind) → IsShown c t s → IsKind c s kind

@@ -9,3 +9,4 @@ pub mod ContentsTree
 pub use Rattle.marker_comparisons.specs.Expression
 pub use Rattle.marker_walks.specs.Possible
 pub use Rattle.marker_simplifications.specs.Python
+pub mod Mark

@@ -1,4 +1,4 @@
-//! Markers that say something.
+//! Markers that are not always true.
 
 ghost use Rattle.std.specs.Prelude.{◌≡◌, false, MatchOption};
 ghost use Rattle.marker_diagrams.specs.Id.{same_id};
@@ -6,7 +6,7 @@ ghost use Rattle.marker_diagrams.specs.declared.node_id.TheConstants.NodeId.{TRU
 
 use crate::tree::MarkerTree;
 
-/// A marker that is not `TRUE`, as it may stand behind the `;` of a requirement.
+/// A marker that is not `TRUE`, as it may follow the `;` of a requirement.
 #[derive(Clone, Copy, Debug, PartialEq, Eq, Hash)]
 pub struct MarkerTreeContents {
     tree: MarkerTree,
@@ -14,7 +14,8 @@ pub struct MarkerTreeContents {
 }
 
 impl MarkerTree {
-    /// The marker as the contents of a requirement, or `None` for `TRUE`, which says nothing.
+    /// Returns the marker as the contents of a requirement, or `None` for `TRUE`, which a
+    /// requirement leaves out.
     pub fn contents(self) -> Option<MarkerTreeContents>
         ensures { MatchOption result (self ≡ MarkerTree.TRUE) (λ contents. contents.tree ≡ self) }
     {
@@ -39,7 +40,7 @@ impl From<Option<MarkerTreeContents>> for MarkerTree {
 
     ghost from_gives = { λ contents tree. tree ≡ tree_of_contents contents };
 
-    /// The marker itself, and `TRUE` for no contents.
+    /// The marker itself, or `TRUE` without contents.
     fn from(contents: Option<MarkerTreeContents>) -> MarkerTree {
         match contents {
             Some(contents) => contents.tree,

@@ -1,4 +1,4 @@
-//! The edges of a marker, one after another.
+//! Iterators over the edges of a marker.
 
 use crate::tree::MarkerTree;
 use marker_nodes::NodeId;
@@ -6,7 +6,7 @@ use pep440_version::Version;
 use std::ops::Bound;
 use version_ranges::Pieces;
 
-/// The edges of a marker that asks about a version: lower bound, upper bound and subtree, in
+/// The edges of a marker that branches on a version: lower bound, upper bound and subtree, in
 /// ascending order.
 #[derive(Drop)]
 pub struct VersionEdges<'a> {
@@ -30,8 +30,8 @@ impl<'a> Iterator for VersionEdges<'a> {
     }
 }
 
-/// The edges of a marker that asks about a text: lower bound, upper bound and subtree, in ascending
-/// order.
+/// The edges of a marker that branches on a text: lower bound, upper bound and subtree, in
+/// ascending order.
 #[derive(Drop)]
 pub struct StringEdges<'a> {
     pub(crate) tree: MarkerTree,
@@ -54,8 +54,8 @@ impl<'a> Iterator for StringEdges<'a> {
     }
 }
 
-/// The edges of a marker that asks for a truth: the subtree where it is so, then the one where it
-/// is not.
+/// The edges of a marker that branches on a substring test or an extra: the subtree if it is true,
+/// then the one if it is false.
 #[derive(Drop)]
 pub struct BooleanEdges {
     pub(crate) high: Option<MarkerTree>,

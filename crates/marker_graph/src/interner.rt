@@ -1,4 +1,4 @@
-//! The nodes of many markers.
+//! Interners, which store the nodes of markers.
 
 ghost use Rattle.std.specs.Prelude.{◌≡◌, ◌↔◌, ◌<◌, ◌≤◌, ◌+◌, false, IfErr, IfOk, IsOk, IsTrue, OnOk};
 ghost use Rattle.std.specs.Fn.{FnReturnsAt};
@@ -20,8 +20,10 @@ ghost use Rattle.marker_conjunctions.specs.Step.{IsKnown, IsSettled, Remembers};
 ghost use Rattle.marker_comparisons.specs.Expression.{IsInvalid, IsTruthOf, IsUnmade};
 ghost use Rattle.marker_simplifications.specs.Python.{is_python_in};
 ghost use Rattle.marker_simplifications.specs.Simplified.{IsAssumed, IsGranted};
-ghost use Rattle.marker_graph.specs.Contents.{HasOnlyNodes, IsHeld, Separated};
+ghost use Rattle.marker_graph.specs.Contents.{Contents, HasOnlyNodes, HoldsTheSame, IsHeld, Separated};
+ghost use Rattle.marker_graph.specs.Mark.{IsMarkOf, released};
 
+use crate::mark::Mark;
 use crate::tree::MarkerTree;
 use marker_comparisons::{InvalidExpression, asks, expression};
 use marker_conjunctions::Conjunctions;
@@ -35,10 +37,12 @@ use std::alloc::{AllocError, Global};
 use std::marker::Model;
 use std::ops::Bound;
 
-/// The nodes of many markers, and the conjunctions that were computed.
+/// Stores the nodes of markers, each node once, and the conjunctions computed so far. So markers of
+/// one interner that mean the same have the same id.
 ///
-/// An interner only grows: what a marker means stays, also where a call is refused for want of
-/// memory.
+/// One interner serves any number of markers and requirements. A marker keeps its meaning as long
+/// as the interner holds its nodes. Only [`Interner::release`] removes nodes; dropping the interner
+/// frees all of them.
 ///
 /// ```
 /// let mut interner = Interner::new(alloc);
@@ -62,7 +66,7 @@ impl Model for Interner {
 }
 
 impl Interner {
-    /// An interner without nodes, which hashes by the fixed key and has room for 4,294,967,295
+    /// Returns an interner without nodes. It hashes by a fixed key and has room for 4,294,967,295
     /// pieces of nodes, the most that an interner can have.
     pub fn new(alloc: Global) -> Self
         ensures { result ≡ nothing }
@@ -70,27 +74,26 @@ impl Interner {
         Interner::with_key_and_room(alloc, [0, 0], usize::MAX)
     }
 
-    /// An interner without nodes, which hashes by a key: two random words. Who chooses what markers
-    /// say and does not know the key cannot make an interner slow.
+    /// Returns an interner without nodes, which hashes by a key of two random words. This protects
+    /// against markers that are chosen to make hashes collide.
     pub fn with_key(alloc: Global, key: [u64; 2]) -> Self
         ensures { result ≡ nothing }
     {
         Interner::with_key_and_room(alloc, key, usize::MAX)
     }
 
-    /// An interner without nodes, which has room for so many pieces of nodes, or for 4,294,967,295
-    /// if these are fewer. A node has a piece for each of its children.
+    /// Returns an interner without nodes, which has room for `pieces` pieces of nodes, at most
+    /// 4,294,967,295. A node has one piece for each of its children.
     ///
-    /// A call that would make a node for which there is no room is refused, as it is where there is
-    /// no memory for it. `pieces` and `room` tell a full interner from a full machine.
+    /// A call that would make a node beyond the room fails as when memory runs out.
+    /// [`Interner::has_met_room`] returns whether that has happened.
     pub fn with_room(alloc: Global, pieces: usize) -> Self
         ensures { result ≡ nothing }
     {
         Interner::with_key_and_room(alloc, [0, 0], pieces)
     }
 
-    /// An interner without nodes, which hashes by a key as that of `with_key` and has room as that
-    /// of `with_room`.
+    /// Returns an interner without nodes, with the key of `with_key` and the room of `with_room`.
     pub fn with_key_and_room(alloc: Global, key: [u64; 2], pieces: usize) -> Self
         ensures { result ≡ nothing }
     {
@@ -100,33 +103,71 @@ impl Interner {
         }
     }
 
-    /// How many pieces all nodes have. A node has one for each of its children.
+    /// Returns how many pieces the nodes have together. A node has one for each of its children.
     pub fn pieces(&self) -> usize
         ensures { result ≡ pieces_of self.now.nodes }
     {
         self.nodes.pieces()
     }
 
-    /// How many pieces all nodes may have.
+    /// Returns how many pieces the nodes may have together.
     pub fn room(&self) -> usize
         ensures { pieces_of self.now.nodes ≤ result }
     {
         self.nodes.room()
     }
 
-    /// Where the memory of the nodes is taken from.
+    /// Returns whether a node was ever refused for lack of room. Releasing nodes does not reset
+    /// this.
+    pub fn has_met_room(&self) -> bool {
+        self.nodes.has_met_room()
+    }
+
+    /// Returns how far the interner has grown, for [`Interner::release`].
+    pub fn mark(&self) -> Mark
+        ensures { IsMarkOf self.now result }
+    {
+        Mark {
+            nodes: self.nodes.len(),
+            known: self.conjunctions.known(),
+        }
+    }
+
+    /// Removes the nodes made since the mark and forgets the conjunctions computed since. The
+    /// pieces of those nodes are free again.
+    ///
+    /// Markers from before the mark keep their meaning; later ones are no longer held. If nothing
+    /// was released in between, the interner holds what it held at the mark.
+    ///
+    /// A mark is a number of nodes and of conjunctions. Any mark is accepted, even of another
+    /// interner or from before an earlier release: what is beyond those numbers is removed. All
+    /// conjunctions are forgotten if one that the mark keeps is about a removed node.
+    pub fn release(&mut self, mark: Mark)
+        ensures released { self.new ≡ released mark self.old }
+        ensures kept { IsKept self.new self.old }
+        ensures held { (t : MarkerTree) → IsHeld self.new t
+            ↔ (IsHeld self.old t × (place_of t.id ≤ mark.nodes)) }
+        ensures undone { (c : Contents) → IsMarkOf c mark → IsKept c self.old
+            → HoldsTheSame c self.new }
+    {
+        self.nodes.truncate(mark.nodes);
+        self.conjunctions.truncate(mark.known, mark.nodes);
+    }
+
+    /// Returns the allocator of the nodes.
     pub fn allocator(&self) -> Global {
         self.nodes.allocator()
     }
 
-    /// Whether the marker stands here. `TRUE` and `FALSE` stand in every interner.
+    /// Returns whether the interner holds the marker's node. Every interner holds `TRUE` and
+    /// `FALSE`.
     pub fn holds(&self, tree: &MarkerTree) -> bool
         ensures { IsTrue result ↔ IsHeld self.now tree.now }
     {
         self.nodes.holds(tree.id)
     }
 
-    /// Whether two markers mean the same. This takes no memory.
+    /// Returns whether two markers mean the same.
     pub fn equivalent(&self, a: MarkerTree, b: MarkerTree) -> bool
         requires a { IsHeld self.now a }
         requires b { IsHeld self.now b }
@@ -136,16 +177,16 @@ impl Interner {
         self.nodes.equivalent(a.id, b.id)
     }
 
-    /// How many conjunctions of nodes were computed. Where it has reached its greatest value it
-    /// stays there.
+    /// Returns how many conjunctions of nodes were computed. The count stays at its maximum once it
+    /// is there.
     pub fn expansions(&self) -> u64
         ensures { result ≡ self.now.expansions }
     {
         self.conjunctions.expansions()
     }
 
-    /// The nodes, which keep the rules of diagrams: for the crates that compare markers of two
-    /// interners.
+    /// Returns the nodes, which satisfy the rules of diagrams. For the crates that compare markers
+    /// of two interners.
     pub fn table(&self) -> &NodeTable
         ensures table { result.now ≡ self.now.nodes }
         ensures rules { IsStore markers self.now.nodes }
@@ -153,8 +194,8 @@ impl Interner {
         &self.nodes
     }
 
-    /// The nodes keep the rules of diagrams, and each conjunction that is known is one of nodes
-    /// that stand here. This is a law, and the call does nothing.
+    /// A law; the call does nothing. The nodes satisfy the rules of diagrams, and each known
+    /// conjunction is about nodes that the interner holds.
     pub fn keeps_the_rules(&self)
         ensures nodes { IsStore markers self.now.nodes }
         ensures known { IsWellKept self.now }
@@ -180,7 +221,7 @@ impl Interner {
         self.conjunctions.and(&mut self.nodes, a, b)
     }
 
-    // The id that is true where it is so.
+    // The id of a substring test or an extra.
     pub(crate) fn asks(&mut self, variable: TruthVariable) -> Result<NodeId, AllocError>
         ensures kept { IsKept self.old self.new }
         ensures conjunctions { HasOnlyNodes self.old self.new }
@@ -189,7 +230,7 @@ impl Interner {
         asks(&mut self.nodes, variable)
     }
 
-    // The id that is true where the comparison holds.
+    // The id of a comparison.
     pub(crate) fn expression(
         &mut self,
         comparison: MarkerExpression,
@@ -204,7 +245,7 @@ impl Interner {
         expression(&mut self.nodes, comparison)
     }
 
-    // The id that is true where the Python version lies between two bounds.
+    // The id that is true where the Python version is between two bounds.
     pub(crate) fn python_range(
         &mut self,
         lower: Bound<&Version>,
@@ -218,7 +259,7 @@ impl Interner {
         python_range(&mut self.nodes, lower, upper)
     }
 
-    // The id where the Python version is taken to lie in a range that has a point.
+    // The id, simplified given that the Python version is in a range that is not empty.
     pub(crate) fn assume_python_range(
         &mut self,
         id: NodeId,
@@ -236,7 +277,7 @@ impl Interner {
         assume_python_range(&mut self.nodes, id, lower, upper)
     }
 
-    // The id with the extras set true for which the closure answers so.
+    // The id with each extra set to true for which the closure returns `true`.
     pub(crate) fn grant_extras<F: Fn(&ExtraName) -> bool>(
         &mut self,
         is_extra: &F,

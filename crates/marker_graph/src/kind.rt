@@ -1,4 +1,4 @@
-//! What a marker asks first.
+//! The variable on which a marker branches, and its subtrees.
 
 ghost use Rattle.std.specs.Prelude.{◌≡◌, [], ◌∷◌, true, false, if◌then◌else◌, string_bytes};
 ghost use Rattle.marker_words.specs.Key.{version_variable_key};
@@ -15,26 +15,26 @@ use pep440_version::Version;
 use pep508_names::ExtraName;
 use version_ranges::Cuts;
 
-/// What a marker asks first, and its subtrees by the answer.
+/// The variable on which a marker branches, and its subtrees by the variable's values.
 #[derive(Drop)]
 pub enum MarkerTreeKind<'a> {
-    /// Nothing: the marker is true everywhere.
+    /// None: the marker is true everywhere.
     True,
-    /// Nothing: the marker is false everywhere.
+    /// None: the marker is false everywhere.
     False,
-    /// Which version the value of a key is.
+    /// A version key.
     Version(VersionMarkerTree<'a>),
-    /// Which text the value of a key is.
+    /// A text key.
     String(StringMarkerTree<'a>),
-    /// Whether the value of a key is part of a text.
+    /// A substring test `key in 'text'`.
     In(InMarkerTree<'a>),
-    /// Whether the value of a key has a text as a part.
+    /// A substring test `'text' in key`.
     Contains(ContainsMarkerTree<'a>),
-    /// Whether an extra is asked for.
+    /// An extra.
     Extra(ExtraMarkerTree<'a>),
 }
 
-/// A marker that asks about a version first.
+/// A marker that branches on a version.
 #[derive(Clone, Copy)]
 pub struct VersionMarkerTree<'a> {
     tree: MarkerTree,
@@ -42,7 +42,7 @@ pub struct VersionMarkerTree<'a> {
     cuts: &'a Cuts<Version, NodeId>,
 }
 
-/// A marker that asks about a text first.
+/// A marker that branches on a text.
 #[derive(Clone, Copy)]
 pub struct StringMarkerTree<'a> {
     tree: MarkerTree,
@@ -50,7 +50,7 @@ pub struct StringMarkerTree<'a> {
     cuts: &'a Cuts<String, NodeId>,
 }
 
-/// A marker that asks first whether the value of a key is part of a text.
+/// A marker that branches on `key in 'text'`.
 #[derive(Clone, Copy)]
 pub struct InMarkerTree<'a> {
     variable: TextVariable,
@@ -59,7 +59,7 @@ pub struct InMarkerTree<'a> {
     low: MarkerTree,
 }
 
-/// A marker that asks first whether the value of a key has a text as a part.
+/// A marker that branches on `'text' in key`.
 #[derive(Clone, Copy)]
 pub struct ContainsMarkerTree<'a> {
     variable: TextVariable,
@@ -68,7 +68,7 @@ pub struct ContainsMarkerTree<'a> {
     low: MarkerTree,
 }
 
-/// A marker that asks first whether an extra is asked for.
+/// A marker that branches on an extra.
 #[derive(Clone, Copy)]
 pub struct ExtraMarkerTree<'a> {
     name: MarkerValueExtraRef<'a>,
@@ -76,32 +76,32 @@ pub struct ExtraMarkerTree<'a> {
     low: MarkerTree,
 }
 
-/// What stands beside `extra`, lent.
+/// The text that `extra` is compared with, borrowed.
 #[derive(Clone, Copy)]
 pub enum MarkerValueExtraRef<'a> {
     /// A name of an extra.
     Extra(&'a ExtraName),
-    /// A text that is no name, which no list of extras has.
+    /// A text that is an invalid name, which no list of extras contains.
     Arbitrary(&'a String),
 }
 
 impl<'a> VersionMarkerTree<'a> {
-    /// The key whose value is asked for. `python_version` is none: what it says is asked of
-    /// `python_full_version`.
+    /// Returns the key of the variable. It is never `python_version`, whose comparisons are
+    /// comparisons of `python_full_version`.
     pub fn key(&self) -> MarkerValueVersion
         ensures { result ≡ version_variable_key self.now.variable }
     {
         self.variable.key()
     }
 
-    /// What the key asks about.
+    /// Returns the variable.
     pub fn variable(&self) -> VersionVariable
         ensures { result ≡ self.now.variable }
     {
         self.variable
     }
 
-    /// Lower bound, upper bound and subtree of each edge, in ascending order.
+    /// Returns the lower bound, upper bound and subtree of each edge, in ascending order.
     pub fn edges(&self) -> VersionEdges<'a>
         ensures { version_edges_left result ≡ version_edges self.now }
     {
@@ -111,14 +111,16 @@ impl<'a> VersionMarkerTree<'a> {
         }
     }
 
-    /// The subtrees by version, before the sign of the marker: `subtree` gives it to them.
+    /// Returns the children of the node by version. `subtree` applies the sign of the marker to
+    /// them.
     pub fn cuts(&self) -> &'a Cuts<Version, NodeId>
         ensures { result.now ≡ self.now.cuts.now }
     {
         self.cuts
     }
 
-    /// A child of the marker's node as a subtree of the marker: negated where the marker is.
+    /// Returns a child of the marker's node as a subtree of the marker: negated if the marker is a
+    /// negation.
     pub fn subtree(&self, child: NodeId) -> MarkerTree
         ensures { result ≡ child_of self.now.tree child }
     {
@@ -127,21 +129,21 @@ impl<'a> VersionMarkerTree<'a> {
 }
 
 impl<'a> StringMarkerTree<'a> {
-    /// The key whose value is asked for, in its modern spelling.
+    /// Returns the modern key of the variable.
     pub fn key(&self) -> MarkerValueString
         ensures { result ≡ modern_key self.now.variable }
     {
         key_of(self.variable)
     }
 
-    /// What the key asks about.
+    /// Returns the variable.
     pub fn variable(&self) -> TextVariable
         ensures { result ≡ self.now.variable }
     {
         self.variable
     }
 
-    /// Lower bound, upper bound and subtree of each edge, in ascending order.
+    /// Returns the lower bound, upper bound and subtree of each edge, in ascending order.
     pub fn children(&self) -> StringEdges<'a>
         ensures { string_edges_left result ≡ string_edges self.now }
     {
@@ -151,14 +153,15 @@ impl<'a> StringMarkerTree<'a> {
         }
     }
 
-    /// The subtrees by text, before the sign of the marker: `subtree` gives it to them.
+    /// Returns the children of the node by text. `subtree` applies the sign of the marker to them.
     pub fn cuts(&self) -> &'a Cuts<String, NodeId>
         ensures { result.now ≡ self.now.cuts.now }
     {
         self.cuts
     }
 
-    /// A child of the marker's node as a subtree of the marker: negated where the marker is.
+    /// Returns a child of the marker's node as a subtree of the marker: negated if the marker is a
+    /// negation.
     pub fn subtree(&self, child: NodeId) -> MarkerTree
         ensures { result ≡ child_of self.now.tree child }
     {
@@ -167,35 +170,35 @@ impl<'a> StringMarkerTree<'a> {
 }
 
 impl<'a> InMarkerTree<'a> {
-    /// The key whose value is asked for, in its modern spelling.
+    /// Returns the modern key of the variable.
     pub fn key(&self) -> MarkerValueString
         ensures { result ≡ modern_key self.now.variable }
     {
         key_of(self.variable)
     }
 
-    /// What the key asks about.
+    /// Returns the variable.
     pub fn variable(&self) -> TextVariable
         ensures { result ≡ self.now.variable }
     {
         self.variable
     }
 
-    /// The text that the value may be a part of.
+    /// Returns the text that may contain the value.
     pub fn value(&self) -> &'a str
         ensures { result.now ≡ string_bytes self.now.text.now }
     {
         self.text.as_str()
     }
 
-    /// The subtree where it is so, then the one where it is not.
+    /// Returns the subtree for true, then the one for false.
     pub fn children(&self) -> BooleanEdges
         ensures { boolean_edges_left result ≡ boolean_edges self.now.high self.now.low }
     {
         boolean_children(self.high, self.low)
     }
 
-    /// The subtree where the answer is this.
+    /// Returns the subtree for this answer.
     pub fn edge(&self, value: bool) -> MarkerTree
         ensures { result ≡ (if value then self.now.high else self.now.low) }
     {
@@ -204,35 +207,35 @@ impl<'a> InMarkerTree<'a> {
 }
 
 impl<'a> ContainsMarkerTree<'a> {
-    /// The key whose value is asked for, in its modern spelling.
+    /// Returns the modern key of the variable.
     pub fn key(&self) -> MarkerValueString
         ensures { result ≡ modern_key self.now.variable }
     {
         key_of(self.variable)
     }
 
-    /// What the key asks about.
+    /// Returns the variable.
     pub fn variable(&self) -> TextVariable
         ensures { result ≡ self.now.variable }
     {
         self.variable
     }
 
-    /// The text that may be a part of the value.
+    /// Returns the text that the value may contain.
     pub fn value(&self) -> &'a str
         ensures { result.now ≡ string_bytes self.now.text.now }
     {
         self.text.as_str()
     }
 
-    /// The subtree where it is so, then the one where it is not.
+    /// Returns the subtree for true, then the one for false.
     pub fn children(&self) -> BooleanEdges
         ensures { boolean_edges_left result ≡ boolean_edges self.now.high self.now.low }
     {
         boolean_children(self.high, self.low)
     }
 
-    /// The subtree where the answer is this.
+    /// Returns the subtree for this answer.
     pub fn edge(&self, value: bool) -> MarkerTree
         ensures { result ≡ (if value then self.now.high else self.now.low) }
     {
@@ -241,21 +244,21 @@ impl<'a> ContainsMarkerTree<'a> {
 }
 
 impl<'a> ExtraMarkerTree<'a> {
-    /// The extra, or a text that is no name.
+    /// Returns the extra, or a text that is an invalid name.
     pub fn name(&self) -> MarkerValueExtraRef<'a>
         ensures { result ≡ self.now.name }
     {
         self.name
     }
 
-    /// The subtree where the extra is asked for, then the one where it is not.
+    /// Returns the subtree with the extra, then the one without it.
     pub fn children(&self) -> BooleanEdges
         ensures { boolean_edges_left result ≡ boolean_edges self.now.high self.now.low }
     {
         boolean_children(self.high, self.low)
     }
 
-    /// The subtree where the answer is this.
+    /// Returns the subtree for this answer.
     pub fn edge(&self, value: bool) -> MarkerTree
         ensures { result ≡ (if value then self.now.high else self.now.low) }
     {
@@ -264,11 +267,11 @@ impl<'a> ExtraMarkerTree<'a> {
 }
 
 impl MarkerTree {
-    /// What the marker asks first, and its subtrees by the answer. This takes no memory.
+    /// Returns the variable on which the marker branches, and its subtrees.
     ///
-    /// What is asked is the first variable on which the marker's truth depends. The ranges of the
-    /// edges have points, ascend, lie apart and cover all points; each subtree is the marker's
-    /// truth with the variable fixed there, and asks about later variables alone; neighboring edges
+    /// It is the first variable on which the marker's truth depends. The ranges of the edges are
+    /// not empty, ascend, are disjoint and cover all values. Each subtree is the marker's truth
+    /// with the variable fixed in the range, and depends only on later variables. Neighboring edges
     /// have different subtrees.
     pub fn kind(self, interner: &Interner) -> MarkerTreeKind<'_>
         requires { IsHeld interner.now self }
@@ -309,7 +312,7 @@ impl MarkerTree {
     }
 }
 
-// What a marker asks that asks for a truth.
+// The kind of a marker that branches on a substring test or an extra.
 fn truth_kind(variable: &TruthVariable, high: MarkerTree, low: MarkerTree) -> MarkerTreeKind<'_>
     ensures { IsKindOfTruth variable.now high low result }
 {
@@ -339,7 +342,7 @@ fn truth_kind(variable: &TruthVariable, high: MarkerTree, low: MarkerTree) -> Ma
     }
 }
 
-// The subtree where it is so, then the one where it is not.
+// The subtree for true, then the one for false.
 fn boolean_children(high: MarkerTree, low: MarkerTree) -> BooleanEdges
     ensures { boolean_edges_left result ≡ boolean_edges high low }
 {

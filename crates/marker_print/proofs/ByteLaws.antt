@@ -28,7 +28,7 @@ IsClause (p ∷ ps) = ArePrinted (p ∷ ps)
 abbrev pub AreClauses : List (List MarkerExpression) → Type 0
 AreClauses cs = AllByRecursion IsClause cs
 
--- the terms behind the first, and the clauses behind the first
+-- the terms after the first, and the clauses after the first
 abbrev other_terms : List MarkerExpression → List ℕ
 other_terms ps = flat_map next_term_text ps
 

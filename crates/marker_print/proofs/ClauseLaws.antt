@@ -1,4 +1,4 @@
--- What is read of printed clauses: it means what they mean, and nothing of it overflows.
+-- Printed clauses parse back: the formula means what they mean, and nothing of it overflows.
 use Rattle.std.proofs.Common.{◌≡◌, ◌&&◌, ◌||◌, List, [], ◌∷◌, map, Option, Some, None, refl, ap, ◌∙◌, inl, inr, ◌⊎◌}
 use Rattle.std.specs.List.{AllByRecursion, list_all, list_any}
 use Rattle.marker_environment.specs.Valuation.{Valuation}

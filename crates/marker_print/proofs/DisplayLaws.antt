@@ -1,4 +1,4 @@
--- Several clauses, as they are written one behind another.
+-- Several clauses, written one after another.
 use Rattle.std.proofs.Common.{◌≡◌, ◌≢◌, ◌≤◌, ℕ, List, [], ◌∷◌, ◌++◌, ◌-◌, drop, get_or, length, length-drop, take, refl, ap, ◌∙◌, arith}
 use Rattle.std.proofs.lemmas.List.{take_all}
 use Rattle.std.specs.List.{flat_map}
@@ -15,7 +15,7 @@ others (c ∷ cs) = ap (λ (x : List ℕ). next_clause_text c.items ++ x) (other
 behind_first : (cs : List (Vec MarkerExpression Global)) → take (length cs - 1) (drop 1 cs) ≡ drop 1 cs
 behind_first cs = take_all (length cs - 1) (drop 1 cs) (omega (arith, length-drop 1 cs))
 
--- all but the first stand behind it
+-- all but the first come after it
 pub several : (cs : List (Vec MarkerExpression Global)) (first : Vec MarkerExpression Global) → 1 ≤ length cs → length cs ≢ 1 → first ≡ get_or cs 0 first →
     part_text first.items ++ flat_map (λ c. next_clause_text c.items) (take (length cs - 1) (drop 1 cs)) ≡ clauses_text (clauses_of cs)
 several cs first h k e =

@@ -34,7 +34,7 @@ printed (expressions.String key Contains value) h = text_printed (variable_of ke
 printed (expressions.String key NotContains value) h = text_printed (variable_of key) NotContains _ tt (IsUtf8-string_bytes value) h
 printed (expressions.Extra operator x) h = extra_printed operator x h
 
--- a modern key asks what its variable is
+-- the variable of a modern key
 same_variable : (x : TextVariable) → variable_of (modern x) ≡ x
 same_variable ImplementationName = refl
 same_variable OsName = refl

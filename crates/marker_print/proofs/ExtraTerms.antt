@@ -40,7 +40,7 @@ no_quote (b ∷ t) h =
     let r = and_parts (is_name_character b) (list_all is_name_character t) h in
     ap (λ x. x || list_any (λ c. c == 39) t) (byte_unquoted b r.0) ∙ no_quote t r.1
 
--- what is quoted behind `extra`, and which extra it is read as
+-- the quoted text after `extra`, and the extra that it parses as
 record IsQuotable (x : MarkerValueExtra) : Type 0 where
   pub utf8 : IsUtf8 (extra_text x)
   pub plain : is_plain (extra_text x) ≡ true

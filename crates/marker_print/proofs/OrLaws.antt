@@ -131,7 +131,7 @@ ors_from ((t ∷ ts) ∷ cs) f v s n =
     ors_from cs (or_of f (ands None (t ∷ ts))) v (or_some f _ g) n ∙ ap (λ b. b || list_any (λ c. list_all (λ u. holds u v) c) cs) (or_truth f _ v s g ∙ ap (λ b. truth f v || b) (ands_truth (t ∷ ts) None v))
     ∙ or_assoc (truth f v) (list_all (λ u. holds u v) (t ∷ ts)) (list_any (λ c. list_all (λ u. holds u v) c) cs)
 
--- the formula is true where one of the clauses holds
+-- the formula is true if one of the clauses is
 pub ors_truth : (c : List Test) (cs : List (List Test)) (v : Valuation) → NoneEmpty (c ∷ cs) → truth (ors None (c ∷ cs)) v ≡ list_any (λ c. list_all (λ t. holds t v) c) (c ∷ cs)
 ors_truth [] cs v n = absurd n
 ors_truth (t ∷ ts) cs v n = ors_from cs (ands None (t ∷ ts)) v (ands_some ts _ tt) n ∙ ap (λ b. b || list_any (λ c. list_all (λ u. holds u v) c) cs) (ands_truth (t ∷ ts) None v)

@@ -13,7 +13,7 @@ use Rattle.marker_print.proofs.AsciiLaws.{ascii_word}
 use Rattle.marker_print.proofs.WordLaws.{unquoted}
 use Rattle.marker_print.proofs.SideLaws.{chars_ascii}
 
--- bytes that are a text in a quote that does not stand in it
+-- the bytes of a text in a quote that it does not contain
 pub record Quoted (t bytes : List ℕ) : Type 0 where
   pub quote : ℕ
   pub is_quote : IsQuote quote

@@ -45,7 +45,7 @@ module _ (x : TextVariable) (t : List ℕ) (u : IsUtf8 t) (p : is_plain t ≡ tr
       name_read_first (variable_name x) symbol t (quoted_text t) (text_key (modern x)) operator (text (modern x) operator t) [] (is_key x).word w (key_read x) s (quoted_by t u p)
       (subst (Means (text_key (modern x)) operator (quoted t)) (m ∙ ap (kept_with (text (modern x) operator t)) (is_key x).kinds) key_and_text)
 
-  -- the text before the name, where the operator is read turned
+  -- the text before the name, with the operator turned around
   before : (operator : MarkerOperator) (symbol : List ℕ) → Word symbol → printed_operator operator symbol → text_meaning (modern x) (turned operator) t ≡ kept_with (text (modern x) (turned operator) t) (key_kinds (modern x)) →
       IsRead (compared_text (quoted_text t) symbol (variable_name x)) (text (modern x) (turned operator) t) []
   before operator symbol w s m =

@@ -25,7 +25,7 @@ pub record Stops (p : Class) (o : List ℕ) : Type 0 where
   pub run : run_of p o ≡ []
   pub rest : after_run p o ≡ o
 
--- characters of the class, before what is none
+-- characters of the class, before one that is not in it
 pub run_before : (p : Class) (r o : List ℕ) → list_all (holds p) r ≡ true → Stops p o → Run p (r ++ o) r o
 run_before p [] o h s = record { run_is = s.run; rest_is = s.rest }
 run_before p (c ∷ r) o h s =
@@ -79,7 +79,7 @@ extra_read o b = is_extra (run_before KeyPart (codes "extra") o refl (stops_name
 pub quoted_read : (q : ℕ) (cs o : List ℕ) → IsQuote q → list_all (holds (NotQuote q)) cs ≡ true → IsValue (q ∷ (cs ++ (q ∷ o))) o (quoted (encode_utf8_all cs))
 quoted_read q cs o s h = is_quoted s (run_before (NotQuote q) cs (q ∷ o) h (stops_quote q o))
 
--- where a byte below 128 does not stand among the bytes, the character does not
+-- if a byte below 128 is not among the bytes, the character is not
 pub unquoted : (q : ℕ) (cs : List ℕ) → encode_utf8 q ≡ q ∷ [] → list_any (λ c. c == q) (encode_utf8_all cs) ≡ false → list_all (holds (NotQuote q)) cs ≡ true
 unquoted q [] e h = refl
 unquoted q (c ∷ cs) e h = by_test (eqb c q) refl (λ k. unquoted q cs e k)

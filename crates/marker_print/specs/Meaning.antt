@@ -9,8 +9,8 @@ use Rattle.marker_grammar.specs.Grammar.{Reads}
 use Rattle.marker_grammar.specs.HasTest.{Says}
 pub use Rattle.marker_terms.specs.Clauses.{clauses_of, clause_holds, clauses_hold}
 
--- the text is read as a formula that is true exactly where one of the clauses holds, and no test of
--- it overflows
+-- the text parses as a formula that is true exactly where one of the clauses is, and no test of it
+-- overflows
 pub record IsReadAs (clauses : List (List MarkerExpression)) (text : List ℕ) : Type 0 where
   pub formula : Option Formula
   pub kinds : List MarkerWarningKind

@@ -10,9 +10,8 @@ use marker_parts::MarkerExpression;
 use std::fmt;
 use std::fmt::Display;
 
-/// Clauses, which hold where each term of one of them does. They print as a marker: terms are
-/// joined by `and`, clauses by `or`, and among several clauses one of several terms stands in
-/// parentheses.
+/// Clauses, whose disjunction prints as a marker. The terms of a clause are joined by `and`,
+/// clauses by `or`; of several clauses, one with several terms is in parentheses.
 #[derive(Clone, Copy)]
 pub struct Clauses<'a>(pub &'a [Vec<MarkerExpression>]);
 
@@ -31,7 +30,7 @@ impl Display for Clauses<'_> {
     }
 }
 
-// Clauses behind another one.
+// Clauses after another one.
 fn write_other_clauses<W: fmt::Write>(
     clauses: &[Vec<MarkerExpression>],
     f: &mut fmt::Formatter<W>,
@@ -73,7 +72,7 @@ fn write_terms<W: fmt::Write>(terms: &[MarkerExpression], f: &mut fmt::Formatter
     }
 }
 
-// Terms behind another one.
+// Terms after another one.
 fn write_other_terms<W: fmt::Write>(
     terms: &[MarkerExpression],
     f: &mut fmt::Formatter<W>,

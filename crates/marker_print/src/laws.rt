@@ -6,7 +6,7 @@ ghost use Rattle.marker_print.specs.Meaning.{IsReadAs};
 ghost use Rattle.marker_terms.specs.Plain.{ArePrintable};
 ghost use Rattle.marker_print.specs.Text.{clauses_text};
 
-/// The text of clauses is a marker that is true exactly where one of the clauses holds, and no
+/// The text of clauses parses to a marker that is true exactly if one of the clauses is, and no
 /// comparison of it overflows.
 pub fn clauses_read_back()
     ensures { (clauses : List (List MarkerExpression)) → ArePrintable clauses

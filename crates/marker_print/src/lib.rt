@@ -1,4 +1,4 @@
-//! How the clauses of a marker are printed, and that what is printed is read back.
+//! Printing the clauses of a marker, and the law that the text parses back to the same truth.
 #![tactic(auto)]
 
 mod clauses;

@@ -1,4 +1,5 @@
--- The cuts of a function ascend as points do, where its values go by the names that a function gives them.
+-- The cuts of a function ascend as points do, if its values depend on the names that a function
+-- gives them.
 use Rattle.std.proofs.Common.{◌≡◌, Bool, true, false, List, [], ◌∷◌, Some, cond, refl, sym, ap, ◌∙◌, subst}
 use Rattle.std.specs.Cmp.{IsTotalOrder}
 use Rattle.std.specs.Ordering.{is_lt, ordering_then}

@@ -1,4 +1,4 @@
--- Each comparison asks about one variable.
+-- Each comparison depends on one variable.
 use Rattle.std.proofs.Common.{◌≡◌, ℕ, Bool, not, List, cond, refl, ap, ◌∙◌}
 use Rattle.marker_words.specs.declared.key.MarkerValueString.{MarkerValueString}
 use Rattle.marker_words.specs.declared.operator.MarkerOperator.{MarkerOperator}
@@ -48,7 +48,7 @@ module _ (first : Variable → Bool) (v w : Valuation) where
   extra_mixed (name n) = refl
   extra_mixed (arbitrary t) = refl
 
-  -- a comparison looks at its variable alone
+  -- a comparison depends only on its variable
   pub mixed : (t : Test) → holds t (mix first v w) ≡ cond (first (asked t)) (holds t v) (holds t w)
   mixed (version key s) = chosen (λ p. holds_version key s p) (first (of_version (version_variable_of key))) _ _
   mixed (version_in key versions negated) = chosen (λ p. is_in_or_not negated (holds_in key versions p)) (first (of_version (version_variable_of key))) _ _
@@ -69,7 +69,7 @@ text_plain NotIn key t h = h
 text_plain Contains key t h = h
 text_plain NotContains key t h = h
 
--- a plain comparison asks about what can be printed
+-- a plain comparison depends on a variable that can be printed
 pub asked_plain : (t : Test) → IsPlainTest t → IsPlainVariable (asked t)
 asked_plain (version key s) h = tt
 asked_plain (version_in key versions negated) h = tt

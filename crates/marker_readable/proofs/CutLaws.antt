@@ -1,4 +1,5 @@
--- Where the point of a cut ties with none of some points, there is a point in the piece before the cut that stands to all of them as it does.
+-- If the point of a cut is equal to none of some points, there is a point in the piece before the
+-- cut that is in the same order to all of them.
 use Rattle.std.proofs.Common.{◌≡◌, ◌+◌, ℕ, suc, Bool, true, false, ◌&&◌, List, [], ◌∷◌, cond, refl, sym, ap, ◌∙◌, arith}
 use Rattle.std.specs.Bool.{⊤}
 use Rattle.std.specs.Cmp.{IsTotalOrder}
@@ -14,7 +15,7 @@ use Rattle.version_ranges.proofs.PartLaws.{point_total}
 use Rattle.version_ranges.proofs.StepLaws.{lt_less, not_true}
 
 module _ {K C : Type 0} {cmp : K → K → Ordering} (o : IsTotalOrder cmp) (pt : C → Point K) (ends : List (Point K)) where
-  -- whether a point stands before a cut
+  -- whether a point is before a cut
   abbrev pub stands : Point K → C → Bool
   stands p c = point_lt cmp p (pt c)
 
@@ -22,7 +23,7 @@ module _ {K C : Type 0} {cmp : K → K → Ordering} (o : IsTotalOrder cmp) (pt 
   Ascends low [] = ⊤
   Ascends low (s ∷ xs) = (point_lt cmp low (pt s.0) ≡ true) × Ascends (pt s.0) xs
 
-  -- two points that stand alike, in neighboring pieces
+  -- two points with the same order to the others, in neighboring pieces
   pub record Around {V : Type 0} (low : Point K) (xs : List (C × V)) : Type 0 where
     pub before : Point K
     pub after : Point K

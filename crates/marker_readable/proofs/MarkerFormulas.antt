@@ -1,5 +1,5 @@
--- A readable marker means a formula of plain comparisons: at each node the formula says between which cuts its variable
--- stands, and what the child there means.
+-- A readable marker means a formula of plain comparisons: at each node the formula says between
+-- which cuts its variable is, and what the child there means.
 use Rattle.std.proofs.Common.{◌≡◌, ◌≢◌, ◌&&◌, ◌||◌, not, ℕ, zero, suc, ◌<◌, Bool, true, false, List, [], ◌∷◌, Option, Some, None, cond, refl, sym, ap, ◌∙◌, subst, arith, string_bytes}
 use Rattle.std.specs.Bool.{⊤}
 use Rattle.std.specs.Cmp.{IsTotalOrder}
@@ -122,7 +122,7 @@ of_constant false f e =
 
 -- ---- values between cuts
 
--- it can be told by plain comparisons whether the variable stands before a point, and whether not
+-- plain comparisons decide whether the variable is before a point
 abbrev Halves : (Valuation → Bool) → Type 0
 Halves before = IsReadableTruth before × IsReadableTruth (λ v. not (before v))
 
@@ -139,7 +139,7 @@ module _ {C : Type 0} (before : C → Valuation → Bool) (means : NodeId → Va
       same (λ v. means (cond (before s.0 v) first (later v)) v) (λ v. cond (before s.0 v) (means first v) (means (later v) v)) (λ v. chosen (before s.0 v) first (later v) v)
       (of_choice (before s.0) (means first) (λ v. means (later v) v) halves.0.0 halves.0.1 r (between s.1 steps children.0 halves.1 children.1))
 
--- each value stands at a point of its own
+-- each value has a point of its own
 module _ {K C V : Type 0} {cmp : K → K → Ordering} (o : IsTotalOrder cmp) (pt : C → Point K) (P : V → Type 0) where
   abbrev value : Point K → V → List (C × V) → V
   value p v xs = value_at (λ c. point_lt cmp p (pt c)) v xs
@@ -248,7 +248,7 @@ module _ (x : TextVariable) (t : List ℕ) (plain : is_plain t ≡ true) where
     of_text text_operators.GreaterEqual (λ y v. not (point_lt text_cmp (v.text y) (at t))) (λ v. sym (ge_is (point_cmp text_cmp (v.text (variable_of (modern_key x))) (at t)))),
   )
 
--- ---- what a node asks that is answered by true or false
+-- ---- the value of a substring test or an extra
 
 answered : (x : TruthVariable) (high low : NodeId) → IsPlainNode (Truth x high low) → Halves (answer x)
 answered (questions.In x t) high low plain = (

@@ -1,4 +1,5 @@
--- Where a formula of plain comparisons of versions may change, and so where the node of its residue may.
+-- The points at which a formula of plain comparisons of versions may change, and so those of the
+-- node of its residue.
 use Rattle.std.proofs.Common.{◌≡◌, ◌≢◌, ◌&&◌, ◌||◌, ℕ, Bool, true, false, List, [], ◌∷◌, ◌++◌, cond, refl, sym, ap, ◌∙◌}
 use Rattle.std.specs.List.{AllByRecursion}
 use Rattle.std.specs.Ordering.{is_eq, is_lt, ordering_then}
@@ -91,7 +92,7 @@ none_ties c e (x ∷ ends) a = (point_untied c.value e c.above x a.0, none_ties 
 pub cut_ties_with_none : (g : Formula) → AllPlain g → (c : Cut Parts) → is_release c.value ≡ false → TiesWithNone version_cmp (cut_point (λ v. v) c) (formula_ends g)
 cut_ties_with_none g h c e = none_ties c e (formula_ends g) (formula_releases g h)
 
--- ---- at points that stand alike to them the formula answers alike
+-- ---- the formula is the same at points with the same order to them
 
 -- each version variable at one point
 abbrev pub everywhere : Point Parts → Valuation

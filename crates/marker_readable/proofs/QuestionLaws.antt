@@ -1,4 +1,5 @@
--- A question that a formula does not ask does not move its truth, so the questions of its marker are the formula's.
+-- A substring test or extra that a formula does not have does not change its truth, so those of its
+-- marker are the formula's.
 use Rattle.std.proofs.Common.{◌≡◌, Bool, true, false, ◌&&◌, ◌||◌, ◌⊎◌, cond, inl, inr, refl, sym, ap, ◌∙◌, subst}
 use Rattle.std.specs.Ordering.{is_eq, is_lt}
 use Rattle.std.specs.declared.cmp.Ordering.{Ordering}
@@ -20,7 +21,7 @@ tied Greater e = cc e
 both_sides : (op : Bool → Bool → Bool) {a b c d : Bool} → a ≡ b → c ≡ d → op a c ≡ op b d
 both_sides op {a} {b} {c} {d} e f = ap (λ x. op x c) e ∙ ap (λ x. op b x) f
 
--- the variables before y are held, and x alone is moved
+-- the variables before y are fixed, and only x is changed
 module _ (x y : Variable) (held v w : Valuation) where
   abbrev moved : Valuation
   moved = mix (λ z. is_eq (variable_cmp x z)) v w
@@ -34,7 +35,7 @@ module _ (x y : Variable) (held v w : Valuation) where
       ∙ ap (λ b. cond (is_lt (variable_cmp (asked t) y)) (holds t held) b) (mixed (λ z. is_eq (variable_cmp x z)) v w t ∙ ap (λ b. cond b (holds t v) (holds t w)) e)
       ∙ sym (mixed (λ z. is_lt (variable_cmp z y)) held w t)
 
--- a formula of plain comparisons asks about x, which is plain then, or is not moved by it
+-- a formula of plain comparisons depends on x, which is plain then, or is not changed by it
 module _ (x y : Variable) (held : Valuation) where
   abbrev pub IsUnmoved : Formula → Type 0
   IsUnmoved g = (v w : Valuation) → truth_of g (mix (λ z. is_lt (variable_cmp z y)) held (mix (λ z. is_eq (variable_cmp x z)) v w)) ≡ truth_of g (mix (λ z. is_lt (variable_cmp z y)) held w)

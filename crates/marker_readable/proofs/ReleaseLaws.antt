@@ -45,7 +45,7 @@ module _ (c : Contents) (store : IsStore markers c.nodes) (t s : MarkerTree) (ke
   child_held : (v : Valuation) → IsHeld c (child_at v)
   child_held v = kept (child_at v) (child s.id (child_at v).id n v sub node refl)
 
-  -- where the marker means the same at two values of its variable, they lead to one child
+  -- if the marker means the same at two values of its variable, they lead to one child
   same_children : (v w : Valuation) → ((u : Valuation) → truth c s (with_variable markers (variable n) v u) ≡ truth c s (with_variable markers (variable n) w u)) → value_at n v ≡ value_at n w
   same_children v w h =
       let tied = tied_itself variable_total (variable n) in

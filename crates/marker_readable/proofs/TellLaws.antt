@@ -1,4 +1,4 @@
--- What the text of a marker tells.
+-- The text of a marker.
 use Rattle.std.proofs.Common.{◌≡◌, ◌≢◌, ℕ, Bool, true, false, not, List, Option, Some, None, codes, refl, sym, ap, ◌∙◌, subst}
 use Rattle.marker_environment.specs.Valuation.{Valuation}
 use Rattle.marker_diagrams.specs.Diagram.{IsStore}
@@ -48,7 +48,7 @@ module _ (c : Contents) (store : IsStore markers c.nodes) (t : MarkerTree) (held
       read_back = λ v so _. let two : true ≡ false = sym so ∙ subst (λ (u : MarkerTree). truth c u v ≡ false) (sym e) (nowhere v) in absurd cc;
     }
 
-    -- the text of any other marker is that of its clauses, which is read back where they can be printed
+    -- the text of any other marker is that of its clauses, which parses back if they can be printed
     module _ (not_true : t ≢ TRUE) (not_false : t ≢ FALSE) (clauses : List (List MarkerExpression)) (are : AreClausesOf c t clauses)
         (reads : ArePrintable clauses → printed.IsReadAs clauses (clauses_text clauses)) (is_readable : IsReadableTruth (truth c t) → IsReadable c t)
         (releases : IsReadableTruth (truth c t) → HasReleases c t) where

@@ -1,4 +1,5 @@
--- The same of texts: a plain formula may change at plain texts alone, and so may the nodes of its residues.
+-- The same for texts: a plain formula may change only at plain texts, and so may the nodes of its
+-- residues.
 use Rattle.std.proofs.Common.{◌≡◌, ◌≢◌, ◌&&◌, ◌||◌, ℕ, Bool, true, false, List, [], ◌∷◌, ◌++◌, cond, refl, sym, ap, ◌∙◌, string_bytes}
 use Rattle.std.specs.FinMap.{nat_cmp-IsAntisymmetric, slice_cmp-IsAntisymmetric}
 use Rattle.std.specs.List.{AllByRecursion}
@@ -93,7 +94,7 @@ none_ties c e (x ∷ ends) a = (point_untied (string_bytes c.value) e c.above x 
 pub text_ties_with_none : (g : Formula) → AllPlain g → (c : Cut (String Global)) → is_plain (string_bytes c.value) ≡ false → TiesWithNone text_cmp (cut_point string_bytes c) (text_ends g)
 text_ties_with_none g h c e = none_ties c e (text_ends g) (formula_plain g h)
 
--- ---- at points that stand alike to them the formula answers alike
+-- ---- the formula is the same at points with the same order to them
 
 abbrev pub all_texts : Point (List ℕ) → Valuation
 all_texts p = record lowest { text = λ x. p }

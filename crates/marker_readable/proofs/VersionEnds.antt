@@ -1,4 +1,4 @@
--- Where the answers of plain comparisons of versions may change: at releases alone.
+-- The truth of plain comparisons of versions may change only at releases.
 use Rattle.std.proofs.Common.{◌≡◌, Bool, not, ◌&&◌, ◌||◌, List, [], ◌∷◌, refl, ap, ◌∙◌}
 use Rattle.std.specs.List.{AllByRecursion, list_any}
 use Rattle.version_ranges.specs.Alike.{AreAlike}

@@ -1,4 +1,4 @@
--- Truths whose markers print as a text that is read back, told by a formula.
+-- Truths whose markers print as a text that parses back, by a formula of them.
 use Rattle.std.specs.Prelude.{◌≡◌, ⊤, Bool, true, Some}
 use Rattle.std.specs.List.{AllByRecursion}
 use Rattle.pep440_rs.specs.Bounds.{IsRelease}
@@ -17,12 +17,12 @@ use Rattle.marker_terms.specs.Plain.{is_plain}
 pub use Rattle.marker_clauses.specs.Branch.{IsReleaseNode, HasReleases}
 pub use Rattle.marker_clauses.specs.Readable.{IsPlainNode, IsPlainVariable, IsReadable}
 
--- each node that asks for a truth asks about what can be printed
+-- each node that branches on a substring test or an extra has one that can be printed
 abbrev pub AsksPlainQuestions : Contents → MarkerTree → Type 0
 AsksPlainQuestions c t = (s : MarkerTree) (x : TruthVariable) (high low : NodeId)
     → IsSubtree c t s → node_of c s ≡ Some (Truth x high low) → IsPlainVariable (truth_variable x)
 
--- the bounds that a comparison asks for are releases, and its texts can be printed
+-- the bounds of a comparison are releases, and its texts can be printed
 abbrev pub IsPlainTest : Test → Type 0
 IsPlainTest (version key s) = ⊤
 IsPlainTest (version_in key versions negated) = AllByRecursion IsRelease versions

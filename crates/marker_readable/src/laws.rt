@@ -10,9 +10,9 @@ use marker_graph::laws::{
     neighboring_children_differ, roots_ask_the_first_variable, subtrees_are_the_residues,
 };
 
-/// A marker that means a formula of plain comparisons asks for no truth but of what can be printed:
-/// a text that lacks one of the two quotes, a name of an extra, or an arbitrary extra that is no
-/// name.
+/// A marker that means a formula of plain comparisons branches only on substring tests and extras
+/// that can be printed: a text that lacks one of the two quotes, a name of an extra, or an
+/// arbitrary extra that is an invalid name.
 pub fn questions_of_readable_truths_are_plain()
     ensures { (c : Contents) → IsStore markers c.nodes → (t : MarkerTree) → IsHeld c t
         → IsReadableTruth (truth c t) → AsksPlainQuestions c t }
@@ -21,8 +21,8 @@ pub fn questions_of_readable_truths_are_plain()
     roots_ask_the_first_variable();
 }
 
-/// A marker that means a formula of plain comparisons has no bound of versions but release numbers
-/// alone.
+/// A marker that means a formula of plain comparisons has only release numbers as bounds of
+/// versions.
 pub fn bounds_of_readable_truths_are_releases()
     ensures { (c : Contents) → IsStore markers c.nodes → (t : MarkerTree) → IsHeld c t
         → IsReadableTruth (truth c t) → HasReleases c t }
@@ -31,8 +31,8 @@ pub fn bounds_of_readable_truths_are_releases()
     neighboring_children_differ();
 }
 
-/// The marker of a readable truth is readable: where it means a formula of plain comparisons, each
-/// of its nodes can be printed.
+/// The marker of a readable truth is readable: if it means a formula of plain comparisons, each of
+/// its nodes can be printed.
 pub fn readable_truths_have_readable_markers()
     ensures { (c : Contents) → IsStore markers c.nodes → (t : MarkerTree) → IsHeld c t
         → IsReadableTruth (truth c t) → IsReadable c t }
@@ -42,9 +42,9 @@ pub fn readable_truths_have_readable_markers()
     roots_ask_the_first_variable();
 }
 
-/// A readable marker means a formula of plain comparisons. So who sees by [`MarkerTree::kind`] that
-/// all texts, bounds and extras of a marker and its subtrees can be printed knows that its text
-/// parses back.
+/// A readable marker means a formula of plain comparisons. So if [`MarkerTree::kind`] shows that
+/// all texts, bounds and extras of a marker and its subtrees can be printed, its text parses back
+/// to the same truth.
 pub fn readable_markers_have_readable_truths()
     ensures { (c : Contents) → IsStore markers c.nodes → (t : MarkerTree) → IsHeld c t
         → IsReadable c t → IsReadableTruth (truth c t) }

@@ -1,4 +1,4 @@
-//! Readable markers: those whose text is read back, and the text of a marker.
+//! Readable markers, whose text parses back to the same truth, and the text of a marker.
 #![tactic(auto)]
 
 pub mod laws;

@@ -12,15 +12,16 @@ use marker_print::Clauses;
 use marker_print::laws::clauses_read_back;
 use std::alloc::AllocError;
 
-/// The text of the marker: its clauses, where the terms of each are joined by `and`, and they by
-/// `or`. There is none for `TRUE`, which says nothing, and `python_version < '0'` stands for
-/// `FALSE`, though it is another marker where it is read.
+/// A text begins with room for so many bytes, as many as three comparisons mostly have.
+const ROOM: usize = 128;
+
+/// Returns the text of the marker: its clauses joined by `or`, and the comparisons of each joined
+/// by `and`. `None` for `TRUE`. `FALSE` is printed as `python_version < '0'`, which parses to
+/// another marker.
 ///
-/// The text of a readable marker is read as a formula that means what the marker does, and no
-/// comparison of it overflows. A marker is readable where it means a formula in which the versions
-/// of lists are release numbers alone, no text has both quotes, and no arbitrary extra is a name.
-///
-/// Only memory can run out.
+/// The text of a readable marker parses back to a formula of the same truth, and no comparison of
+/// it overflows. A marker is readable if it means a formula whose lists have only release numbers,
+/// whose texts lack one of the two quotes, and whose arbitrary extras are invalid names.
 pub fn try_to_string(interner: &Interner, tree: MarkerTree) -> Result<Option<String>, AllocError>
     requires { IsHeld interner.now tree }
     ensures { IfOk result
@@ -41,6 +42,7 @@ pub fn try_to_string(interner: &Interner, tree: MarkerTree) -> Result<Option<Str
         return Ok(Some(nowhere));
     }
     let clauses = to_dnf(interner, tree)?;
-    let text = Clauses(&clauses).to_string(alloc)?;
+    let mut text = String::with_capacity(alloc, ROOM)?;
+    text.write(Clauses(&clauses))?;
     Ok(Some(text))
 }

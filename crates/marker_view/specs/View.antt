@@ -1,5 +1,5 @@
 -- Views of markers and their order.
-use Rattle.std.specs.Prelude.{◌≡◌, Bool, List}
+use Rattle.std.specs.Prelude.{◌≡◌, ℕ, Bool, List, [], Option, None, Some}
 use Rattle.std.specs.Cmp.{IsTotalOrder, on_total}
 use Rattle.std.specs.Ordering.{on}
 use Rattle.std.specs.declared.cmp.Ordering.{Ordering}
@@ -7,6 +7,7 @@ use Rattle.marker_environment.specs.Valuation.{Valuation}
 use Rattle.marker_diagrams.specs.declared.node_id.NodeId.{NodeId}
 use Rattle.marker_nodes.specs.Node.{Node}
 use Rattle.marker_graph.specs.Contents.{Contents, truth}
+use Rattle.marker_readable.specs.Text.{TellsText}
 use Rattle.marker_order.specs.Order.{diagram_cmp}
 use Rattle.marker_order.proofs.OrderLaws.{diagrams_total}
 use Rattle.marker_view.specs.declared.view.MarkerTreeView.{MarkerTreeView}
@@ -23,7 +24,7 @@ truth_of view = truth (contents_of view) view.tree
 abbrev pub MeanTheSame : MarkerTreeView → MarkerTreeView → Type 0
 MeanTheSame a b = (v : Valuation) → truth_of a v ≡ truth_of b v
 
--- the diagram of a view: an id, and the nodes that it stands in
+-- the diagram of a view: an id, and its nodes
 abbrev pub diagram_of : MarkerTreeView → List Node × NodeId
 diagram_of view = ((contents_of view).nodes, view.tree.id)
 
@@ -34,3 +35,13 @@ view_cmp = on diagram_of diagram_cmp
 -- it is total
 pub view_total : IsTotalOrder view_cmp
 view_total = on_total diagram_of diagrams_total
+
+-- what a view writes if its marker has this text: nothing without one
+abbrev pub written_text : Option (List ℕ) → List ℕ
+written_text None = []
+written_text (Some text) = text
+
+-- this is true of what is written of a view
+abbrev pub WithViewText : MarkerTreeView → (List ℕ → Type 0) → Type 0
+WithViewText view P = (text : Option (List ℕ)) × TellsText (truth_of view) text
+    × P (written_text text)

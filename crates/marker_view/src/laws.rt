@@ -1,5 +1,5 @@
 //! Laws of views. Each is a function that does nothing, whose contract is the law. An interner's
-//! nodes keep the rules of diagrams, as `Interner::keeps_the_rules` says.
+//! nodes satisfy the rules of diagrams (`Interner::keeps_the_rules`).
 
 ghost use Rattle.std.specs.Prelude.{◌≡◌};
 ghost use Rattle.std.specs.Cmp.{IsTotalOrder};
@@ -14,8 +14,7 @@ pub fn views_are_in_a_total_order()
     ensures { IsTotalOrder view_cmp }
 {}
 
-/// Two views are equal in the order exactly where their markers mean the same: in one interner or
-/// in two.
+/// Two views are equal exactly if their markers mean the same, in one interner or in two.
 pub fn views_are_equal_where_they_mean_the_same()
     ensures same { (a b : MarkerTreeView) → IsStore markers (contents_of a).nodes
         → IsStore markers (contents_of b).nodes → view_cmp a b ≡ Equal → MeanTheSame a b }

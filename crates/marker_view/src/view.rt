@@ -1,7 +1,10 @@
-//! A marker with the interner that it stands in.
+//! A marker with its interner.
 
-ghost use Rattle.std.specs.Prelude.{◌≡◌, ◌↔◌, IsTrue, None};
-ghost use Rattle.marker_graph.specs.Contents.{IsHeld};
+ghost use Rattle.std.specs.Prelude.{◌≡◌, ◌↔◌, IfOk, IsTrue, None, Some, string_bytes};
+ghost use Rattle.std.specs.Option.{option_map};
+ghost use Rattle.std.specs.Fmt.{DisplaysOnOk, DisplaysStyledOnOk};
+ghost use Rattle.marker_graph.specs.Contents.{IsHeld, truth};
+ghost use Rattle.marker_readable.specs.Text.{TellsText};
 
 use marker_graph::{Interner, MarkerTree};
 use marker_order::diagram_order;
@@ -10,24 +13,26 @@ use std::cmp::Ordering;
 use std::fmt;
 use std::fmt::Display;
 
-/// A marker with the interner that it stands in.
+/// A marker with its interner.
 ///
-/// Views are equal exactly where their markers mean the same, in one interner or in two. Their
-/// order is total: `TRUE`, `FALSE`, markers that ask about a version first, a text, whether a value
-/// is part of a text or has it as a part, an extra; then by the key, and the text or the name; then
-/// edge by edge, by lower bound, upper bound and subtree, where the one that has no more edges
-/// comes first. Of lower bounds the one that is none comes first, and `Included` before `Excluded`
-/// at one value; of upper bounds `Excluded` comes first there, and the one that is none last. Where
-/// it is so comes before where it is not.
-///
-/// To compare takes no memory. A view prints as the text of its marker, and nothing where that is
-/// `TRUE`; where memory for the text is refused, writing it is a fault.
+/// Views are equal exactly if their markers mean the same, in one interner or in two. A view prints
+/// as the text of its marker, and as nothing for `TRUE`.
 ///
 /// ```
 /// let left = MarkerTree::parse_str::<VerbatimUrl>("os_name == 'nt'", here)?;
 /// let right = MarkerTree::parse_str::<VerbatimUrl>("'nt' == os_name", there)?;
 /// println!(rt; "equal: {}", left.view(here) == right.view(there))?;
 /// ```
+///
+/// The order of views is total:
+///
+/// - `TRUE`, then `FALSE`, then the other markers by the variable on which they branch first:
+///   versions, texts, `key in 'text'`, `'text' in key`, extras; within each by key, and by text or
+///   name;
+/// - then edge by edge, by lower bound, upper bound and subtree; a marker that has no more edges
+///   comes first. The subtree for true comes before the one for false;
+/// - of lower bounds none at all comes first, and `Included` before `Excluded` at the same value;
+///   of upper bounds `Excluded` comes before `Included`, and none at all last.
 #[derive(Clone, Copy)]
 pub struct MarkerTreeView<'a> {
     interner: &'a Interner,
@@ -36,7 +41,7 @@ pub struct MarkerTreeView<'a> {
 }
 
 impl<'a> MarkerTreeView<'a> {
-    /// The view of a marker that stands in the interner.
+    /// Returns the view of a marker that the interner holds.
     pub fn new(interner: &'a Interner, tree: MarkerTree) -> Self
         requires { IsHeld interner.now tree }
         ensures interner { result.interner.now ≡ interner.now }
@@ -45,7 +50,7 @@ impl<'a> MarkerTreeView<'a> {
         MarkerTreeView { interner, tree }
     }
 
-    /// The interner.
+    /// Returns the interner.
     pub fn interner(&self) -> &'a Interner
         ensures interner { result.now ≡ self.now.interner.now }
         ensures held { IsHeld result.now self.now.tree }
@@ -53,7 +58,7 @@ impl<'a> MarkerTreeView<'a> {
         self.interner
     }
 
-    /// The marker, which stands in the interner.
+    /// Returns the marker.
     pub fn tree(&self) -> MarkerTree
         ensures { result ≡ self.now.tree }
     {
@@ -116,15 +121,32 @@ impl<'a> Ord for MarkerTreeView<'a> {
     }
 }
 
+// The text of a marker, empty for `TRUE`, or an error when memory runs out.
+fn text_of(view: &MarkerTreeView<'_>) -> Result<Option<String>, fmt::Error>
+    ensures { IfOk result (λ text. TellsText
+        (truth view.now.interner.now view.now.tree) (option_map string_bytes text)) }
+{
+    match try_to_string(view.interner, view.tree) {
+        Ok(text) => Ok(text),
+        Err(_) => Err(fmt::Error),
+    }
+}
+
 impl Display for MarkerTreeView<'_> {
-    // Which text is printed is left open: `try_to_string` says what it tells.
+    ghost use Rattle.marker_view.specs.View.{WithViewText};
+
+    // The text is not a function of the view: the clause `told` of `fmt` states it as a relation.
     ghost output = { λ _. None };
 
-    fn fmt<W: fmt::Write>(&self, f: &mut fmt::Formatter<W>) -> fmt::Result {
-        match try_to_string(self.interner, self.tree) {
-            Ok(Some(text)) => f.write_str(&text),
-            Ok(None) => Ok(()),
-            Err(_) => Err(fmt::Error),
+    fn fmt<W: fmt::Write>(&self, f: &mut fmt::Formatter<W>) -> fmt::Result
+        ensures writes { DisplaysOnOk W.write_str_gives f.old result None f.new }
+        ensures styled { DisplaysStyledOnOk W.write_str_gives f.old result None f.new }
+        ensures told { IfOk result (λ _. WithViewText self.now
+            (λ text. DisplaysOnOk W.write_str_gives f.old result (Some text) f.new)) }
+    {
+        match text_of(self)? {
+            Some(text) => f.write_str(&text),
+            None => f.write_str(""),
         }
     }
 }

@@ -45,7 +45,8 @@ second_of : (a b : Bool) → (a && b) ≡ true → b ≡ true
 second_of true b p = p
 second_of false b p = absurd cc
 
--- the trees are those of the symbols before the rest, none of which overflows, and the rest compares no texts by `~=`
+-- the trees are those of the symbols before the rest, none of which overflows, and the rest
+-- compares no texts by `~=`
 pub record IsDone (all rest : List Token) (c : Contents) (trees : List Run) : Type 0 where
   pub done : List Symbol
   pub parted : done ++ map symbol_of rest ≡ map symbol_of all
@@ -84,7 +85,7 @@ not_done all before rest t c trees SegmentAtEnd whole next h refusal =
     said_here Overflows h.done (symbol_of t) (map symbol_of rest) all whole (ap (λ (x : List Token). h.done ++ map symbol_of x) (sym next) ∙ h.parted) refusal
 not_done all before rest t c trees (Fault e) whole next h refusal = absurd refusal
 
--- where no token is left
+-- no token is left
 module _ (all rest : List Token) (c : Contents) (trees : List Run) (none : rest ≡ []) (h : IsDone all rest c trees) where
   all_done : h.done ≡ map symbol_of all
   all_done = sym (append-nil h.done) ∙ ap (λ (x : List Token). h.done ++ map symbol_of x) (sym none) ∙ h.parted

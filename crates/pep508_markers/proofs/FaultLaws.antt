@@ -1,4 +1,4 @@
--- Texts that are refused, and how they are told.
+-- Texts that are refused, and their errors.
 use Rattle.std.proofs.Common.{◌≡◌, ℕ, ◌-◌, List, length, sym, subst}
 use Rattle.refusal.specs.declared.Refusal.{Refusal}
 use Rattle.refusal.specs.declared.Refusal.TheVariants as refusals
@@ -15,7 +15,7 @@ use Rattle.marker_grammar.specs.Refused.{IsMarker, IsTextFault}
 use Rattle.marker_grammar.specs.Refused as texts
 use Rattle.pep508_markers.specs.Text.{IsRefusalIn}
 
--- what a text ends with and is no marker is refused
+-- an invalid marker at the end of a text is refused
 pub refused_behind : {T E : Type 0} (text marker : List ℕ) (error : ComparisonError) (refusal : Refusal (Pep508Error T E)) → IsSuffix text marker → texts.IsRefusal marker error → Becomes text error refusal → IsRefusalIn text marker refusal
 refused_behind text marker error refusals.OutOfMemory suffix unread told = tt
 refused_behind text marker error refusals.SegmentAtEnd suffix unread told = absurd told

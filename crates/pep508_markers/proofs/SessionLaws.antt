@@ -11,7 +11,8 @@ use Rattle.pep508_errors.specs.declared.warning.MarkerWarningKind.{MarkerWarning
 use Rattle.marker_environment.specs.Valuation.{Valuation}
 use Rattle.marker_graph.specs.declared.tree.MarkerTree.{MarkerTree}
 use Rattle.marker_parts.specs.Expression.{Test, holds, Overflows}
-use Rattle.marker_graph.specs.Contents.{Contents, IsHeld, IsKept, Separated, truth}
+use Rattle.marker_graph.specs.Contents.{Contents, HoldsTheSame, IsHeld, IsKept, Separated, truth}
+use Rattle.marker_graph.proofs.KeptLaws.{kept_same}
 use Rattle.marker_graph.specs.Expression.{IsInvalid}
 use Rattle.marker_graph.specs.Expression as graph
 use Rattle.marker_graph.specs.Python.{Assumes, require}
@@ -23,13 +24,15 @@ use Rattle.marker_grammar.specs.Grammar.{Reads}
 use Rattle.marker_grammar.specs.HasTest.{Says}
 use Rattle.pep508_markers.specs.FormulaTree.{IsRefusal}
 use Rattle.pep508_markers.specs.declared.session.Command.{Command}
+use Rattle.pep508_markers.specs.declared.session.Reason as reasons
 use Rattle.pep508_markers.specs.declared.session.Reply.{Reply}
-use Rattle.pep508_markers.specs.Machine.{Truth, Cells, Making, Request, make, Answer, cell, Holds, Makes, Tells, TellsEqual, TellsDisjoint, named, IsMissing, missing, starved, makes, refuses, refused, no_such_cell, out_of_memory, Step, Run, done, next, TellsPossible, parse, expression, negation, conjunction, disjunction, simplify_python, complexify_python, simplify_extras, equal, disjoint, evaluate_extras}
+use Rattle.pep508_markers.specs.declared.session.Reply.TheVariants.{Cell as CellIs, Truth as TruthIs, Text as TextIs, Refused}
+use Rattle.pep508_markers.specs.Machine.{Truth, Cells, Making, Reason, Request, make, Answer, cell, Holds, Makes, Tells, TellsEqual, TellsDisjoint, named, IsMissing, missing, starved, makes, refuses, refused, no_such_cell, out_of_memory, Step, Run, done, next, TellsPossible, parse, expression, negation, conjunction, disjunction, simplify_python, complexify_python, simplify_extras, equal, disjoint, evaluate_extras}
 use Rattle.pep508_markers.specs.Cells.{AreHeld, truths_of}
-use Rattle.pep508_markers.specs.Session.{request_of, answer_of}
+use Rattle.pep508_markers.specs.Session.{OnRefused, request_of, answer_of}
 use Rattle.pep508_markers.proofs.TreeLaws.{held_kept, truth_kept}
 
--- the truth of a tree that stood in the interner is what it was
+-- the truth of a tree that was in the interner stays the same
 same_truth : (c d : Contents) (t : MarkerTree) → IsKept c d → IsHeld c t → truth d t ≡ truth c t
 same_truth c d t kept held = λ i v. truth_kept c d t kept held v i
 
@@ -157,7 +160,7 @@ module _ (c : Contents) (trees : List MarkerTree) (kinds : List MarkerWarningKin
     pub makes_or : (w : MarkerTree) → ((v : Valuation) → truth c w v ≡ (truth c t v || truth c u v)) → Makes (truths_of c trees) (disjunction a b) (truth c w) kinds
     makes_or w means = (truth c t, truth c u, cell_holds c trees a t found, cell_holds c trees b u other, (λ i v. means v i), none)
 
--- what answers a question
+-- the answer to a query
 module _ (c : Contents) (trees : List MarkerTree) (a b : ℕ) (t u : MarkerTree) (found : slice_get trees a ≡ Some t) (other : slice_get trees b ≡ Some u) where
   equals : (answer : Bool) → (IsTrue answer → t ≡ u) → (answer ≡ false → Separated c t u) → TellsEqual (truth c t) (truth c u) answer
   equals true same separated = λ v. ap (λ x. truth c x v) (same refl)
@@ -185,7 +188,7 @@ module _ (c : Contents) (trees : List MarkerTree) (a : ℕ) (t : MarkerTree) (fo
   pub tells_possible : (answer : Bool) → (answer ≡ true → IsPossible extras (truth c t)) → (answer ≡ false → IsImpossible extras (truth c t)) → Tells (truths_of c trees) (evaluate_extras a extras) answer
   tells_possible answer possible impossible = (truth c t, cell_holds c trees a t found, possibles answer possible impossible)
 
--- a run goes on by one step
+-- a run with one more step
 run_more : {old mid new : Cells} {requests : List Request} {answers : List Answer} {request : Request} {answer : Answer} → Run old requests answers mid → Step mid request answer new → Run old (requests ++ (request ∷ [])) (answers ++ (answer ∷ [])) new
 run_more done step = next step done
 run_more (next first run) step = next first (run_more run step)
@@ -199,3 +202,24 @@ run_on old mid new cs i c replies replies' reply below c_is run step pushed =
     subst (λ (x : List Request). Run old x (map answer_of replies') new) (sym requests)
     (subst (λ (y : List Answer). Run old (map request_of (take i cs) ++ (request_of c ∷ [])) y new) (sym answers)
     (run_more run step))
+
+-- a refused command may give up what it made
+pub refused_again : {old mid new : Cells} {request : Request} {reason : Reason} → Step old request (refused reason) mid → new ≡ old → Step old request (refused reason) new
+refused_again (refuses why same) e = refuses why e
+
+pub not_refused : (reply : Reply) (P : Type 0) → ((reason : reasons.Reason) → reply ≡ Refused reason → ⊥) → OnRefused reply P
+not_refused (CellIs a kinds) P other = _
+not_refused (TruthIs b) P other = _
+not_refused (TextIs text) P other = _
+not_refused (Refused reason) P other = absurd (other reason refl)
+
+-- the cells as they were, if the interner holds what it held
+module _ (c d : Contents) (old now : List MarkerTree) (same : HoldsTheSame c d) (cells : now ≡ old) (held : AreHeld c old) where
+  still_held : AreHeld c now
+  still_held = subst (AreHeld c) (sym cells) held
+
+  pub released_held : AreHeld d now
+  released_held = are_kept c d now (kept_same c d same) still_held
+
+  pub released_truths : truths_of d now ≡ truths_of c old
+  released_truths = truths_kept c d now (kept_same c d same) still_held ∙ ap (truths_of c) cells

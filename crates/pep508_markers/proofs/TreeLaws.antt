@@ -9,25 +9,19 @@ use Rattle.pep508_markers.specs.declared.run.Connective.TheVariants.{And, Or}
 use Rattle.pep508_markers.specs.declared.run.Run.{Run}
 use Rattle.marker_graph.specs.declared.tree.MarkerTree.{MarkerTree}
 use Rattle.marker_graph.specs.Contents.{Contents, IsHeld, IsKept, truth}
+pub use Rattle.marker_graph.proofs.KeptLaws.{kept_both as kept_on}
 use Rattle.marker_grammar.specs.Formula.{Formula}
 use Rattle.marker_grammar.specs.Formula as formulas
 use Rattle.marker_grammar.specs.Postfix.{stack_after, top_of}
 use Rattle.marker_grammar.specs.Postfix as symbols
 use Rattle.pep508_markers.specs.Trees.{joins, neutral, symbol, trees_of, AreHeld, truth_under, Mean, RunsOf}
 
--- a tree that stood in the interner stands there, and means what it meant
+-- a tree that was in the interner is still there, with its meaning
 pub held_kept : (c d : Contents) (t : MarkerTree) → IsKept c d → IsHeld c t → IsHeld d t
-held_kept c d t kept held = omega (arith, held, kept.longer)
+held_kept c d t kept held = omega (arith, held, kept.nodes.longer)
 
 pub truth_kept : (c d : Contents) (t : MarkerTree) → IsKept c d → IsHeld c t → (v : Valuation) → truth d t v ≡ truth c t v
-truth_kept c d t kept held v = ap (signed t.id.complement) (kept.truth t.id.place v held)
-
-pub kept_on : (c d e : Contents) → IsKept c d → IsKept d e → IsKept c e
-kept_on c d e p q = record {
-  longer = omega (arith, p.longer, q.longer);
-  node = λ i h. q.node i (omega (arith, h, p.longer)) ∙ p.node i h;
-  truth = λ i v h. q.truth i v (omega (arith, h, p.longer)) ∙ p.truth i v h;
-}
+truth_kept c d t kept held v = ap (signed t.id.complement) (kept.nodes.truth t.id.place v held)
 
 -- a connective joins in any order
 joins_nothing : (k : Connective) (x : Bool) → joins k x (neutral k) ≡ x

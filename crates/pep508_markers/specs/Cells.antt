@@ -8,6 +8,6 @@ use Rattle.marker_graph.specs.Contents.{Contents, IsHeld, truth}
 abbrev pub truths_of : Contents → List MarkerTree → List (Valuation → Bool)
 truths_of c trees = map (truth c) trees
 
--- each tree stands in the interner
+-- the interner has each tree
 abbrev pub AreHeld : Contents → List MarkerTree → Type 0
 AreHeld c trees = (a : ℕ) (t : MarkerTree) → slice_get trees a ≡ Some t → IsHeld c t

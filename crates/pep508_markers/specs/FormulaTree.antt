@@ -12,8 +12,7 @@ use Rattle.marker_grammar.specs.Formula as formulas
 abbrev pub Means : Contents → Option Formula → MarkerTree → Type 0
 Means c f t = (v : Valuation) → truth c t v ≡ formulas.truth f v
 
--- why there is no tree: memory ran out, or a test would raise the largest number of a version,
--- which is so where P holds
+-- why there is no tree: memory ran out, or P: a bound of a test would be above 2^64 - 1
 abbrev pub IsRefusal : {E : Type 0} → Type 0 → Refusal E → Type 0
 IsRefusal P OutOfMemory = ⊤
 IsRefusal P SegmentAtEnd = P

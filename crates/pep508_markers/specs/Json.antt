@@ -20,7 +20,7 @@ use Rattle.pep508_markers.specs.Text.{IsTreeOf, TextOverflows}
 abbrev pub IsStringOf : List ℕ → List ℕ → Type 0
 IsStringOf json text = read json ≡ Some (string text)
 
--- it is no string
+-- it is not a string
 abbrev pub IsNoString : List ℕ → Type 0
 IsNoString json = (text : List ℕ) → ¬ IsStringOf json text
 
@@ -28,7 +28,7 @@ IsNoString json = (text : List ℕ) → ¬ IsStringOf json text
 abbrev pub string_of : List ℕ → List ℕ
 string_of text = compact_text (string text)
 
--- the JSON is a string with a text that tells the marker of this truth
+-- the JSON is a string with a text of the marker of this truth
 pub record IsJsonOf (f : Valuation → Bool) (json : List ℕ) : Type 0 where
   pub text : List ℕ
   pub written : json ≡ string_of text
@@ -41,13 +41,13 @@ IsTreeOfJson c json t =
     (text : List ℕ) × (kinds : List MarkerWarningKind) × IsStringOf json text
     × IsTreeOf c text t kinds
 
--- how long the span is that tells of no string: one place at the end of nothing
+-- the length of the span of the fault: 1 for empty JSON
 abbrev pub span_of : List ℕ → ℕ
 span_of [] = 1
 span_of (c ∷ json) = 0
 
 module _ {T E : Type 0} where
-  -- what is told of JSON that is no string
+  -- the error of JSON that is not a string
   pub record TellsNoString (json : List ℕ) (error : Pep508Error T E) : Type 0 where
     pub none : IsNoString json
     pub input : string_bytes error.input ≡ json
@@ -66,7 +66,7 @@ module _ {T E : Type 0} where
   IsTextError json error =
       (text : List ℕ) × IsStringOf json text × IsNoMarker text × IsErrorOf IsMarker text error
 
-  -- why there is no tree of JSON: memory ran out, it is no string, or its text is refused
+  -- why there is no tree of JSON: memory ran out, it is not a string, or its text is refused
   abbrev pub IsJsonRefusal : List ℕ → Refusal (Pep508Error T E) → Type 0
   IsJsonRefusal json OutOfMemory = ⊤
   IsJsonRefusal json SegmentAtEnd = (text : List ℕ) × IsStringOf json text × TextOverflows text

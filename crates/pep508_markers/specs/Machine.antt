@@ -1,5 +1,5 @@
--- The machine of a session: its cells hold truths over valuations, and it answers one request after
--- another.
+-- The machine of a session: its cells contain truths over valuations, and it answers one request
+-- after another.
 use Rattle.std.specs.Prelude.{◌≡◌, ◌≢◌, ◌⊎◌, ℕ, ◌≤◌, Bool, true, false, not, ◌&&◌, ◌||◌, List, [], ◌∷◌, ◌++◌, length, Option, Some, slice_get}
 use Rattle.std.specs.declared.ops.Bound.{Bound}
 use Rattle.pep440_version.specs.Parts.{Parts}
@@ -41,7 +41,7 @@ pub data Making : Type 0 where
   -- of a cell and the extras
   simplify_extras : ℕ → List (List ℕ) → Making
 
--- a request that asks of cells by their numbers
+-- a query about cells by their numbers
 pub data Question : Type 0 where
   equal : ℕ → ℕ → Question
   disjoint : ℕ → ℕ → Question
@@ -59,7 +59,7 @@ pub data Request : Type 0 where
 pub data Reason : Type 0 where
   no_such_cell : Reason
   out_of_memory : Reason
-  -- a bound would raise the largest number of a version
+  -- a bound would be above 2^64 - 1
   segment_at_end : Reason
   -- `~=` would compare texts
   invalid_expression : Reason
@@ -69,7 +69,7 @@ pub data Reason : Type 0 where
 pub data Answer : Type 0 where
   cell : ℕ → List MarkerWarningKind → Answer
   truth_is : Bool → Answer
-  -- no text is told of what is true everywhere
+  -- what is true everywhere has no text
   text_is : Option (List ℕ) → Answer
   refused : Reason → Answer
 
@@ -98,7 +98,7 @@ Makes cells (complexify_python a lower upper) f kinds =
 Makes cells (simplify_extras a extras) f kinds =
     (g : Truth) × Holds cells a g × (f ≡ grant (is_listed extras) g) × (kinds ≡ [])
 
--- no valuation tells two truths apart, or here is one that does
+-- two truths agree at each valuation, or differ at some valuation
 abbrev pub TellsEqual : Truth → Truth → Bool → Type 0
 TellsEqual f g true = (v : Valuation) → f v ≡ g v
 TellsEqual f g false = (v : Valuation) × (f v ≢ g v)
@@ -113,7 +113,7 @@ abbrev pub TellsPossible : List (List ℕ) → Truth → Bool → Type 0
 TellsPossible extras f true = IsPossible extras f
 TellsPossible extras f false = IsImpossible extras f
 
--- the question has this answer
+-- the query has this answer
 abbrev pub Tells : Cells → Question → Bool → Type 0
 Tells cells (equal a b) t =
     (f : Truth) × (g : Truth) × Holds cells a f × Holds cells b g × TellsEqual f g t
@@ -153,7 +153,7 @@ pub data IsRefusal (cells : Cells) : Request → Reason → Type 0 where
   starved : {making : Making} → ¬ IsMissing cells (named (make making))
       → IsRefusal cells (make making) out_of_memory
   no_text : {a : ℕ} → ¬ IsMissing cells (named (print a)) → IsRefusal cells (print a) out_of_memory
-  -- a comparison would raise the largest number of a version
+  -- a bound of a comparison would be above 2^64 - 1
   text_overflows : {text : List ℕ} → TextOverflows text
       → IsRefusal cells (make (parse text)) segment_at_end
   overflows : {test : Test} → Overflows test
@@ -161,13 +161,13 @@ pub data IsRefusal (cells : Cells) : Request → Reason → Type 0 where
   -- texts are compared by `~=`
   invalid : {test : Test} → IsInvalid test
       → IsRefusal cells (make (expression test)) invalid_expression
-  -- the text is no marker, and this is a fault of it
+  -- the text is an invalid marker, and this is a fault of it
   no_marker : {text message : List ℕ} {start len : ℕ} → IsNoMarker text
       → IsMarkerFault IsMarker text start len message
       → IsRefusal cells (make (parse text)) (marker start len message)
 
--- From the cells old the machine may give this answer to the request and go on to the cells new. It
--- may choose when memory runs out for a new cell or a text, which fault of a text is told, and
+-- From the cells old the machine may give this answer to the request and move to the cells new. It
+-- may choose when memory runs out for a new cell or a text, which fault of a text is reported, and
 -- which text of a cell.
 pub data Step (old : Cells) : Request → Answer → Cells → Type 0 where
   makes : {making : Making} {number : ℕ} {kinds : List MarkerWarningKind} {new : Cells} (f : Truth)

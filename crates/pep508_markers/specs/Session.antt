@@ -1,5 +1,5 @@
--- What a session, its commands and its replies stand for.
-use Rattle.std.specs.Prelude.{List, map, option_map, string_bytes}
+-- The machine's view of a session, its commands and its replies.
+use Rattle.std.specs.Prelude.{⊤, List, map, option_map, string_bytes}
 use Rattle.version_ranges.specs.Clamp.{bound_of}
 use Rattle.marker_environment.specs.Environment.{values_of}
 use Rattle.marker_parts.specs.Expression.{test_of}
@@ -49,6 +49,13 @@ answer_of (Refused reason) = refused (reason_of reason)
 -- the session may give this reply to the request, and is the new one then
 abbrev pub Answers : Session → Request → Reply → Session → Type 0
 Answers old request reply new = Step (cells_of old) request (answer_of reply) (cells_of new)
+
+-- a fact of a command that is refused
+abbrev pub OnRefused : Reply → Type 0 → Type 0
+OnRefused (Cell a kinds) P = ⊤
+OnRefused (TruthIs b) P = ⊤
+OnRefused (TextIs text) P = ⊤
+OnRefused (Refused reason) P = P
 
 -- the session may give these replies to the commands, one after another, and is the new one then
 abbrev pub Runs : Session → List Command → List Reply → Session → Type 0

@@ -1,4 +1,4 @@
--- What is read of a marker text as a tree, and why none is. (PEP 508.)
+-- The tree of a marker text, and why a text has none. (PEP 508.)
 use Rattle.std.specs.Prelude.{◌≡◌, ⊤, ℕ, List, Option, Result, IfErr}
 use Rattle.refusal.specs.declared.Refusal.{Refusal}
 use Rattle.refusal.specs.declared.Refusal.TheVariants.{OutOfMemory, SegmentAtEnd, Fault}
@@ -17,8 +17,8 @@ use Rattle.marker_grammar.specs.Grammar.{Reads}
 use Rattle.marker_grammar.specs.Refused.{IsMarker, IsNoMarker}
 use Rattle.marker_grammar.specs.HasTest.{Says}
 
--- the tree means what the text says, which raises no largest number, and these are the kinds of its
--- warnings
+-- the tree has the truth of the text, no bound of which is above 2^64 - 1, and these are the kinds
+-- of its warnings
 pub record IsTreeOf (c : Contents) (text : List ℕ) (t : MarkerTree)
     (kinds : List MarkerWarningKind) : Type 0 where
   pub formula : Option Formula
@@ -26,14 +26,14 @@ pub record IsTreeOf (c : Contents) (text : List ℕ) (t : MarkerTree)
   pub no_overflow : ¬ Says Overflows formula
   pub means : (v : Valuation) → truth c t v ≡ formulas.truth formula v
 
--- the text is read, and a comparison of it would raise the largest number of a version
+-- the text is a marker, and a bound of a comparison in it would be above 2^64 - 1
 abbrev pub TextOverflows : List ℕ → Type 0
 TextOverflows text =
     (f : Option Formula) × ((kinds : List MarkerWarningKind) × Reads text f kinds)
     × Says Overflows f
 
 module _ {T E : Type 0} where
-  -- why there is no tree of the marker that a text ends with
+  -- why there is no tree of the marker at the end of a text
   abbrev pub IsRefusalIn : List ℕ → List ℕ → Refusal (Pep508Error T E) → Type 0
   IsRefusalIn text marker OutOfMemory = ⊤
   IsRefusalIn text marker SegmentAtEnd = TextOverflows marker
@@ -43,7 +43,7 @@ module _ {T E : Type 0} where
   abbrev pub IsRefusal : List ℕ → Refusal (Pep508Error T E) → Type 0
   IsRefusal text = IsRefusalIn text text
 
-  -- a fact of a text that is refused for what it says, and not for want of memory
+  -- a fact about a text that is refused for what it is, and not because memory ran out
   abbrev pub OnRefusedText : Refusal (Pep508Error T E) → Type 0 → Type 0
   OnRefusedText OutOfMemory P = ⊤
   OnRefusedText SegmentAtEnd P = P

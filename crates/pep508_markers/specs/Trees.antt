@@ -23,7 +23,7 @@ abbrev pub symbol : Connective → Symbol
 symbol And = symbols.and
 symbol Or = symbols.or
 
--- each tree stands in the interner
+-- the interner has each tree
 abbrev pub AreHeld : Contents → List MarkerTree → Type 0
 AreHeld c [] = ⊤
 AreHeld c (t ∷ trees) = IsHeld c t × AreHeld c trees
@@ -33,11 +33,11 @@ abbrev pub truth_under : Contents → Connective → List MarkerTree → Valuati
 truth_under c k [] v = neutral k
 truth_under c k (t ∷ trees) v = joins k (truth c t v) (truth_under c k trees v)
 
--- the trees of a run, of which there is at least one
+-- the trees of a run, at least one
 abbrev pub trees_of : Run → List MarkerTree
 trees_of r = r.first ∷ r.others.items
 
--- the trees of each run stand in the interner and mean its formula under its connective
+-- the interner has the trees of each run, which mean its formula under its connective
 abbrev pub Mean : Contents → List Formula → List Run → Type 0
 Mean c [] [] = ⊤
 Mean c (f ∷ stack) (r ∷ runs) =
@@ -55,7 +55,7 @@ RunsOf c stack runs = Mean c stack (reverse runs)
 abbrev pub AreRuns : Contents → List Run → Type 0
 AreRuns c runs = (stack : List Formula) × RunsOf c stack runs
 
--- where the old runs are those of a stack, the new ones are those of what the symbol makes of it
+-- if the old runs are those of a stack, the new ones are those of the stack after the symbol
 abbrev pub Pushes : Symbol → Contents → List Run → Contents → List Run → Type 0
 Pushes symbol c old d new = (stack : List Formula) → RunsOf c stack old
     → RunsOf d (stack_after symbol stack) new

@@ -1,9 +1,9 @@
 //! The tree of a formula.
 
-ghost use Rattle.std.specs.Prelude.{◌≡◌, ◌≤◌, true, IfOk, IfErr, OnOk};
+ghost use Rattle.std.specs.Prelude.{◌≡◌, ◌≤◌, true, IfOk, IfErr, OnErr, OnOk};
 ghost use Rattle.marker_environment.specs.Valuation.{Valuation};
 ghost use Rattle.marker_parts.specs.Expression.{Overflows, holds, test_of};
-ghost use Rattle.marker_graph.specs.Contents.{IsHeld, IsKept, truth};
+ghost use Rattle.marker_graph.specs.Contents.{HoldsTheSame, IsHeld, IsKept, truth};
 ghost use Rattle.marker_grammar.specs.Flat.{formula_of};
 ghost use Rattle.marker_grammar.specs.Postfix.{symbol_of};
 ghost use Rattle.marker_grammar.specs.Valid.{is_valid, is_valid_symbol};
@@ -18,12 +18,13 @@ use marker_parts::MarkerExpression;
 use refusal::Refusal;
 use std::convert::Infallible;
 
-/// The tree of a formula, which means what the formula does. Where nothing is left of a formula it
-/// is `TRUE`.
+/// Returns the tree of a formula. `TRUE` if all comparisons were dropped.
 ///
-/// It is refused as `SegmentAtEnd` where a bound of a set of versions would raise
-/// 18446744073709551615, and else for want of memory alone. What the trees of the interner mean
-/// stays, also then.
+/// # Errors
+/// - `SegmentAtEnd` if the set of versions of a comparison has a bound above 2^64 - 1.
+/// - `OutOfMemory` when memory runs out.
+///
+/// After an error the interner holds what it held before.
 pub fn tree_of(
     interner: &mut Interner,
     formula: FlatFormula,
@@ -33,7 +34,30 @@ pub fn tree_of(
     ensures held { IfOk result (IsHeld interner.new) }
     ensures means { IfOk result (Means interner.new (formula_of formula)) }
 
-    // Only where the largest number would be raised is there none.
+    // There is no set only if a bound would be above 2^64 - 1.
+    ensures no_overflow { OnOk result (¬ Says Overflows (formula_of formula)) }
+    ensures err { IfErr result (IsRefusal (Says Overflows (formula_of formula))) }
+    ensures released { OnErr result (HoldsTheSame interner.old interner.new) }
+{
+    let mark = interner.mark();
+    match join_tokens(interner, formula) {
+        Ok(tree) => Ok(tree),
+        Err(refusal) => {
+            interner.release(mark);
+            Err(refusal)
+        }
+    }
+}
+
+// The tree of a formula. After an error the nodes made so far are left in the interner.
+fn join_tokens(
+    interner: &mut Interner,
+    formula: FlatFormula,
+) -> Result<MarkerTree, Refusal<Infallible>>
+    ensures kept { IsKept interner.old interner.new }
+    ensures counts { interner.old.expansions ≤ interner.new.expansions }
+    ensures held { IfOk result (IsHeld interner.new) }
+    ensures means { IfOk result (Means interner.new (formula_of formula)) }
     ensures no_overflow { OnOk result (¬ Says Overflows (formula_of formula)) }
     ensures err { IfErr result (IsRefusal (Says Overflows (formula_of formula))) }
 {
@@ -51,7 +75,7 @@ pub fn tree_of(
     }
 }
 
-// What a token makes of the runs of the formulas before it.
+// Applies a token to the runs of the formulas before it.
 fn apply(
     interner: &mut Interner,
     runs: &mut Vec<Run>,
@@ -78,7 +102,7 @@ fn apply(
     Ok(())
 }
 
-// The tree of a comparison, which does not compare texts by `~=`.
+// The tree of a comparison that is not a text compared by `~=`.
 fn tree_of_valid(
     interner: &mut Interner,
     expression: MarkerExpression,

@@ -1,4 +1,4 @@
-//! Strings of JSON, which markers and requirements are read out of and written as.
+//! JSON strings, from which markers and requirements are parsed and to which they are written.
 
 ghost use Rattle.std.specs.Prelude.{◌≡◌, IfOk, MatchOption, string_bytes};
 ghost use Rattle.pep508_markers.specs.Json.{string_of, span_of, IsNoString, IsStringOf, IsUnread, TellsNoString};
@@ -8,7 +8,7 @@ use refusal::Refusal;
 use serde_json::Value;
 use std::alloc::{AllocError, Global};
 
-/// The text of a string, or nothing where the JSON is none. Only memory can run out.
+/// Returns the text of a JSON string, or `None` if the JSON is not a string.
 pub fn read_string(alloc: Global, json: &str) -> Result<Option<String>, AllocError>
     ensures { IfOk result (λ read. MatchOption read
         (IsNoString json.now) (λ text. IsStringOf json.now (string_bytes text))) }
@@ -25,7 +25,7 @@ pub fn read_string(alloc: Global, json: &str) -> Result<Option<String>, AllocErr
     }
 }
 
-/// The text as a string of JSON. Only memory can run out.
+/// Returns the text as a JSON string.
 pub fn write_string(alloc: Global, text: String) -> Result<String, AllocError>
     ensures written { IfOk result (λ json. string_bytes json ≡ string_of (string_bytes text)) }
     ensures read_back { IfOk result (λ json. IsStringOf (string_bytes json) (string_bytes text)) }
@@ -33,8 +33,8 @@ pub fn write_string(alloc: Global, text: String) -> Result<String, AllocError>
     Value::String(text).to_string(alloc)
 }
 
-/// The refusal of JSON that is no string, with its place and a copy of the JSON. It is
-/// `OutOfMemory` where there is no memory for them.
+/// Returns the refusal of JSON that is not a string, with its place and a copy of the JSON.
+/// `OutOfMemory` if there is no memory for them.
 pub fn no_string<T: Pep508Url>(alloc: Global, json: &str) -> Refusal<Pep508Error<T>>
     requires { IsNoString json.now }
     ensures { IsUnread json.now result }
@@ -58,7 +58,7 @@ fn no_string_error<T: Pep508Url>(alloc: Global, json: &str) -> Result<Pep508Erro
     })
 }
 
-// How long the place is where there is no string: 1 at the end of no text.
+// The length of the place of the fault: 1 if the JSON is empty, otherwise 0.
 fn no_string_len(json: &str) -> usize
     ensures { result ≡ span_of json.now }
 {

@@ -1,13 +1,19 @@
-//! Sessions that keep markers in numbered cells, and markers of texts and as texts.
+//! Sessions that keep markers in numbered cells, and marker texts: parsing, printing and JSON.
+//!
+//! [`MarkerText`] adds the calls on texts to `MarkerTree`. A call that takes a tree and an interner
+//! requires that the interner holds the tree. Calls that allocate return `AllocError` or
+//! `OutOfMemory` when memory runs out; every existing value keeps its meaning. A text that is
+//! refused leaves the nodes of the interner as they were.
 #![tactic(auto)]
 
 mod formula_tree;
-pub mod json;
+pub mod internal;
+mod json;
 mod marker_text;
 mod run;
 pub mod ser;
 mod session;
 
-pub use formula_tree::tree_of;
-pub use marker_text::{MarkerText, parse_behind, read_behind};
+pub use marker_text::MarkerText;
+pub use marker_view::MarkerTreeView;
 pub use session::{Command, Reason, Reply, Session};

@@ -1,6 +1,6 @@
 //! Markers and their texts.
 
-ghost use Rattle.std.specs.Prelude.{◌≡◌, ◌≤◌, List, IfOk, IfErr, option_map, string_bytes};
+ghost use Rattle.std.specs.Prelude.{◌≡◌, ◌≤◌, List, IfOk, IfErr, OnErr, option_map, string_bytes};
 ghost use Rattle.pep508_text.specs.Suffix.{IsSuffix};
 ghost use Rattle.pep508_errors.specs.declared.warning.MarkerWarningKind.{MarkerWarningKind};
 ghost use Rattle.pep508_errors.specs.Kinds.{Keeps};
@@ -8,7 +8,7 @@ ghost use Rattle.marker_parts.specs.Reporting.{HasBegun};
 ghost use Rattle.marker_parts.specs.declared.expression.MarkerExpression.{MarkerExpression as Term};
 ghost use Rattle.marker_terms.specs.Clauses.{clauses_of};
 ghost use Rattle.marker_graph.specs.declared.tree.MarkerTree.{MarkerTree as Tree};
-ghost use Rattle.marker_graph.specs.Contents.{IsHeld, IsKept, truth};
+ghost use Rattle.marker_graph.specs.Contents.{HoldsTheSame, IsHeld, IsKept, truth};
 ghost use Rattle.marker_view.specs.View.{contents_of};
 ghost use Rattle.marker_clauses.specs.Dnf.{AreClausesOf, TellsExtra};
 ghost use Rattle.marker_grammar.specs.Grammar.{Reads};
@@ -20,13 +20,14 @@ use crate::formula_tree::tree_of;
 use crate::json::{no_string, read_string};
 use marker_grammar::read;
 use marker_graph::{Interner, MarkerTree};
-use marker_parts::{MarkerExpression, report_kinds};
+use marker_parts::MarkerExpression;
+use marker_parts::internal::report_kinds;
 use marker_view::MarkerTreeView;
 use pep508_errors::{MarkerWarningKind, Pep508Error, Pep508Url, Reporter};
 use refusal::Refusal;
 use std::alloc::AllocError;
 
-/// What is read of texts, as a marker of an interner, and how it is shown and written.
+/// Markers as texts: parsing, printing, and JSON. `MarkerTree` implements it.
 ///
 /// ```
 /// let marker = MarkerTree::parse_str::<VerbatimUrl>(TEXT, interner)?;
@@ -36,22 +37,22 @@ use std::alloc::AllocError;
 /// println!(rt; "{}", marker.negate().view(interner))?;
 /// ```
 pub trait MarkerText: Sized {
-    // The marker that it is.
+    // The tree of the marker.
     ghost tree: { Self → Tree };
 
-    /// The marker with the interner that it stands in, which can be compared over two interners and
-    /// printed. This takes no memory.
+    /// Returns the marker with its interner. It can be printed, and compared even with a marker of
+    /// another interner.
     fn view<'a>(self, interner: &'a Interner) -> MarkerTreeView<'a>
         requires { IsHeld interner.now (tree self) }
         ensures contents { contents_of result ≡ interner.now }
         ensures tree { result.tree ≡ tree self };
 
-    /// Reads a marker text (PEP 508), which reports nothing.
+    /// Parses a marker text (PEP 508) without reporting warnings.
     ///
-    /// Where the text is no marker, the fault has its message, its place and the text.
-    /// `SegmentAtEnd` comes where the text is read with a comparison for which 18446744073709551615
-    /// would be raised. What the trees of the interner mean stays, also then, and at a fault the
-    /// interner stays as it was.
+    /// # Errors
+    /// - [`Refusal::Fault`] if the text is an invalid marker: what is wrong, where, and the text.
+    /// - [`Refusal::SegmentAtEnd`] if a comparison has a bound above 2^64 - 1.
+    /// - [`Refusal::OutOfMemory`] when memory runs out.
     fn parse_str<T: Pep508Url>(
         text: &str,
         interner: &mut Interner,
@@ -62,11 +63,14 @@ pub trait MarkerText: Sized {
         ensures means { IfOk result (λ t. (kinds : List MarkerWarningKind)
             × IsTreeOf interner.new text.now (tree t) kinds) }
         ensures refused { IfErr result (IsRefusal text.now) }
-        ensures untouched { OnFault result (interner.new ≡ interner.old) };
+        ensures untouched { OnFault result (interner.new ≡ interner.old) }
+        ensures released { OnErr result (HoldsTheSame interner.old interner.new) };
 
-    /// The same, with the warnings reported in the order of the text. A text that is refused as a
-    /// fault or as `SegmentAtEnd` has reported nothing, and where memory runs out the first of the
-    /// warnings, or none, have been reported.
+    /// Parses a marker text as [`MarkerText::parse_str`] does, and reports its warnings in order.
+    ///
+    /// # Errors
+    /// - The errors of [`MarkerText::parse_str`]. Nothing was reported, except that the first
+    ///   warnings may have been when memory runs out.
     fn parse_reporter<T: Pep508Url, R: Reporter>(
         text: &str,
         reporter: &mut R,
@@ -80,17 +84,19 @@ pub trait MarkerText: Sized {
             (R.kinds reporter.old) (R.kinds reporter.new) (tree t)) }
         ensures refused { IfErr result (IsRefusal text.now) }
         ensures untouched { OnFault result (interner.new ≡ interner.old) }
+        ensures released { OnErr result (HoldsTheSame interner.old interner.new) }
         ensures unreported { IfErr result (λ refusal. OnRefusedText refusal
             (Keeps (R.kinds reporter.old) (R.kinds reporter.new))) }
         ensures begun { IfErr result
             (λ _. HasBegun Reads text.now (R.kinds reporter.old) (R.kinds reporter.new)) }
         ensures again { R.can_report reporter.new };
 
-    /// Reads a marker out of a JSON string, as [`MarkerText::parse_str`] reads the string's text.
+    /// Parses a marker from a JSON string, as [`MarkerText::parse_str`] parses the string's text.
     ///
-    /// JSON that is no string is a fault at its start, with no length, or 1 at the end of no text.
-    /// A fault of the string's text has its place there, and keeps that text. At a fault the
-    /// interner stays as it was.
+    /// # Errors
+    /// - [`Refusal::Fault`] if the JSON is not a string: at its start, with length 0, or 1 if it is
+    ///   empty.
+    /// - The errors of [`MarkerText::parse_str`], with the string's text and a place in it.
     fn from_json<T: Pep508Url>(
         json: &str,
         interner: &mut Interner,
@@ -100,25 +106,26 @@ pub trait MarkerText: Sized {
         ensures held { IfOk result (λ t. IsHeld interner.new (tree t)) }
         ensures means { IfOk result (λ t. IsTreeOfJson interner.new json.now (tree t)) }
         ensures refused { IfErr result (IsJsonRefusal json.now) }
-        ensures untouched { OnFault result (interner.new ≡ interner.old) };
+        ensures untouched { OnFault result (interner.new ≡ interner.old) }
+        ensures released { OnErr result (HoldsTheSame interner.old interner.new) };
 
-    /// The marker as a disjunction of conjunctions: a list of clauses, each a list of comparisons.
-    /// Of `TRUE` and of `FALSE` there is none. Only memory can run out.
+    /// Returns the marker as a disjunction of conjunctions: a list of clauses, each a list of
+    /// comparisons. The list is empty for `TRUE` and for `FALSE`.
     fn to_dnf(self, interner: &Interner) -> Result<Vec<Vec<MarkerExpression>>, AllocError>
         requires { IsHeld interner.now (tree self) }
         ensures { IfOk result
             (λ clauses. AreClausesOf interner.now (tree self) (clauses_of clauses.items)) };
 
-    /// The text of the marker: its clauses, where the terms of each are joined by `and`, and they
-    /// by `or`. There is none for `TRUE`, which says nothing, and `python_version < '0'` stands for
-    /// `FALSE`, though it is another marker where it is read. Only memory can run out.
+    /// Returns the text of the marker: its clauses joined by `or`, and the comparisons of each
+    /// joined by `and`. `None` for `TRUE`. `FALSE` is printed as `python_version < '0'`, which
+    /// parses to another marker.
     fn try_to_string(self, interner: &Interner) -> Result<Option<String>, AllocError>
         requires { IsHeld interner.now (tree self) }
         ensures { IfOk result (λ text.
             TellsText (truth interner.now (tree self)) (option_map string_bytes text)) };
 
-    /// The first `extra ==` of every clause of the marker, where there is a clause and all are the
-    /// same. Only memory can run out.
+    /// Returns the first `extra == '..'` of each clause, if there is a clause and all have the
+    /// same.
     fn top_level_extra(self, interner: &Interner) -> Result<Option<MarkerExpression>, AllocError>
         requires { IsHeld interner.now (tree self) }
         ensures { IfOk result (λ found. (clauses : List (List Term))
@@ -174,9 +181,9 @@ impl MarkerText for MarkerTree {
     }
 }
 
-/// Reads the marker that a text ends with, as [`MarkerText::parse_str`] reads a whole text, with
-/// the kinds of its warnings in their order, of which nobody is told. A fault has its place in the
-/// text and keeps it, and leaves the interner as it was.
+/// Parses the marker at the end of a text, as [`MarkerText::parse_str`] parses a whole text.
+/// Returns it with the kinds of its warnings in order, which are not reported. The place of a fault
+/// is in the whole text, which the fault has.
 #[tactic(auto, using(crate::proofs::FaultLaws::refused_behind))]
 pub fn read_behind<T: Pep508Url>(
     text: &str,
@@ -190,6 +197,7 @@ pub fn read_behind<T: Pep508Url>(
     ensures means { IfOk result (λ r. IsTreeOf interner.new marker.now r.0 r.1.items) }
     ensures refused { IfErr result (IsRefusalIn text.now marker.now) }
     ensures untouched { OnFault result (interner.new ≡ interner.old) }
+    ensures released { OnErr result (HoldsTheSame interner.old interner.new) }
 {
     let alloc = interner.allocator();
     let reading = match read(alloc, marker) {
@@ -203,8 +211,8 @@ pub fn read_behind<T: Pep508Url>(
     }
 }
 
-/// Reads the marker that a text ends with, as [`MarkerText::parse_reporter`] reads a whole text. A
-/// fault has its place in the text and keeps it, and leaves the interner as it was.
+/// Parses the marker at the end of a text, as [`MarkerText::parse_reporter`] parses a whole text.
+/// The place of a fault is in the whole text, which the fault has.
 pub fn parse_behind<T: Pep508Url, R: Reporter>(
     text: &str,
     marker: &str,
@@ -220,16 +228,23 @@ pub fn parse_behind<T: Pep508Url, R: Reporter>(
         (R.kinds reporter.old) (R.kinds reporter.new)) }
     ensures refused { IfErr result (IsRefusalIn text.now marker.now) }
     ensures untouched { OnFault result (interner.new ≡ interner.old) }
+    ensures released { OnErr result (HoldsTheSame interner.old interner.new) }
     ensures unreported { IfErr result (λ refusal. OnRefusedText refusal
         (Keeps (R.kinds reporter.old) (R.kinds reporter.new))) }
     ensures begun { IfErr result
         (λ _. HasBegun Reads marker.now (R.kinds reporter.old) (R.kinds reporter.new)) }
     ensures again { R.can_report reporter.new }
 {
+    let mark = interner.mark();
     let (tree, kinds) = match read_behind(text, marker, interner) {
         Ok(marked) => marked,
         Err(refusal) => return Err(refusal),
     };
-    report_kinds(interner.allocator(), &kinds, reporter)?;
-    Ok(tree)
+    match report_kinds(interner.allocator(), &kinds, reporter) {
+        Ok(()) => Ok(tree),
+        Err(error) => {
+            interner.release(mark);
+            Err(error.into())
+        }
+    }
 }

@@ -1,4 +1,4 @@
-//! Trees that one connective joins.
+//! Joining the trees of one connective.
 
 ghost use Rattle.std.specs.Prelude.{◌≡◌, ◌⊎◌, ◌++◌, ◌∷◌, [], length, reverse, List, IfNone, IfOk, IfSome, OnOk, ◌≤◌};
 ghost use Rattle.std.specs.List.Sorted.{IsPermutation};
@@ -19,8 +19,8 @@ pub(crate) enum Connective {
     Or,
 }
 
-// The tree of a formula, in parts: trees that the connective joins, which waits until another
-// connective wants the tree. A tree alone needs no list.
+// A formula in parts: trees that the connective is still to join. They are joined when another
+// connective needs the tree. A single tree needs no list.
 #[derive(Drop)]
 pub(crate) struct Run {
     pub(crate) connective: Connective,
@@ -28,7 +28,7 @@ pub(crate) struct Run {
     pub(crate) others: VecDeque<MarkerTree>,
 }
 
-// The tree of what two trees say under a connective.
+// The tree of two trees under a connective.
 fn join_two(
     interner: &mut Interner,
     connective: Connective,
@@ -51,7 +51,7 @@ fn join_two(
     Ok(tree)
 }
 
-// Puts a tree behind the others, and takes the first one of all.
+// Appends a tree to the others, and takes the first of all.
 fn rotate(trees: &mut VecDeque<MarkerTree>, tree: MarkerTree) -> Result<MarkerTree, AllocError>
     ensures { IfOk result (λ first. first ∷ trees.new.items ≡ trees.old.items ++ tree ∷ []) }
 {
@@ -62,8 +62,8 @@ fn rotate(trees: &mut VecDeque<MarkerTree>, tree: MarkerTree) -> Result<MarkerTr
     Ok(first)
 }
 
-// The tree of what a tree and others say under a connective. They are joined two by two, and what
-// comes of it again, so that each tree takes part in no more joins than their number can be halved.
+// The tree of a tree and others under a connective. They are joined in pairs, then the results, so
+// that of n trees each takes part in about log n joins.
 fn join_by_halves(
     interner: &mut Interner,
     connective: Connective,
@@ -86,8 +86,8 @@ fn join_by_halves(
     Ok(left)
 }
 
-// The order in which trees are joined: the later the variable that a tree asks about first, the
-// sooner. Nothing is promised of it, since trees that are joined in any order mean the same.
+// The order in which trees are joined: those that branch on a later variable come first. It has no
+// contract, because trees that are joined in any order mean the same.
 fn joining_order(table: &NodeTable, left: MarkerTree, right: MarkerTree) -> Ordering {
     match (table.node(left.id()), table.node(right.id())) {
         (Some(left), Some(right)) => right.cmp_variable(left),
@@ -104,7 +104,7 @@ fn sort(table: &NodeTable, trees: &mut VecDeque<MarkerTree>)
     slice.sort_unstable_by(|left, right| joining_order(table, *left, *right));
 }
 
-// Takes the trees at the front of a list that ask about the same variable first as this one does.
+// Takes the trees at the front of a list that branch on the same variable as `first`.
 fn split_alike(
     interner: &Interner,
     first: MarkerTree,
@@ -123,8 +123,8 @@ fn split_alike(
     Ok(alike)
 }
 
-// Joins a tree with those at the front of a list that ask about the same variable first, which
-// leave it.
+// Takes the trees at the front of a list that branch on the same variable as `first`, and joins
+// them with it.
 fn join_alike(
     interner: &mut Interner,
     connective: Connective,
@@ -145,12 +145,12 @@ fn join_alike(
     Ok(tree)
 }
 
-// How many trees are joined by halves as they come, since to put them in order takes longer.
+// At most this many trees are joined as they come, because sorting them takes longer.
 const FEW: usize = 8;
 
-// The tree of what a run says. Trees that ask about the same variable first are joined by halves,
-// and what comes of them from the last variable on: so a tree that asks about later variables
-// alone stands in the next one as it is, and n extras make n nodes.
+// The tree of a run. Trees that branch on the same variable are joined by halves, and the results
+// from the last variable on. A tree on later variables only is then a subtree of the next result as
+// it is, so n extras make n nodes.
 pub(crate) fn join_all(interner: &mut Interner, run: Run) -> Result<MarkerTree, AllocError>
     requires { AreHeld interner.old (trees_of run) }
     ensures kept { IsKept interner.old interner.new }
@@ -177,7 +177,7 @@ pub(crate) fn join_all(interner: &mut Interner, run: Run) -> Result<MarkerTree, 
     Ok(joined)
 }
 
-// The formula of a tree, in one part.
+// A tree as a run of one.
 pub(crate) fn run_of(alloc: Global, connective: Connective, tree: MarkerTree) -> Run
     ensures connective { result.connective ≡ connective }
     ensures trees { trees_of result ≡ tree ∷ [] }
@@ -189,7 +189,8 @@ pub(crate) fn run_of(alloc: Global, connective: Connective, tree: MarkerTree) ->
     }
 }
 
-// A run as one of trees that the connective joins: its own, or the one tree that they make.
+// A run whose trees the connective joins: the run itself if it has that connective, otherwise the
+// one tree of it.
 fn run_under(interner: &mut Interner, connective: Connective, run: Run) -> Result<Run, AllocError>
     requires { AreHeld interner.old (trees_of run) }
     ensures kept { IsKept interner.old interner.new }
@@ -207,7 +208,7 @@ fn run_under(interner: &mut Interner, connective: Connective, run: Run) -> Resul
     Ok(run_of(interner.allocator(), connective, tree))
 }
 
-// The run with the trees of another one behind its own.
+// Appends the trees of another run.
 fn append(run: Run, more: Run) -> Result<Run, AllocError>
     ensures connective { IfOk result (λ r. r.connective ≡ run.connective) }
     ensures trees { IfOk result (λ r. trees_of r ≡ trees_of run ++ trees_of more) }
@@ -223,8 +224,8 @@ fn append(run: Run, more: Run) -> Result<Run, AllocError>
     })
 }
 
-// The trees of both. The shorter list moves, so that no tree moves more often than the number of
-// trees can be halved.
+// The trees of both runs. The shorter list is moved, so each tree is moved about log n times at
+// most.
 fn join_runs(left: Run, right: Run) -> Result<Run, AllocError>
     requires { right.connective ≡ left.connective }
     ensures connective { IfOk result (λ r. r.connective ≡ left.connective) }
@@ -238,7 +239,7 @@ fn join_runs(left: Run, right: Run) -> Result<Run, AllocError>
     }
 }
 
-// Joins the last two formulas, in parts.
+// Joins the last two runs.
 pub(crate) fn connect(
     interner: &mut Interner,
     runs: &mut Vec<Run>,
@@ -260,7 +261,7 @@ pub(crate) fn connect(
     Ok(())
 }
 
-// The last two runs, which leave the list. Where there are not as many none is left.
+// Takes the last two runs. Takes none if there are fewer.
 fn pop_two(runs: &mut Vec<Run>) -> Option<(Run, Run)>
     ensures two { IfSome result
         (λ pair. reverse runs.old.items ≡ pair.1 ∷ pair.0 ∷ reverse runs.new.items) }

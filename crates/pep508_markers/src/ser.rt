@@ -1,4 +1,4 @@
-//! Markers as they are written into JSON, where what says nothing is left out.
+//! Markers in JSON, where a marker that is always true is left out.
 
 ghost use Rattle.std.specs.Prelude.{◌≡◌, ◌↔◌, IfErr, IfOk, IsTrue, string_bytes};
 ghost use Rattle.marker_graph.specs.Contents.{IsHeld, truth};
@@ -11,27 +11,30 @@ use marker_graph::{Interner, MarkerTree};
 use refusal::Refusal;
 use thiserror::Error;
 
-/// `TRUE` says nothing, and has no text.
+/// The error of serializing `TRUE`, which has no text.
 #[derive(Clone, Copy, Debug, Drop, PartialEq, Eq, Error)]
 #[error("a marker that is true everywhere has no contents")]
 pub struct NoContents;
 
-/// Whether the marker is `TRUE`, which is left out where it is written.
+/// Returns whether the marker is `TRUE`, which is left out when it is written.
 pub fn is_empty(tree: &MarkerTree) -> bool
     ensures { IsTrue result ↔ (tree.now ≡ MarkerTree.TRUE) }
 {
     tree.is_true()
 }
 
-/// The text of the marker, as [`MarkerText::try_to_string`] gives it, as a JSON string. `TRUE` is
-/// refused as [`NoContents`], and else only memory can run out.
+/// Returns the text of the marker, as [`MarkerText::try_to_string`] does, as a JSON string.
+///
+/// # Errors
+/// - [`Refusal::Fault`] with [`NoContents`] if the marker is `TRUE`.
+/// - [`Refusal::OutOfMemory`] when memory runs out.
 pub fn serialize(tree: &MarkerTree, interner: &Interner) -> Result<String, Refusal<NoContents>>
     requires { IsHeld interner.now tree.now }
     ensures json { IfOk result
         (λ json. IsJsonOf (truth interner.now tree.now) (string_bytes json)) }
     ensures err { IfErr result (IsUnwritten tree.now) }
 {
-    // What has no text is true everywhere, and so `TRUE`.
+    // A marker without a text is true everywhere, so it is `TRUE`.
     interner.keeps_the_rules();
     truths_of_constants();
     same_truth_is_same_tree();

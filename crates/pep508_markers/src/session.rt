@@ -1,4 +1,4 @@
-//! A session: markers in numbered cells, and the commands on them.
+//! Sessions: markers in numbered cells, and commands on them.
 
 ghost use Rattle.std.specs.Prelude.{◌≡◌, [], IfOk, IfNone, IfSome, OnErr, slice_get, Some};
 ghost use Rattle.marker_graph.specs.Contents.{truth};
@@ -9,7 +9,8 @@ use crate::marker_text::MarkerText;
 use marker_environment::MarkerEnvironment;
 use marker_grammar::read;
 use marker_graph::{Interner, MarkerTree};
-use marker_parts::{ComparisonError, MarkerExpression};
+use marker_parts::MarkerExpression;
+use marker_parts::internal::ComparisonError;
 use pep440_version::Version;
 use pep508_errors::MarkerWarningKind;
 use pep508_names::ExtraName;
@@ -17,51 +18,49 @@ use refusal::Refusal;
 use std::alloc::{AllocError, Global};
 use std::ops::Bound;
 
-/// A command of a session. Cells are named by their numbers, from 0 on.
+/// A command of a session. Cells are numbered from 0.
 #[derive(Clone, Copy, Debug)]
 pub enum Command<'a> {
-    /// Reads a marker text into a new cell.
+    /// Parses a marker text into a new cell.
     Parse(&'a str),
-    /// Puts a comparison into a new cell.
+    /// Stores a comparison in a new cell.
     Expression(&'a MarkerExpression),
-    /// Puts the negation of a cell into a new one.
+    /// Stores the negation of a cell in a new one.
     Not(usize),
-    /// Puts the conjunction of two cells into a new one.
+    /// Stores the conjunction of two cells in a new one.
     And(usize, usize),
-    /// Puts the disjunction of two cells into a new one.
+    /// Stores the disjunction of two cells in a new one.
     Or(usize, usize),
-    /// Puts a cell into a new one where the Python version is taken to lie between two bounds.
+    /// Simplifies a cell into a new one, given that the Python version is between two bounds.
     SimplifyPython(usize, Bound<&'a Version>, Bound<&'a Version>),
-    /// Puts the conjunction of a cell and a range of Python versions into a new one.
+    /// Stores the conjunction of a cell and a range of Python versions in a new cell.
     ComplexifyPython(usize, Bound<&'a Version>, Bound<&'a Version>),
-    /// Puts a cell into a new one with extras set true.
+    /// Simplifies a cell into a new one, given that these extras are active.
     SimplifyExtras(usize, &'a [ExtraName]),
-    /// Tells whether two cells mean the same.
+    /// Returns whether two cells mean the same.
     Equal(usize, usize),
-    /// Tells whether nothing satisfies two cells at once.
+    /// Returns whether nothing satisfies both cells.
     Disjoint(usize, usize),
-    /// Tells whether a cell is true in an environment with these extras.
+    /// Returns whether a cell is true in an environment with these extras.
     Evaluate(usize, &'a MarkerEnvironment, &'a [ExtraName]),
-    /// Tells whether a cell is true in some valuation with exactly these extras, and no arbitrary
-    /// one.
+    /// Returns whether a cell can be true with exactly these extras, whatever the environment.
     EvaluateExtras(usize, &'a [ExtraName]),
-    /// Tells the text of a cell.
+    /// Returns the text of a cell.
     Text(usize),
 }
 
-/// Why a command was refused. It has changed no cell.
+/// Why a command was refused. No cell has changed.
 #[derive(Debug, PartialEq, Eq, Drop)]
 pub enum Reason {
-    /// No cell has such a number.
+    /// There is no cell with that number.
     NoSuchCell,
-    /// There was no memory for a new cell, or for a text.
+    /// Memory ran out, or the interner is full.
     OutOfMemory,
-    /// A version key is compared in such a way that a bound would raise 18446744073709551615, the
-    /// largest number of a version.
+    /// The set of versions of a comparison has a bound above 2^64 - 1.
     SegmentAtEnd,
     /// The comparison compares texts by `~=`.
     InvalidExpression,
-    /// The text is no marker: where its fault stands, in bytes, and what it is.
+    /// The text is an invalid marker: the place of the fault in bytes, and what is wrong.
     Marker {
         start: usize,
         len: usize,
@@ -74,9 +73,9 @@ pub enum Reason {
 pub enum Reply {
     /// The number of a new cell, and the kinds of the text's warnings in order.
     Cell(usize, Vec<MarkerWarningKind>),
-    /// The answer to a question.
+    /// The answer to a query.
     Truth(bool),
-    /// The text of a cell, or nothing where it is `TRUE`.
+    /// The text of a cell, or `None` if it is `TRUE`.
     Text(Option<String>),
     /// The command was refused.
     Refused(Reason),
@@ -92,21 +91,51 @@ pub struct Session {
 }
 
 impl Session {
-    ghost use Rattle.pep508_markers.specs.Session.{cells_of, request_of, Answers, Runs};
+    ghost use Rattle.marker_graph.specs.Contents.{HoldsTheSame, IsKept};
+    ghost use Rattle.pep508_markers.specs.Session.{cells_of, request_of, Answers, OnRefused, Runs};
 
-    /// A session with no cells.
+    /// Returns a session without cells. Its interner hashes by a fixed key and has room for
+    /// 4,294,967,295 pieces of nodes, the most that an interner can have.
     pub fn new(alloc: Global) -> Session
+        ensures { cells_of result ≡ [] }
+    {
+        Session::with_key_and_room(alloc, [0, 0], usize::MAX)
+    }
+
+    /// Returns a session without cells, whose interner hashes by a key of two random words. This
+    /// protects against commands that are chosen to make hashes collide.
+    pub fn with_key(alloc: Global, key: [u64; 2]) -> Session
+        ensures { cells_of result ≡ [] }
+    {
+        Session::with_key_and_room(alloc, key, usize::MAX)
+    }
+
+    /// Returns a session without cells, whose interner has room for `pieces` pieces of nodes. A
+    /// command that needs more is refused as `OutOfMemory`.
+    pub fn with_room(alloc: Global, pieces: usize) -> Session
+        ensures { cells_of result ≡ [] }
+    {
+        Session::with_key_and_room(alloc, [0, 0], pieces)
+    }
+
+    /// Returns a session without cells, with the key of `with_key` and the room of `with_room`.
+    pub fn with_key_and_room(alloc: Global, key: [u64; 2], pieces: usize) -> Session
         ensures { cells_of result ≡ [] }
     {
         Session {
             alloc,
-            interner: Interner::new(alloc),
+            interner: Interner::with_key_and_room(alloc, key, pieces),
             cells: Vec::new(alloc),
         }
     }
 
-    /// Runs the commands one after another and answers each. An `Err`, where there is no room for
-    /// the replies, has run nothing.
+    /// Returns whether a command was ever refused because the interner was full.
+    pub fn has_met_room(&self) -> bool {
+        self.interner.has_met_room()
+    }
+
+    /// Runs the commands in order and returns their replies. When memory for the replies runs out,
+    /// no command is run.
     pub fn run(&mut self, commands: &[Command<'_>]) -> Result<Vec<Reply>, AllocError>
         ensures run { IfOk result
             (λ replies. Runs self.old commands.now replies.items self.new) }
@@ -120,9 +149,27 @@ impl Session {
         Ok(replies)
     }
 
-    /// Runs one command. The reply says why where it is refused, and then no cell has changed.
+    /// Runs a command. If it is refused, the reply says why, no cell changes, and the interner
+    /// holds what it held before.
     pub fn execute(&mut self, command: Command<'_>) -> Reply
-        ensures { Answers self.old (request_of command.entry) result self.new }
+        ensures answers { Answers self.old (request_of command.entry) result self.new }
+        ensures released { OnRefused result (HoldsTheSame self.old.interner self.new.interner) }
+    {
+        let mark = self.interner.mark();
+        match self.answer(command) {
+            Reply::Refused(reason) => {
+                self.interner.release(mark);
+                Reply::Refused(reason)
+            }
+            reply => reply,
+        }
+    }
+
+    // Answers a command. If it is refused, the nodes made so far are left in the interner.
+    fn answer(&mut self, command: Command<'_>) -> Reply
+        ensures answers { Answers self.old (request_of command.entry) result self.new }
+        ensures kept { IsKept self.old.interner self.new.interner }
+        ensures cells { OnRefused result (self.new.cells.items ≡ self.old.cells.items) }
     {
         match command {
             Command::Parse(text) => self.parse(text),
@@ -148,15 +195,17 @@ impl Session {
     ghost use Rattle.version_ranges.specs.Clamp.{bound_of};
     ghost use Rattle.marker_environment.specs.Environment.{values_of};
     ghost use Rattle.marker_parts.specs.Expression.{test_of};
-    ghost use Rattle.marker_graph.specs.Contents.{IsHeld};
+    ghost use Rattle.marker_graph.specs.Contents.{IsHeld, IsKept};
     ghost use Rattle.marker_grammar.specs.Refused as texts;
     ghost use Rattle.pep508_markers.specs.Machine;
     ghost use Rattle.pep508_markers.specs.Machine.{make, ask, print, Cells, IsRefusal, Makes, Making};
-    ghost use Rattle.pep508_markers.specs.Session.{cells_of, reason_of, Answers};
+    ghost use Rattle.pep508_markers.specs.Session.{cells_of, reason_of, Answers, OnRefused};
 
-    // Reads a text into a new cell.
+    // Parses a text into a new cell.
     fn parse(&mut self, text: &str) -> Reply
-        ensures { Answers self.old (make (Machine.parse text.now)) result self.new }
+        ensures answers { Answers self.old (make (Machine.parse text.now)) result self.new }
+        ensures kept { IsKept self.old.interner self.new.interner }
+        ensures cells { OnRefused result (self.new.cells.items ≡ self.old.cells.items) }
     {
         let reading = match read(self.alloc, text) {
             Ok(reading) => reading,
@@ -169,7 +218,7 @@ impl Session {
         }
     }
 
-    // Why a text was not read, for a reply.
+    // Why a text was refused, for a reply.
     fn refusal(alloc: Global, text: &str, error: ComparisonError<'_>) -> Reason
         requires { texts.IsRefusal text.now error }
         ensures { (cells : Cells)
@@ -188,10 +237,12 @@ impl Session {
         }
     }
 
-    // Puts a comparison into a new cell.
+    // Stores a comparison in a new cell.
     fn expression(&mut self, expression: &MarkerExpression) -> Reply
-        ensures { Answers self.old
+        ensures answers { Answers self.old
             (make (Machine.expression (test_of expression.now))) result self.new }
+        ensures kept { IsKept self.old.interner self.new.interner }
+        ensures cells { OnRefused result (self.new.cells.items ≡ self.old.cells.items) }
     {
         let Ok(expression) = expression.clone() else {
             return Reply::Refused(Reason::OutOfMemory);
@@ -205,7 +256,9 @@ impl Session {
     }
 
     fn negation(&mut self, a: usize) -> Reply
-        ensures { Answers self.old (make (Machine.negation a)) result self.new }
+        ensures answers { Answers self.old (make (Machine.negation a)) result self.new }
+        ensures kept { IsKept self.old.interner self.new.interner }
+        ensures cells { OnRefused result (self.new.cells.items ≡ self.old.cells.items) }
     {
         let Some(tree) = self.cell(a) else {
             return Reply::Refused(Reason::NoSuchCell);
@@ -214,7 +267,9 @@ impl Session {
     }
 
     fn conjunction(&mut self, a: usize, b: usize) -> Reply
-        ensures { Answers self.old (make (Machine.conjunction a b)) result self.new }
+        ensures answers { Answers self.old (make (Machine.conjunction a b)) result self.new }
+        ensures kept { IsKept self.old.interner self.new.interner }
+        ensures cells { OnRefused result (self.new.cells.items ≡ self.old.cells.items) }
     {
         let Some((left, right)) = self.two_cells(a, b) else {
             return Reply::Refused(Reason::NoSuchCell);
@@ -227,7 +282,9 @@ impl Session {
     }
 
     fn disjunction(&mut self, a: usize, b: usize) -> Reply
-        ensures { Answers self.old (make (Machine.disjunction a b)) result self.new }
+        ensures answers { Answers self.old (make (Machine.disjunction a b)) result self.new }
+        ensures kept { IsKept self.old.interner self.new.interner }
+        ensures cells { OnRefused result (self.new.cells.items ≡ self.old.cells.items) }
     {
         let Some((left, right)) = self.two_cells(a, b) else {
             return Reply::Refused(Reason::NoSuchCell);
@@ -240,9 +297,11 @@ impl Session {
     }
 
     fn simplify_python(&mut self, a: usize, lower: Bound<&Version>, upper: Bound<&Version>) -> Reply
-        ensures { Answers self.old
+        ensures answers { Answers self.old
             (make (Machine.simplify_python a (bound_of lower.entry) (bound_of upper.entry)))
             result self.new }
+        ensures kept { IsKept self.old.interner self.new.interner }
+        ensures cells { OnRefused result (self.new.cells.items ≡ self.old.cells.items) }
     {
         let Some(tree) = self.cell(a) else {
             return Reply::Refused(Reason::NoSuchCell);
@@ -259,9 +318,11 @@ impl Session {
         lower: Bound<&Version>,
         upper: Bound<&Version>,
     ) -> Reply
-        ensures { Answers self.old
+        ensures answers { Answers self.old
             (make (Machine.complexify_python a (bound_of lower.entry) (bound_of upper.entry)))
             result self.new }
+        ensures kept { IsKept self.old.interner self.new.interner }
+        ensures cells { OnRefused result (self.new.cells.items ≡ self.old.cells.items) }
     {
         let Some(tree) = self.cell(a) else {
             return Reply::Refused(Reason::NoSuchCell);
@@ -273,7 +334,10 @@ impl Session {
     }
 
     fn simplify_extras(&mut self, a: usize, extras: &[ExtraName]) -> Reply
-        ensures { Answers self.old (make (Machine.simplify_extras a extras.now)) result self.new }
+        ensures answers { Answers self.old (make (Machine.simplify_extras a extras.now)) result
+            self.new }
+        ensures kept { IsKept self.old.interner self.new.interner }
+        ensures cells { OnRefused result (self.new.cells.items ≡ self.old.cells.items) }
     {
         let Some(tree) = self.cell(a) else {
             return Reply::Refused(Reason::NoSuchCell);
@@ -357,12 +421,14 @@ impl Session {
         Some((left, right))
     }
 
-    // Puts a tree into a new cell.
+    // Stores a tree in a new cell.
     fn add(&mut self, tree: MarkerTree, kinds: Vec<MarkerWarningKind>) -> Reply
         requires { IsHeld self.old.interner tree }
-        ensures { (making : Making)
+        ensures answers { (making : Making)
             → Makes (cells_of self.old) making (truth self.old.interner tree) kinds.items
             → Answers self.old (make making) result self.new }
+        ensures kept { IsKept self.old.interner self.new.interner }
+        ensures cells { OnRefused result (self.new.cells.items ≡ self.old.cells.items) }
     {
         let index = self.cells.len();
         match self.cells.push(tree) {

@@ -2,10 +2,11 @@ use Rattle.std.proofs.Common.{◌≡◌, ◌&&◌, ◌||◌, ap, subst, sym, ◌
 use Rattle.std.proofs.lemmas.Bool.{both_ways}
 use Rattle.marker_environment.specs.Valuation.{Valuation}
 use Rattle.marker_terms.specs.Clauses.{clause_holds, clauses_hold, clauses_of}
-use Rattle.marker_terms.specs.Plain.{AllPrintable, HavePrintableTerms}
-use Rattle.marker_terms.proofs.TermsOf.{left_printable}
+use Rattle.marker_terms.specs.Plain.{AllPrintable, HavePrintableTerms, IsPrintable}
+use Rattle.marker_terms.proofs.NumberLaws.{reduction_keeps}
 use Rattle.marker_graph.specs.Contents.{truth}
 use Rattle.marker_clauses.specs.Branch.{HasReleases}
+use Rattle.marker_clauses.specs.Readable.{IsReadable}
 use Rattle.marker_clauses.proofs.DnfLaws.{all_printable, of_false, of_paths, of_true, readable_releases}
 use Rattle.marker_clauses.proofs.dnf.to_dnf.Goals as goal
 
@@ -18,13 +19,19 @@ returns-then-is_false c =
 
 pub returns : goal.returns
 returns c =
-    of_paths c.args.interner.now c.args.tree (clauses_of c.reduce.new.clauses.items) (λ e. both_ways _ c.if-is_true.false (c.is_true.ensures.1 e)) (λ e. both_ways _ c.if-is_false.false (c.is_false.ensures.1 e))
+    of_paths c.args.interner.now c.args.tree (clauses_of c.in_ok-left.left.items) (λ e. both_ways _ c.if-is_true.false (c.is_true.ensures.1 e)) (λ e. both_ways _ c.if-is_false.false (c.is_false.ensures.1 e))
+    (clauses_of c.collect.new.clauses.items, record { mean = paths_mean; printable = paths_printable }, c.in_ok-left.ensures.reduced)
     mean
     (λ r. all_printable c.args.interner.now c.args.tree c.requires (c.same_truth_is_same_tree.ensures c.args.interner.now c.keeps_the_rules.ensures.nodes)
     (c.truths_of_constants.ensures.truth c.args.interner.now c.keeps_the_rules.ensures.nodes) (c.truths_of_constants.ensures.falsehood c.args.interner.now c.keeps_the_rules.ensures.nodes)
-    (clauses_of c.reduce.new.clauses.items) (λ e. both_ways _ c.if-is_true.false (c.is_true.ensures.1 e)) (λ e. both_ways _ c.if-is_false.false (c.is_false.ensures.1 e)) (mean (readable_releases c.args.interner.now c.args.tree r))
-    (left_printable (clauses_of c.reduce.new.clauses.items) (clauses_of c.collect.new.clauses.items) c.reduce.ensures.terms
-    (c.in_ok-collect.ensures.printable r (subst AllPrintable (sym c.new-path.ensures.items) tt) (subst (λ xs. HavePrintableTerms (clauses_of xs)) (sym c.new-clauses.ensures.items) tt))))
+    (clauses_of c.in_ok-left.left.items) (λ e. both_ways _ c.if-is_true.false (c.is_true.ensures.1 e)) (λ e. both_ways _ c.if-is_false.false (c.is_false.ensures.1 e)) (mean (readable_releases c.args.interner.now c.args.tree r))
+    (reduction_keeps IsPrintable (clauses_of c.in_ok-left.left.items) (clauses_of c.collect.new.clauses.items) c.in_ok-left.ensures.reduced (paths_printable r)))
   where
-    mean : HasReleases c.args.interner.now c.args.tree → (v : Valuation) → clauses_hold (clauses_of c.reduce.new.clauses.items) v ≡ truth c.args.interner.now c.args.tree v
-    mean h v = c.reduce.ensures.means v ∙ c.in_ok-collect.ensures.means h v ∙ ap (λ ps. clauses_hold (clauses_of c.new-clauses.result.items) v || (clause_holds ps v && truth c.args.interner.now c.args.tree v)) c.new-path.ensures.items ∙ ap (λ xs. clauses_hold (clauses_of xs) v || truth c.args.interner.now c.args.tree v) c.new-clauses.ensures.items
+    paths_printable : IsReadable c.args.interner.now c.args.tree → HavePrintableTerms (clauses_of c.collect.new.clauses.items)
+    paths_printable r = c.in_ok-collect.ensures.printable r (subst AllPrintable (sym c.new-path.ensures.items) tt) (subst (λ xs. HavePrintableTerms (clauses_of xs)) (sym c.new-clauses.ensures.items) tt)
+
+    paths_mean : HasReleases c.args.interner.now c.args.tree → (v : Valuation) → clauses_hold (clauses_of c.collect.new.clauses.items) v ≡ truth c.args.interner.now c.args.tree v
+    paths_mean h v = c.in_ok-collect.ensures.means h v ∙ ap (λ ps. clauses_hold (clauses_of c.new-clauses.result.items) v || (clause_holds ps v && truth c.args.interner.now c.args.tree v)) c.new-path.ensures.items ∙ ap (λ xs. clauses_hold (clauses_of xs) v || truth c.args.interner.now c.args.tree v) c.new-clauses.ensures.items
+
+    mean : HasReleases c.args.interner.now c.args.tree → (v : Valuation) → clauses_hold (clauses_of c.in_ok-left.left.items) v ≡ truth c.args.interner.now c.args.tree v
+    mean h v = c.in_ok-left.ensures.means v ∙ paths_mean h v

@@ -1,76 +1,73 @@
-use Rattle.std.proofs.Common.{◌≡◌, ◌&&◌, ◌||◌, Some, true, ap, subst, sym, ◌∙◌, arith}
-use Rattle.std.specs.Prelude.{slice_get}
-use Rattle.std.specs.List.{list_any}
+use Rattle.std.proofs.Common.{◌≡◌, ◌&&◌, ◌||◌, ◌++◌, take, refl, ap, subst, sym, ◌∙◌}
+use Rattle.std.specs.List.{AllByRecursion, list_any}
+use Rattle.std.specs.Vec.Iter.{into_iter_items}
 use Rattle.std.proofs.lemmas.Bool.{both_ways}
-use Rattle.std.proofs.lemmas.List.{take_all}
-use Rattle.std.proofs.lemmas.Option.{slice_get-get_or}
-use Rattle.marker_terms.specs.Clauses.{clause_holds, clauses_hold, clauses_of}
+use Rattle.std.proofs.lemmas.List.{take_at}
+use Rattle.std.proofs.lemmas.List.Folds.{list_all-append}
+use Rattle.marker_terms.specs.Clauses.{clause_holds, clauses_hold, clauses_of, term_holds}
 use Rattle.marker_terms.specs.Plain.{AllPrintable, HavePrintableTerms}
-use Rattle.marker_terms.proofs.PlainLaws.{clauses_pushed}
 use Rattle.marker_graph.specs.Contents.{truth}
-use Rattle.marker_clauses.specs.declared.branch.Branch.{Branch}
-use Rattle.marker_clauses.specs.Branch.{reaches, HavePrintableBranches}
-use Rattle.marker_clauses.proofs.WalkLaws.{and_end, branch_added, clause_at_printable, clause_more, each_at, readable_below, no_branch_yet, nothing_yet, releases_below, terms_added}
+use Rattle.marker_clauses.specs.Branch.{reaches, HavePrintableBranches, IsBelow}
+use Rattle.marker_clauses.proofs.WalkLaws.{and_end, branch_taken, each_branch, each_joined, none_taken, nothing_to_come, readable_below, releases_below, true_truth, way_taken}
 use Rattle.marker_clauses.proofs.walk.+collect.Goals as goal
 
 pub returns-then-is_true-clause-means : goal.returns-then-is_true-clause-means
-returns-then-is_true-clause-means t c = λ h v.
-    clause_more c.args.interner.now c.args.tree c.args.clauses.now.items c.push.new.self.items c.args.path c.args.path.items (c.is_true.ensures.0 c.if-is_true.true) c.in_ok-push.ensures.items (λ w. sym (and_end (clause_holds c.args.path.items w))) v
-
-pub returns-then-is_true-clause-printable : goal.returns-then-is_true-clause-printable
-returns-then-is_true-clause-printable t c = λ r p h. clauses_pushed c.args.clauses.now.items c.push.new.self.items c.args.path c.in_ok-push.ensures.items h p
+returns-then-is_true-clause-means t c h v =
+    c.in_ok-add_clause.ensures.means v ∙ ap (λ ps. clauses_hold (clauses_of c.args.clauses.now.items) v || clause_holds ps v) c.deref.ensures.value
+    ∙ ap (λ b. clauses_hold (clauses_of c.args.clauses.now.items) v || b) (sym (and_end (clause_holds c.args.path.now.items v)) ∙ ap (λ b. clause_holds c.args.path.now.items v && b) (sym (true_truth c.args.interner.now c.args.tree v (c.is_true.ensures.0 c.if-is_true.true))))
 
 pub loop-branch-init : goal.loop-branch-init
-loop-branch-init t c = record { means = λ h v. no_branch_yet (clause_holds c.args.path.items v) true (clauses_hold (clauses_of c.args.clauses.now.items) v); printable = λ r p h. h }
+loop-branch-init t c =
+    let items = c.into_iter-branch-iterator.ensures.into_iter_gives.0 in
+    record {
+      path = refl;
+      below = subst (AllByRecursion (λ b. IsBelow c.args.interner.now c.args.tree b.child)) (sym items) (each_branch (λ b. IsBelow c.args.interner.now c.args.tree b.child) c.in_ok-found.found.items c.in_ok-found.ensures.each);
+      ready = λ r. subst HavePrintableBranches (sym items) (c.in_ok-found.ensures.printable r);
+      means = λ h v.
+          ap (λ bs. clauses_hold (clauses_of c.args.clauses.now.items) v || (clause_holds c.args.path.now.items v && list_any (λ b. reaches v (λ s. truth c.args.interner.now s v) b) bs)) items
+          ∙ ap (λ b. clauses_hold (clauses_of c.args.clauses.now.items) v || (clause_holds c.args.path.now.items v && b)) (c.in_ok-found.ensures.mean h (λ e. both_ways _ c.if-is_true.false (c.is_true.ensures.1 e)) v);
+      printable = λ r p h. h;
+    }
+
+pub loop-way-preserved : goal.loop-way-preserved
+loop-way-preserved t c = record {
+  path = whole;
+  means = λ h v. way_taken _ (clauses_hold (clauses_of c.loop-way.clauses.items) v) (clauses_hold (clauses_of c.collect.new.clauses.items) v) (clause_holds c.loop-branch.path.items v) (clause_holds c.in-Some-way.way.items v)
+      (clauses_hold (clauses_of (into_iter_items c.next-in-loop-way.new.self)) v) (truth c.args.interner.now c.in-Some.branch.child v)
+      (c.in_ok-collect.ensures.means h v ∙ ap (λ b. clauses_hold (clauses_of c.loop-way.clauses.items) v || (b && truth c.args.interner.now c.in-Some.branch.child v)) (ap (λ ps. clause_holds ps v) longer ∙ list_all-append (λ x. term_holds x v) c.loop-branch.path.items c.in-Some-way.way.items))
+      (ap (λ ws. clauses_hold (clauses_of c.loop-way.clauses.items) v || (clause_holds c.loop-branch.path.items v && (clauses_hold (clauses_of ws) v && truth c.args.interner.now c.in-Some.branch.child v))) (sym c.in-Some-way.ensures.steps.0) ∙ c.loop-way.invariant.means h v);
+  ready = λ a. (subst (λ ws. HavePrintableTerms (clauses_of ws)) c.in-Some-way.ensures.steps.0 (c.loop-way.invariant.ready a)).1;
+  printable = λ r a p h.
+      let here = (subst (λ ws. HavePrintableTerms (clauses_of ws)) c.in-Some-way.ensures.steps.0 (c.loop-way.invariant.ready a)).0 in
+      c.in_ok-collect.ensures.printable r (subst AllPrintable (sym longer) (each_joined c.loop-branch.path.items c.in-Some-way.way.items p here)) (c.loop-way.invariant.printable r a p h);
+}
+  where
+    longer : c.append.new.self.items ≡ c.loop-branch.path.items ++ c.in-Some-way.way.items
+    longer = c.in_ok-append.ensures.items ∙ ap (λ ps. ps ++ c.in-Some-way.way.items) c.loop-way.invariant.path
+
+    whole : c.truncate.new.self.items ≡ c.loop-branch.path.items
+    whole =
+        c.truncate.ensures.items ∙ ap (take c.len-len.result) (c.in_ok-collect.ensures.path ∙ c.in_ok-append.ensures.items)
+        ∙ take_at c.loop-way.path.items c.in-Some-way.way.items c.len-len.result (sym (c.len-len.ensures ∙ c.loop-way.path.ok.0)) ∙ c.loop-way.invariant.path
 
 pub loop-branch-preserved : goal.loop-branch-preserved
 loop-branch-preserved t c =
-    let at = subst (λ xs. slice_get xs c.loop-branch.branch-index ≡ Some c.branch-item.result) c.deref-branch-items.ensures.value
-    (slice_get-get_or c.deref-branch-items.result.now c.loop-branch.branch-index c.branch-item.result c.loop-branch-test.true ∙ ap Some (sym c.branch-item.is)) in
-    let below = c.in_ok-found.ensures.each c.loop-branch.branch-index c.branch-item.result at in
+    let below = subst (AllByRecursion (λ b. IsBelow c.args.interner.now c.args.tree b.child)) c.in-Some.ensures.steps.0 c.loop-branch.invariant.below in
+    let ways = c.into_iter-way-iterator.ensures.into_iter_gives.0 in
     record {
-      means = λ h v. branch_added (clauses_hold (clauses_of c.args.clauses.now.items) v) (clauses_hold (clauses_of c.loop-branch.clauses.items) v) (clauses_hold (clauses_of c.loop-terms.clauses.items) v) (clause_holds c.args.path.items v)
-          (λ b. reaches v (λ s. truth c.args.interner.now s v) b) c.deref-branch-items.result.now c.loop-branch.branch-index c.branch-item.result c.loop-branch-test.true c.branch-item.is (c.loop-branch.invariant.means h v)
-          (c.loop-terms.invariant.means (releases_below c.args.interner.now c.args.tree c.branch-item.result.child below.1 h) v
-          ∙ ap (λ cs. clauses_hold (clauses_of c.loop-branch.clauses.items) v || (clause_holds c.args.path.items v && (clauses_hold (clauses_of cs) v && truth c.args.interner.now c.branch-item.result.child v)))
-          (take_all c.loop-terms.terms-index c.deref-terms-items.result.now c.loop-terms-test.false ∙ c.deref-terms-items.ensures.value));
+      path = c.loop-way.invariant.path ∙ c.loop-branch.invariant.path;
+      below = below.1;
+      ready = λ r. (subst HavePrintableBranches c.in-Some.ensures.steps.0 (c.loop-branch.invariant.ready r)).1;
+      means = λ h v. branch_taken _ (clauses_hold (clauses_of c.loop-branch.clauses.items) v) (clauses_hold (clauses_of c.loop-way.clauses.items) v) (clause_holds c.args.path.now.items v)
+          (reaches v (λ s. truth c.args.interner.now s v) c.in-Some.branch) (list_any (λ b. reaches v (λ s. truth c.args.interner.now s v) b) (into_iter_items c.next.new.self))
+          (none_taken (clause_holds c.loop-branch.path.items v) (truth c.args.interner.now c.in-Some.branch.child v) (clauses_hold (clauses_of c.loop-way.clauses.items) v)
+          ∙ ap (λ ws. clauses_hold (clauses_of c.loop-way.clauses.items) v || (clause_holds c.loop-branch.path.items v && (clauses_hold (clauses_of ws) v && truth c.args.interner.now c.in-Some.branch.child v))) (sym (nothing_to_come c.loop-way.way-iterator c.in-None-way.ensures.steps.0))
+          ∙ c.loop-way.invariant.means (releases_below c.args.interner.now c.args.tree c.in-Some.branch.child below.0.1 h) v
+          ∙ ap (λ ws. clauses_hold (clauses_of c.loop-branch.clauses.items) v || (clause_holds c.loop-branch.path.items v && (clauses_hold (clauses_of ws) v && truth c.args.interner.now c.in-Some.branch.child v))) ways
+          ∙ ap (λ ps. clauses_hold (clauses_of c.loop-branch.clauses.items) v || (clause_holds ps v && (clauses_hold (clauses_of c.in-Some.branch.clauses.items) v && truth c.args.interner.now c.in-Some.branch.child v))) c.loop-branch.invariant.path)
+          (ap (λ bs. clauses_hold (clauses_of c.loop-branch.clauses.items) v || (clause_holds c.args.path.now.items v && list_any (λ b. reaches v (λ s. truth c.args.interner.now s v) b) bs)) (sym c.in-Some.ensures.steps.0) ∙ c.loop-branch.invariant.means h v);
       printable = λ r p h.
-          let all = subst HavePrintableBranches (sym c.deref-branch-items.ensures.value) (c.in_ok-found.ensures.printable r) in
-          let here = each_at (λ (b : Branch). HavePrintableTerms (clauses_of b.clauses.items)) c.deref-branch-items.result.now c.loop-branch.branch-index c.branch-item.result c.loop-branch-test.true c.branch-item.is all in
-          c.loop-terms.invariant.printable (readable_below c.args.interner.now c.args.tree c.branch-item.result.child below.1 r) (subst (λ x. HavePrintableTerms (clauses_of x)) (sym c.deref-terms-items.ensures.value) here) p (c.loop-branch.invariant.printable r p h);
+          let here = (subst HavePrintableBranches c.in-Some.ensures.steps.0 (c.loop-branch.invariant.ready r)).0 in
+          c.loop-way.invariant.printable (readable_below c.args.interner.now c.args.tree c.in-Some.branch.child below.0.1 r) (subst (λ ws. HavePrintableTerms (clauses_of ws)) (sym ways) here)
+          (subst AllPrintable (sym c.loop-branch.invariant.path) p) (c.loop-branch.invariant.printable r p h);
     }
-
-pub loop-terms-init : goal.loop-terms-init
-loop-terms-init t c = record {
-  means = λ h v. nothing_yet (clause_holds c.args.path.items v) (truth c.args.interner.now c.branch-item.result.child v) (clauses_hold (clauses_of c.loop-branch.clauses.items) v);
-  printable = λ r a p h. h;
-}
-
-pub loop-terms-preserved : goal.loop-terms-preserved
-loop-terms-preserved t c = record {
-  means = λ h v. terms_added (clauses_hold (clauses_of c.loop-branch.clauses.items) v) (clauses_hold (clauses_of c.loop-terms.clauses.items) v) (clauses_hold (clauses_of c.collect.new.clauses.items) v)
-      (clause_holds c.args.path.items v) (truth c.args.interner.now c.branch-item.result.child v) (clause_holds c.in_ok-all.all.items v) c.deref-terms-items.result.now c.loop-terms.terms-index c.terms-item.result v
-      c.loop-terms-test.true c.terms-item.is (c.in_ok-all.ensures.means v ∙ ap (λ ps. clause_holds ps v && clause_holds c.deref-in-loop-terms.result.now v) c.deref.ensures.value ∙ ap (λ ts. clause_holds c.args.path.items v && clause_holds ts v) c.deref-in-loop-terms.ensures.value) (c.loop-terms.invariant.means h v)
-      (c.in_ok-collect.ensures.means h v);
-  printable = λ r a p h.
-      let here = clause_at_printable c.deref-terms-items.result.now c.loop-terms.terms-index c.terms-item.result c.loop-terms-test.true c.terms-item.is a in
-      c.in_ok-collect.ensures.printable r (c.in_ok-all.ensures.printable (subst AllPrintable (sym c.deref.ensures.value) p) (subst AllPrintable (sym c.deref-in-loop-terms.ensures.value) here)) (c.loop-terms.invariant.printable r a p h);
-}
-
-pub collect-requires : goal.collect-requires
-collect-requires t c =
-    let at = subst (λ xs. slice_get xs c.loop-branch.branch-index ≡ Some c.branch-item.result) c.deref-branch-items.ensures.value
-    (slice_get-get_or c.deref-branch-items.result.now c.loop-branch.branch-index c.branch-item.result c.loop-branch-test.true ∙ ap Some (sym c.branch-item.is)) in
-    let below = c.in_ok-found.ensures.each c.loop-branch.branch-index c.branch-item.result at in
-    (omega (arith, c.decreases, below.2), below.0)
-
-pub returns-clause-means : goal.returns-clause-means
-returns-clause-means t c = λ h v.
-    c.loop-branch.invariant.means h v
-    ∙ ap (λ bs. clauses_hold (clauses_of c.args.clauses.now.items) v || (clause_holds c.args.path.items v && list_any (λ b. reaches v (λ s. truth c.args.interner.now s v) b) bs))
-    (take_all c.loop-branch.branch-index c.deref-branch-items.result.now c.loop-branch-test.false ∙ c.deref-branch-items.ensures.value)
-    ∙ ap (λ b. clauses_hold (clauses_of c.args.clauses.now.items) v || (clause_holds c.args.path.items v && b))
-    (c.in_ok-found.ensures.mean h (λ e. both_ways _ c.if-is_true.false (c.is_true.ensures.1 e)) v)
-
-pub returns-clause-printable : goal.returns-clause-printable
-returns-clause-printable t c = c.loop-branch.invariant.printable

@@ -1,4 +1,4 @@
-use Rattle.std.proofs.Common.{ap, ◌∙◌}
+use Rattle.std.proofs.Common.{ap, ◌++◌, ◌∙◌}
 use Rattle.std.proofs.lemmas.Bool.{both_ways}
 use Rattle.marker_terms.specs.Clauses.{clauses_of}
 use Rattle.marker_print.specs.Text.{clauses_text}
@@ -22,4 +22,4 @@ returns c =
     other_is_told c.args.interner.now rules c.args.tree c.requires (c.other_markers_are_satisfied.ensures c.args.interner.now rules)
     (λ e. both_ways _ c.if-is_true.false (c.is_true.ensures.1 e)) (λ e. both_ways _ c.if-is_false.false (c.is_false.ensures.1 e)) clauses c.in_ok-clauses.ensures (c.clauses_read_back.ensures clauses)
     (c.readable_truths_have_readable_markers.ensures c.args.interner.now rules c.args.tree c.requires) (c.bounds_of_readable_truths_are_releases.ensures c.args.interner.now rules c.args.tree c.requires) _
-    (c.in_ok-text.ensures.ok ∙ ap (λ xs. clauses_text (clauses_of xs)) c.deref.ensures.value)
+    (c.in_ok-write.ensures.bytes ∙ ap (λ bs. bs ++ clauses_text (clauses_of c.deref.result.now)) c.in_ok-text.ensures.bytes ∙ ap (λ xs. clauses_text (clauses_of xs)) c.deref.ensures.value)

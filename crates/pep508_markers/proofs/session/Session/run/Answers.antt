@@ -20,5 +20,5 @@ loop-command-preserved c =
     record {
       room = omega (arith, c.push.ensures.capacity, c.loop-command.invariant.room);
       count = omega (arith, chosen _ _ _ _ c.push.ensures.len (ap is_ok c.unwrap.ensures), c.loop-command.invariant.count);
-      run = run_on _ _ _ c.args.commands.now c.loop-command.command-index c.command-item.result c.loop-command.replies.items _ c.execute-reply.result c.loop-command-test.true c.command-item.is c.loop-command.invariant.run c.execute-reply.ensures pushed;
+      run = run_on _ _ _ c.args.commands.now c.loop-command.command-index c.command-item.result c.loop-command.replies.items _ c.execute-reply.result c.loop-command-test.true c.command-item.is c.loop-command.invariant.run c.execute-reply.ensures.answers pushed;
     }

@@ -6,17 +6,17 @@ use Rattle.pep508_markers.specs.Session.{cells_of, answer_of}
 use Rattle.pep508_markers.proofs.SessionLaws.{makes_assumed, one_is_there, truths_kept, refuses_one}
 use Rattle.pep508_markers.proofs.session.Session.simplify_python.Goals as goal
 
-pub returns-in-Ok : goal.returns-in-Ok
-returns-in-Ok c =
+pub returns-in-Ok-clause-answers : goal.returns-in-Ok-clause-answers
+returns-in-Ok-clause-answers c =
     let trees = c.args.self.now.cells.items in
     let making = Machine.simplify_python c.args.a (bound_of c.args.lower) (bound_of c.args.upper) in
     let means = makes_assumed c.simplify_python_versions.new.interner trees c.new.result.items c.new.ensures.items c.args.a c.in-Some.tree c.in-Some.ensures.found (bound_of c.args.lower) (bound_of c.args.upper) c.in-Ok.tree c.in-Ok.ensures.means in
-    subst (λ (x : Cells). Step x (make making) (answer_of c.add.result) (cells_of c.add.new.self)) (truths_kept c.args.self.now.interner c.simplify_python_versions.new.interner trees c.simplify_python_versions.ensures.kept c.args.self.now.held) (c.add.ensures making means)
+    subst (λ (x : Cells). Step x (make making) (answer_of c.add.result) (cells_of c.add.new.self)) (truths_kept c.args.self.now.interner c.simplify_python_versions.new.interner trees c.simplify_python_versions.ensures.kept c.args.self.now.held) (c.add.ensures.answers making means)
 
-pub returns-in-Err : goal.returns-in-Err
-returns-in-Err c =
+pub returns-in-Err-clause-answers : goal.returns-in-Err-clause-answers
+returns-in-Err-clause-answers c =
     let trees = c.args.self.now.cells.items in
     refuses (starved (one_is_there c.args.self.now.interner trees c.args.a c.in-Some.tree c.in-Some.ensures.found)) (truths_kept c.args.self.now.interner c.simplify_python_versions.new.interner trees c.simplify_python_versions.ensures.kept c.args.self.now.held)
 
-pub returns-in_default : goal.returns-in_default
-returns-in_default c = refuses_one c.args.self.now.interner c.args.self.now.cells.items c.args.a refl c.in_default.ensures.missing
+pub returns-in_default-clause-answers : goal.returns-in_default-clause-answers
+returns-in_default-clause-answers c = refuses_one c.args.self.now.interner c.args.self.now.cells.items c.args.a refl c.in_default.ensures.missing

@@ -2,7 +2,7 @@ use Rattle.std.proofs.Common.{◌≤◌, length}
 use Rattle.std.specs.Vec.Iter.{into_iter_items}
 use Rattle.marker_graph.specs.Contents.{IsKept}
 use Rattle.pep508_markers.proofs.DoneLaws.{IsDone}
-use Rattle.pep508_markers.proofs.formula_tree.tree_of.Given as goal
+use Rattle.pep508_markers.proofs.formula_tree.join_tokens.Given as goal
 
 abbrev pub invariant-loop-token : goal.invariant-loop-token
 invariant-loop-token l = record {

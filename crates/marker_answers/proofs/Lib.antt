@@ -1,0 +1,4 @@
+pub mod KeptLaws
+pub mod SettleLaws
+pub mod GrantLaws
+pub mod FactLaws

@@ -1,0 +1,4 @@
+pub mod Comparison
+pub mod Known
+pub mod Evaluation
+pub mod Simplified
