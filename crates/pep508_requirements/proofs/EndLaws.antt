@@ -65,7 +65,7 @@ module _ {T E : Type 0} (text front rest : List ℕ) where
       (no_tail (error_by (FindsInTail front rest) here t) none, no_end_there (chars rest) none)
 
   module _ (marker : List ℕ) (utf8 : IsUtf8 marker) (tail : IsTail (chars rest) (Some (chars marker))) where
-    -- no marker stands behind `;`
+    -- no marker follows `;`
     marker_refusal : (refusal : Refusal (Pep508Error T E)) → IsRefusalIn text marker refusal → IsEndRefusal text front rest refusal
     marker_refusal refusals.OutOfMemory h = tt
     marker_refusal refusals.SegmentAtEnd h = record { formula = h.0; kinds = h.1.0; end = ends_with (chars rest) marker utf8 tail h.1.1; overflows = h.2 }

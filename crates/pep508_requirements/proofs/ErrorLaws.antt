@@ -1,4 +1,4 @@
--- How faults are told, and what they say of the text.
+-- The errors of faults, and what they say of the text.
 use Rattle.std.proofs.Common.{◌≡◌, ℕ, ◌+◌, ◌-◌, ◌<◌, cond, eqb, Bool, true, false, List, ◌++◌, Option, Some, None, length, sym, subst, ◌∙◌, arith, length-append, IsUtf8}
 use Rattle.std.specs.Prelude.{IfSome}
 use Rattle.refusal.specs.declared.Refusal.{Refusal}
@@ -25,7 +25,7 @@ span_at {text} {piece} {left} {start} {len} p s l = record {
   covers = λ inside. l ∙ covers_of (length text) (length piece) left (subst (λ (n : ℕ). n < length text) s inside);
 }
 
--- a URL stands in front of what follows it
+-- a URL comes directly before the rest
 abbrev pub url_piece : (text url rest : List ℕ) → IsSuffix text (url ++ rest) → IsUtf8 rest → IsPiece text url (length url + length rest)
 url_piece text url rest s utf8 = record { back = rest; begins = s; ends = utf8; length_is = length-append url rest }
 
@@ -41,7 +41,7 @@ module _ {T E : Type 0} where
   has_message true (sources.UnsupportedRequirement message) known None h k = tt
   has_message true (sources.UnsupportedRequirement message) known (Some bs) h k = h ∙ k
 
-  -- an error that tells a fault of the text
+  -- the error of a fault of the text
   pub error_by : (Finds : FaultKind → List ℕ → List ℕ → Type 0) {text : List ℕ} {fault : Fault} {error : Pep508Error T E} → IsFaultBy Finds text fault → TellsFault text fault error → IsErrorBy Finds text error
   error_by Finds {text} {fault} {error} f t = record {
     input = t.input;
@@ -52,7 +52,7 @@ module _ {T E : Type 0} where
     message = t.message;
   }
 
-  -- a refusal that tells a fault of the text, and what follows from it
+  -- the refusal of a fault of the text, and what follows from it
   pub refused_by : (Finds : FaultKind → List ℕ → List ℕ → Type 0) (P : Type 0) (text : List ℕ) (fault : Fault) {read : Refusal Fault} (refusal : Refusal (Pep508Error T E)) → read ≡ refusals.Fault fault
       → IsRefused (IsFaultBy Finds text) P read → OnError (TellsFault text fault) refusal → IsRefusedBy Finds P text refusal
   refused_by Finds P text fault refusals.OutOfMemory is r t = tt

@@ -1,4 +1,4 @@
--- The URL of a requirement without a name: what its text stands for, and the value of that.
+-- The URL of a requirement without a name: what its text denotes, and the value of that.
 use Rattle.std.proofs.Common.{◌≡◌, ℕ, Bool, true, false, List, Option, refl}
 use Rattle.std.specs.Prelude.{Result, Ok, Err, IfErr}
 use Rattle.refusal.specs.declared.Refusal.{Refusal}
@@ -9,7 +9,7 @@ use Rattle.pep508_urls.specs.Meaning.{Meaning, HasMeaning, StandsFor, folder_of}
 use Rattle.pep508_urls.specs.Unnamed.{EachMayOverflow, MakesNamed, NamesNone}
 use Rattle.pep508_urls.specs.Variables.{Expands, value_of}
 
--- what is so of every folder is so of this one
+-- what is true of every folder is true of this one
 pub at_folder : {U E : Type 0} (P : E → Type 0) (Q : Option (List ℕ) → Type 0) (folder : Option (List ℕ)) (result : Result U (Refusal E))
     → IfErr result (λ refusal. IfFault refusal (λ fault. P fault → (each : Option (List ℕ)) → Q each)) → IfErr result (λ refusal. IfFault refusal (λ fault. P fault → Q folder))
 at_folder P Q folder (Ok url) h = tt

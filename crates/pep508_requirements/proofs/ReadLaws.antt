@@ -23,7 +23,7 @@ module _ {T E : Type 0} (names : List ℕ → T → Type 0) (text : List ℕ) wh
   no_head : HasNoHead (chars text) → IsUnread E names text
   no_head none n x w f k r = none r.rest n x r.asked r.head
 
-  -- no value stands for the text of the URL
+  -- the text of the URL has no value
   no_url : (rest name : List ℕ) (extras : List (List ℕ)) (piece : List ℕ) → IsHead (chars text) (chars rest) name extras (url piece) → ((u : T) → ¬ names piece u) → IsUnread E names text
   no_url rest name extras piece head none n x w f k r =
       let same = head_same (chars text) (chars rest) r.rest name n extras x (url piece) r.asked head r.head in

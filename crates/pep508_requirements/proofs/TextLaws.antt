@@ -1,4 +1,4 @@
--- The text of a requirement is read back.
+-- The text of a requirement parses back.
 use Rattle.std.proofs.Common.{true≢false, ◌≡◌, ℕ, Bool, true, List, [], ◌∷◌, ◌++◌, Option, Some, None, inl, inr, refl, sym, ap, ◌∙◌, subst, append_assoc, IsUtf8, arith}
 use Rattle.std.specs.Prelude.{option_map, IfOk, IfSome, Result, Ok, Err}
 use Rattle.std.specs.List.{AllByRecursion}
@@ -27,14 +27,14 @@ use Rattle.pep508_requirements.specs.Text.{marker_part, asked_part, requirement_
 abbrev Kinds : Type 0
 Kinds = List MarkerWarningKind
 
--- a space is ASCII, and so is what stands in front of a marker
+-- a space is ASCII, and so is the text before a marker
 space_ascii : IsAscii (32 ∷ [])
 space_ascii = ascii-cons 32 [] (omega arith) IsAscii-nil
 
 mark_ascii : IsAscii (32 ∷ (59 ∷ (32 ∷ [])))
 mark_ascii = ascii-cons 32 (59 ∷ (32 ∷ [])) (omega arith) (ascii-cons 59 (32 ∷ []) (omega arith) space_ascii)
 
--- a space in front of a marker is none of it
+-- a space before a marker does not belong to it
 reads_spaced : (m : List ℕ) (f : Option Formula) (kinds : Kinds) → Reads m f kinds → Reads (32 ∷ m) f kinds
 reads_spaced m f kinds r = record {
   start = r.start;
@@ -47,12 +47,12 @@ reads_spaced m f kinds r = record {
     spaced : (m : List ℕ) → chars (32 ∷ m) ≡ 32 ∷ chars m
     spaced m = chars-append (32 ∷ []) m (IsUtf8-from_ascii (32 ∷ []) space_ascii) ∙ ap (λ (x : List ℕ). x ++ chars m) (chars-IsAscii (32 ∷ []) space_ascii)
 
--- the characters of what stands behind the head
+-- the characters of the text after the head
 part_chars : (m : List ℕ) → chars (marker_part (Some m)) ≡ 32 ∷ (59 ∷ (32 ∷ chars m))
 part_chars m = chars-append (32 ∷ (59 ∷ (32 ∷ []))) m (IsUtf8-from_ascii (32 ∷ (59 ∷ (32 ∷ []))) mark_ascii) ∙ ap (λ (x : List ℕ). x ++ chars m) (chars-IsAscii (32 ∷ (59 ∷ (32 ∷ []))) mark_ascii)
 
 module _ {T E : Type 0} where
-  -- what is asked, where it is no URL
+  -- the versions, if there is no URL
   abbrev pub asked_of : Option (VersionOrUrl T E) → Asked
   asked_of None = nothing
   asked_of (Some (wants.VersionSpecifier set)) = specifiers set
@@ -74,7 +74,7 @@ module _ {T E : Type 0} where
   wanted_is names (Some (wants.VersionSpecifier set)) p = refl
   wanted_is names (Some (wants.Url u)) p = absurd p
 
--- the text of a requirement without a URL is its head, and what stands behind it
+-- the text of a requirement without a URL is its head, and the text after it
 text_parts : (name : List ℕ) (extras : List (List ℕ)) (asked : Asked) (tail : List ℕ) → name ++ (extras_text extras ++ (asked_text asked ++ tail)) ≡ head_text name extras asked ++ tail
 text_parts name extras asked tail =
     ap (λ (x : List ℕ). name ++ x) (sym (append_assoc (extras_text extras) (asked_text asked) tail)) ∙ sym (append_assoc name (extras_text extras ++ asked_text asked) tail)
@@ -131,7 +131,7 @@ module _ {T E : Type 0} (names : List ℕ → Surroundings → T → Type 0) (c 
   back (Some m) utf8 tells (inl always) = absurd (true≢false (sym (always tells.somewhere_false.0) ∙ tells.somewhere_false.1))
   back (Some m) utf8 tells (inr r) = marked_back m (utf8 m refl) (tells.read_back r.1.0 r.1.1 r.0)
 
-  -- the text that is made of the parts is read back
+  -- the text that is made of the parts parses back
   pub read_back : (url_text : T → Option (List ℕ)) (m : Option (List ℕ)) → ((text : List ℕ) → m ≡ Some text → IsUtf8 text) → TellsText (truth c t) m → IsPrintedTruth (truth c t)
       → (text : List ℕ) → ((known : List ℕ) → requirement_text url_text name extras wanted m ≡ Some known → text ≡ known) → ReadsBack names c text name extras wanted t
   read_back url_text m utf8 tells p text is =
@@ -140,7 +140,7 @@ module _ {T E : Type 0} (names : List ℕ → Surroundings → T → Type 0) (c 
       ∙ ap Some (text_parts name extras (asked_of wanted) (marker_part m)) in
       subst (λ (x : List ℕ). ReadsBack names c x name extras wanted t) (sym (is (head ++ marker_part m) e)) (back m utf8 tells p)
 
--- what is printed of the parts tells the marker
+-- the printed text of the parts has the marker
 known_is : (text : List ℕ) (o : Option (List ℕ)) → IfSome o (λ bs. text ≡ bs) → (known : List ℕ) → o ≡ Some known → text ≡ known
 known_is text o h known e = subst (λ (o : Option (List ℕ)). IfSome o (λ bs. text ≡ bs)) e h
 

@@ -23,7 +23,7 @@ module _ {U : Type 0} (names : List ℕ → U → Type 0) (text : List ℕ) wher
   no_head none u x f k r = none r.rest r.whole r.given x r.head
 
   module _ (rest whole given : List ℕ) (extras : List (List ℕ)) (head : IsUnnamedHead (chars text) (chars rest) whole given extras) where
-    -- no value stands for the URL
+    -- the URL has no value
     no_url : ((u : U) → ¬ names given u) → IsUnreadUnnamed names text
     no_url none u x f k r =
         let same = unnamed_head_same (chars text) (chars rest) r.rest whole r.whole given r.given extras x head r.head in

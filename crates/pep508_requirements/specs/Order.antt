@@ -1,5 +1,5 @@
--- The orders of requirements' views, of what is asked, and of origins: of two variants the one that
--- is declared first, and else by fields in turn.
+-- The orders of the views of requirements, of versions or URLs, and of origins: the variant that is
+-- declared first comes first, and fields are compared in turn.
 use Rattle.std.specs.Prelude.{ℕ, List}
 use Rattle.std.specs.Cmp.Lexicographic.{slice_cmp}
 use Rattle.std.specs.Option.{option_cmp}
@@ -41,7 +41,7 @@ module _ {T E : Type 0} (url_cmp : T → T → Ordering) where
   wanted_cmp (Url url) (VersionSpecifier other) = Greater
   wanted_cmp (Url url) (Url other) = url_cmp url other
 
-  -- by name, then extras, then what is asked, then marker, then origin
+  -- by name, then extras, then versions or URL, then marker, then origin
   abbrev pub requirement_cmp : RequirementView T E → RequirementView T E → Ordering
   requirement_cmp =
       then_cmp (on (λ v. v.name.now) name_cmp)

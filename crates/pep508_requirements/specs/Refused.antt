@@ -1,4 +1,4 @@
--- Why a text is no requirement, and how that is told.
+-- Why a text is an invalid requirement, and the error that says so.
 use Rattle.std.specs.Prelude.{◌≡◌, ◌⊎◌, ℕ, ◌-◌, Bool, true, false, List, [], Option, Some, IfSome, encode_utf8_all, length, string_bytes, ⊤}
 use Rattle.std.specs.Str.{chars}
 use Rattle.refusal.specs.declared.Refusal.{Refusal}
@@ -20,7 +20,7 @@ use Rattle.requirement_words.specs.Message.{is_unsupported, message_of}
 use Rattle.requirement_words.specs.Tail.{HasNoTail, IsTail}
 use Rattle.pep508_requirements.specs.Requirement.{IsNoEnd, EndOverflows, IsUnread, RequirementOverflows, urls_in}
 
--- the bytes of the URL that is asked, and none where no URL is
+-- the bytes of the URL, empty without one
 abbrev pub asked_url : Asked → List ℕ
 asked_url nothing = []
 asked_url (specifiers set) = []
@@ -55,7 +55,7 @@ module _ {T E : Type 0} where
     pub found : Finds kind piece place.stands.back
     pub message : HasMessage (is_unsupported kind) (message_of kind piece) error.message
 
-  -- what holds of the error, where the refusal is a fault; no text raises a largest number here
+  -- this is true of the error if the refusal is a fault; there are no bounds above 2^64 - 1 here
   abbrev pub OnError : (Pep508Error T E → Type 0) → Refusal (Pep508Error T E) → Type 0
   OnError P refusals.OutOfMemory = ⊤
   OnError P refusals.SegmentAtEnd = ⊥
@@ -66,7 +66,7 @@ module _ {T E : Type 0} where
       → Refusal (Pep508Error T E) → Type 0
   IsRefusedBy Finds P text = OnError (λ error. IsErrorBy Finds text error × P)
 
-  -- what is wrong with `rest` behind a URL, or with the marker there
+  -- what is wrong with `rest` after a URL, or with its marker
   pub data IsEndError (text url rest : List ℕ) (error : Pep508Error T E) : Type 0 where
     no_tail : IsErrorBy (FindsInTail url rest) text error → HasNoTail (chars rest)
         → IsEndError text url rest error
@@ -74,14 +74,14 @@ module _ {T E : Type 0} where
         → markers.IsRefusalIn text (encode_utf8_all marker) (refusals.Fault error)
         → IsEndError text url rest error
 
-  -- why no end of a requirement is read
+  -- why the end of a requirement is refused
   abbrev pub IsEndRefusal : List ℕ → List ℕ → List ℕ → Refusal (Pep508Error T E) → Type 0
   IsEndRefusal text front rest refusals.OutOfMemory = ⊤
   IsEndRefusal text front rest refusals.SegmentAtEnd = EndOverflows (chars rest)
   IsEndRefusal text front rest (refusals.Fault error) =
       IsEndError text front rest error × IsNoEnd (chars rest)
 
-  -- the error of a fault of a URL, at `whole`, right before `rest`
+  -- the error of a rejected URL, at `whole`, directly before `rest`
   pub record TellsUrl (text whole rest : List ℕ) (fault : E) (error : Pep508Error T E)
       : Type 0 where
     pub input : string_bytes error.input ≡ text
@@ -89,13 +89,13 @@ module _ {T E : Type 0} where
     pub place : IsSpanOf text whole error.start error.len
     pub before : place.stands.back ≡ rest
 
-  -- a URL is refused for its size alone
+  -- a URL is refused only for its size
   abbrev pub is_of_size : (E → Bool) → Pep508ErrorSource T E → Bool
   is_of_size tells_size (sources.String message) = false
   is_of_size tells_size (sources.UrlError fault) = tells_size fault
   is_of_size tells_size (sources.UnsupportedRequirement message) = false
 
-  -- over the type of URLs: which values a text has, which faults are of size alone, and which texts
+  -- over the type of URLs: which values a text has, which faults are only of size, and which texts
   -- may be too large
   module _ (names : List ℕ → T → Type 0) (tells_size : E → Bool)
       (may_overflow : List ℕ → Type 0) where
@@ -104,20 +104,20 @@ module _ {T E : Type 0} where
       pub none : tells_size fault ≡ false → (u : T) → ¬ names piece u
       pub large : tells_size fault ≡ true → may_overflow piece
 
-    -- the type of URLs refuses `given`, which is told at `whole`, right before `rest`
+    -- the type of URLs rejects `given`, as the error says at `whole`, directly before `rest`
     pub record IsUrlError (text whole given rest : List ℕ) (error : Pep508Error T E)
         : Type 0 where
       pub fault : E
       pub told : TellsUrl text whole rest fault error
       pub fault_is : IsUrlFault given fault
 
-    -- a URL is asked, and it is refused
+    -- there is a URL, and it is rejected
     abbrev pub IsAskedError : List ℕ → Asked → List ℕ → Pep508Error T E → Type 0
     IsAskedError text nothing rest error = ⊥
     IsAskedError text (specifiers set) rest error = ⊥
     IsAskedError text (url piece) rest error = IsUrlError text piece piece rest error
 
-    -- what is wrong with a text: up to its marker, with its URL, or behind that
+    -- what is wrong with a text: up to its marker, with its URL, or after that
     pub data HasError (value : List ℕ → List ℕ) (text : List ℕ) (error : Pep508Error T E)
         : Type 0 where
       in_head : IsErrorBy (FindsInHead value text) text error → HasError value text error
@@ -128,19 +128,19 @@ module _ {T E : Type 0} where
           → IsHead (chars text) (chars rest) name extras asked
           → IsEndError text (asked_url asked) rest error → HasError value text error
 
-    -- the text is no requirement, unless its URL may be too large, and the error says why
+    -- the text is an invalid requirement, unless its URL may be too large, and the error says why
     pub record IsErrorOf (value : List ℕ → List ℕ) (text : List ℕ) (error : Pep508Error T E)
         : Type 0 where
       pub has : HasError value text error
       pub unread : is_of_size tells_size error.message ≡ false → IsUnread E names text
 
-    -- why a text is not read as a requirement
+    -- why a text is refused as a requirement
     abbrev pub IsRefusal : (List ℕ → List ℕ) → List ℕ → Refusal (Pep508Error T E) → Type 0
     IsRefusal value text refusals.OutOfMemory = ⊤
     IsRefusal value text refusals.SegmentAtEnd = RequirementOverflows E names text
     IsRefusal value text (refusals.Fault error) = IsErrorOf value text error
 
-    -- why no requirement is read out of JSON: memory ran out, it is no string, or its text is
+    -- why no requirement is parsed from JSON: memory ran out, it is not a string, or its text is
     -- refused
     abbrev pub IsJsonRefusal : (List ℕ → List ℕ) → List ℕ → Refusal (Pep508Error T E) → Type 0
     IsJsonRefusal value json refusals.OutOfMemory = ⊤

@@ -1,5 +1,5 @@
--- A requirement as a whole text (PEP 508, "Grammar"), over any type of URLs. Texts are bytes, and
--- the grammar speaks of their characters.
+-- A requirement as a whole text (PEP 508, "Grammar"), over any type of URLs. Texts are bytes here,
+-- and characters in the grammar.
 use Rattle.std.specs.Prelude.{◌≡◌, ℕ, List, [], Option, Some, None, encode_utf8_all}
 use Rattle.std.specs.Str.{chars}
 use Rattle.pep508_errors.specs.declared.surroundings.Surroundings.{Surroundings}
@@ -20,12 +20,12 @@ use Rattle.pep508_requirements.specs.declared.version_or_url.VersionOrUrl.TheVar
 abbrev Kinds : Type 0
 Kinds = List MarkerWarningKind
 
--- what the marker says, or nothing where there is none, and the kinds of its warnings
+-- the formula of the marker, or nothing without one, and the kinds of its warnings
 abbrev pub ReadsMarker : Option (List ℕ) → Option Formula → Kinds → Type 0
 ReadsMarker None f kinds = (f ≡ None) × (kinds ≡ [])
 ReadsMarker (Some marker) f kinds = Reads (encode_utf8_all marker) f kinds
 
--- nothing but white space, or a marker behind `;`
+-- only white space, or a marker after `;`
 pub record EndsWith (rest : List ℕ) (f : Option Formula) (kinds : Kinds) : Type 0 where
   pub marker : Option (List ℕ)
   pub tail : IsTail rest marker
@@ -37,7 +37,7 @@ abbrev pub urls_in : {T : Type 0} → (List ℕ → Surroundings → T → Type 
 urls_in names surroundings = λ piece url. names piece surroundings url
 
 module _ {T E : Type 0} (names : List ℕ → T → Type 0) where
-  -- what is asked, with a value that the type of URLs has for the text of a URL
+  -- the versions, or a value that the type of URLs has for the text of a URL
   abbrev pub IsWanted : Asked → Option (VersionOrUrl T E) → Type 0
   IsWanted nothing None = Unit {0}
   IsWanted nothing (Some wanted) = ⊥
@@ -48,7 +48,8 @@ module _ {T E : Type 0} (names : List ℕ → T → Type 0) where
   IsWanted (url text) (Some (wants.VersionSpecifier s)) = ⊥
   IsWanted (url text) (Some (wants.Url u)) = names text u
 
-  -- the text is a requirement with these parts, whose marker says this, and warns of these kinds
+  -- the text is a requirement with these parts, whose marker has this formula and these kinds of
+  -- warnings
   pub record IsRequirement (text name : List ℕ) (extras : List (List ℕ))
       (wanted : Option (VersionOrUrl T E)) (f : Option Formula) (kinds : Kinds) : Type 0 where
     pub asked : Asked
@@ -57,7 +58,7 @@ module _ {T E : Type 0} (names : List ℕ → T → Type 0) where
     pub is_wanted : IsWanted asked wanted
     pub end : EndsWith rest f kinds
 
-  -- the same with a tree for the marker, which raises no largest number
+  -- the same with a tree for the marker, no bound of which is above 2^64 - 1
   pub record IsReadAs (c : Contents) (text name : List ℕ) (extras : List (List ℕ))
       (wanted : Option (VersionOrUrl T E)) (t : MarkerTree) (kinds : Kinds) : Type 0 where
     pub formula : Option Formula
@@ -65,15 +66,14 @@ module _ {T E : Type 0} (names : List ℕ → T → Type 0) where
     pub no_overflow : ¬ Says Overflows formula
     pub means : (v : Valuation) → truth c t v ≡ formulas.truth formula v
 
--- `E` is the type of the faults of URLs, of which no text speaks
+-- `E` is the type of the faults of URLs, which no text contains
 module _ {T : Type 0} (E : Type 0) (names : List ℕ → T → Type 0) where
-  -- the text is no requirement
+  -- the text is not a requirement
   abbrev pub IsUnread : List ℕ → Type 0
   IsUnread text = (name : List ℕ) (extras : List (List ℕ)) (wanted : Option (VersionOrUrl T E))
       (f : Option Formula) (kinds : Kinds) → ¬ IsRequirement names text name extras wanted f kinds
 
-  -- the text is a requirement, and a comparison in its marker would raise the largest number of a
-  -- version
+  -- the text is a requirement, and a bound of a comparison in its marker would be above 2^64 - 1
   pub record RequirementOverflows (text : List ℕ) : Type 0 where
     pub name : List ℕ
     pub extras : List (List ℕ)
@@ -83,14 +83,14 @@ module _ {T : Type 0} (E : Type 0) (names : List ℕ → T → Type 0) where
     pub requirement : IsRequirement names text name extras wanted formula kinds
     pub overflows : Says Overflows formula
 
-  -- the text is a requirement with a marker that says this and warns of these kinds
+  -- the text is a requirement with a marker of this formula and these kinds of warnings
   pub record IsMarkedBy (text : List ℕ) (f : Option Formula) (kinds : Kinds) : Type 0 where
     pub name : List ℕ
     pub extras : List (List ℕ)
     pub wanted : Option (VersionOrUrl T E)
     pub requirement : IsRequirement names text name extras wanted f kinds
 
--- the tree means what the end of a requirement says
+-- the tree means the marker at the end of a requirement
 pub record IsTreeOfEnd (c : Contents) (rest : List ℕ) (t : MarkerTree) (kinds : Kinds)
     : Type 0 where
   pub formula : Option Formula
@@ -98,11 +98,11 @@ pub record IsTreeOfEnd (c : Contents) (rest : List ℕ) (t : MarkerTree) (kinds 
   pub no_overflow : ¬ Says Overflows formula
   pub means : (v : Valuation) → truth c t v ≡ formulas.truth formula v
 
--- no end of a requirement
+-- not the end of a requirement
 abbrev pub IsNoEnd : List ℕ → Type 0
 IsNoEnd rest = (f : Option Formula) (kinds : Kinds) → ¬ EndsWith rest f kinds
 
--- the end is read, and a comparison in it would raise the largest number of a version
+-- the text is the end of a requirement, and a bound of a comparison in it would be above 2^64 - 1
 pub record EndOverflows (rest : List ℕ) : Type 0 where
   pub formula : Option Formula
   pub kinds : Kinds

@@ -1,4 +1,4 @@
--- The text of a requirement, and that it is read back.
+-- The text of a requirement, and that it parses back.
 use Rattle.std.specs.Prelude.{◌≡◌, ◌≢◌, ◌⊎◌, ⊤, ℕ, Bool, true, List, [], ◌∷◌, ◌++◌, Option, None, Some}
 use Rattle.std.specs.Option.{option_map}
 use Rattle.pep440_specifier.specs.Set.{IsSet}
@@ -15,14 +15,14 @@ use Rattle.pep508_requirements.specs.Requirement.{IsReadAs}
 use Rattle.pep508_requirements.specs.declared.version_or_url.VersionOrUrl.{VersionOrUrl}
 use Rattle.pep508_requirements.specs.declared.version_or_url.VersionOrUrl.TheVariants.{VersionSpecifier, Url}
 
--- what stands behind ` ; `, or nothing: 32 is a space, 59 is `;`
+-- the part from ` ; ` on, or nothing: 32 is a space, 59 is `;`
 abbrev pub marker_part : Option (List ℕ) → List ℕ
 marker_part None = []
 marker_part (Some marker) = 32 ∷ (59 ∷ (32 ∷ marker))
 
 module _ {T E : Type 0} where
-  -- specifiers with a comma between each two, or the URL behind ` @ `, as far as its text is known:
-  -- `url_text` is what URLs print, and 64 is `@`
+  -- specifiers separated by commas, or ` @ ` and the URL, if its text is known: `url_text` is what
+  -- URLs print, and 64 is `@`
   abbrev pub asked_part : (T → Option (List ℕ)) → Option (VersionOrUrl T E) → Option (List ℕ)
   asked_part url_text None = Some []
   asked_part url_text (Some (VersionSpecifier set)) = Some (joined_text set)
@@ -35,7 +35,7 @@ module _ {T E : Type 0} where
       option_map (λ asked. name ++ (extras_text extras ++ (asked ++ marker_part marker)))
       (asked_part url_text wanted)
 
-  -- specifiers are a set, where they are asked for
+  -- specifiers are a set, if there are some
   abbrev pub AreSets : Option (VersionOrUrl T E) → Type 0
   AreSets None = ⊤
   AreSets (Some (VersionSpecifier set)) = IsSet set
@@ -52,30 +52,30 @@ abbrev pub unnamed_text : Option (List ℕ) → List (List ℕ) → Option (List
 unnamed_text url extras marker =
     option_map (λ t. t ++ (extras_text extras ++ marker_part marker)) url
 
--- the text is what these parts make of a text that tells the marker of this truth
+-- the text is what these parts make of a text of the marker of this truth
 pub record IsTextOf (f : Valuation → Bool) (parts : Option (List ℕ) → Option (List ℕ))
     (text : List ℕ) : Type 0 where
   pub marker : Option (List ℕ)
   pub tells : TellsText f marker
   pub text_is : (known : List ℕ) → parts marker ≡ Some known → text ≡ known
 
--- so it is of the text that these parts make of a text that tells the marker of this truth
+-- this is true of what these parts make of a text of the marker of this truth
 abbrev pub WithText : (Valuation → Bool) → (Option (List ℕ) → Option (List ℕ))
     → (Option (List ℕ) → Type 0) → Type 0
 WithText f parts P = (marker : Option (List ℕ)) × TellsText f marker × P (parts marker)
 
--- the truth is one everywhere, or it is readable and somewhere so
+-- the truth is true everywhere, or it is readable and true somewhere
 abbrev pub IsPrintedTruth : (Valuation → Bool) → Type 0
 IsPrintedTruth f =
     ((v : Valuation) → f v ≡ true) ⊎ (IsReadableTruth f × ((v : Valuation) × (f v ≡ true)))
 
--- the text is read as a requirement with these parts, whatever the surroundings
+-- the text parses as a requirement with these parts, in any surroundings
 abbrev pub ReadsBack : {T E : Type 0} → (List ℕ → Surroundings → T → Type 0) → Contents → List ℕ
     → List ℕ → List (List ℕ) → Option (VersionOrUrl T E) → MarkerTree → Type 0
 ReadsBack names c text name extras wanted t = (surroundings : Surroundings)
     → (kinds : List MarkerWarningKind)
     × IsReadAs (λ piece url. names piece surroundings url) c text name extras wanted t kinds
 
--- the JSON is a string, and this is so of its text
+-- the JSON is a string, and this is true of its text
 abbrev pub IsJsonOf : (List ℕ → Type 0) → List ℕ → Type 0
 IsJsonOf P json = (text : List ℕ) × (json ≡ string_of text) × IsStringOf json text × P text

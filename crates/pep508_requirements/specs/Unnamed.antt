@@ -1,5 +1,5 @@
--- A requirement without a name as a whole text, over any type of URLs. Texts are bytes, and the
--- grammar speaks of their characters.
+-- A requirement without a name as a whole text, over any type of URLs. Texts are bytes here, and
+-- characters in the grammar.
 use Rattle.std.specs.Prelude.{◌≡◌, ⊤, ℕ, Bool, false, List, Option, Some}
 use Rattle.std.specs.Str.{chars}
 use Rattle.refusal.specs.declared.Refusal.{Refusal}
@@ -23,8 +23,8 @@ abbrev Kinds : Type 0
 Kinds = List MarkerWarningKind
 
 module _ {U : Type 0} (names : List ℕ → U → Type 0) where
-  -- The text is a URL with extras, and a marker that says this and warns of these kinds. The URL
-  -- as it is given, without the extras, has this value.
+  -- The text is a URL with extras, and a marker of this formula and these kinds of warnings. The
+  -- URL as it is given, without the extras, has this value.
   pub record IsUnnamedRequirement (text : List ℕ) (url : U) (extras : List (List ℕ))
       (f : Option Formula) (kinds : Kinds) : Type 0 where
     pub whole : List ℕ
@@ -34,12 +34,12 @@ module _ {U : Type 0} (names : List ℕ → U → Type 0) where
     pub named : names given url
     pub end : EndsWith rest f kinds
 
-  -- the text is none
+  -- the text is not one
   abbrev pub IsUnreadUnnamed : List ℕ → Type 0
   IsUnreadUnnamed text = (url : U) (extras : List (List ℕ)) (f : Option Formula) (kinds : Kinds)
       → ¬ IsUnnamedRequirement text url extras f kinds
 
-  -- a comparison in its marker would raise the largest number of a version
+  -- a bound of a comparison in its marker would be above 2^64 - 1
   pub record UnnamedOverflows (text : List ℕ) : Type 0 where
     pub url : U
     pub extras : List (List ℕ)
@@ -48,15 +48,15 @@ module _ {U : Type 0} (names : List ℕ → U → Type 0) where
     pub requirement : IsUnnamedRequirement text url extras formula kinds
     pub overflows : Says Overflows formula
 
-  -- the text is one with a marker that says this and warns of these kinds
+  -- the text is one with a marker of this formula and these kinds of warnings
   pub record IsUnnamedMarkedBy (text : List ℕ) (f : Option Formula) (kinds : Kinds)
       : Type 0 where
     pub url : U
     pub extras : List (List ℕ)
     pub requirement : IsUnnamedRequirement text url extras f kinds
 
-  -- The same with a tree for the marker, which raises no largest number. The value keeps the URL
-  -- as it is given.
+  -- The same with a tree for the marker, no bound of which is above 2^64 - 1. The value keeps the
+  -- URL as it is given.
   pub record IsUnnamedReadAs (given_text : U → Option (List ℕ)) (c : Contents) (text : List ℕ)
       (url : U) (extras : List (List ℕ)) (t : MarkerTree) (kinds : Kinds) : Type 0 where
     pub formula : Option Formula
@@ -66,11 +66,11 @@ module _ {U : Type 0} (names : List ℕ → U → Type 0) where
     pub means : (v : Valuation) → truth c t v ≡ formulas.truth formula v
 
 module _ {U E : Type 0} where
-  -- over the type of URLs: which values a text has, which faults are of size alone, and which texts
+  -- over the type of URLs: which values a text has, which faults are only of size, and which texts
   -- may be too large
   module _ (names : List ℕ → U → Type 0) (tells_size : E → Bool)
       (may_overflow : List ℕ → Type 0) where
-    -- what is wrong with a text: up to its marker, with its URL, or behind that
+    -- what is wrong with a text: up to its marker, with its URL, or after that
     pub data HasUnnamedError (text : List ℕ) (error : Pep508Error U E) : Type 0 where
       in_head : IsErrorBy (FindsInUnnamed text) text error → HasUnnamedError text error
       in_url : {rest whole given : List ℕ} {extras : List (List ℕ)}
@@ -81,12 +81,12 @@ module _ {U E : Type 0} where
           → IsUnnamedHead (chars text) (chars rest) whole given extras
           → IsEndError text whole rest error → HasUnnamedError text error
 
-    -- the text is no such requirement, unless its URL may be too large, and the error says why
+    -- the text is not such a requirement, unless its URL may be too large, and the error says why
     pub record IsUnnamedError (text : List ℕ) (error : Pep508Error U E) : Type 0 where
       pub has : HasUnnamedError text error
       pub unread : is_of_size tells_size error.message ≡ false → IsUnreadUnnamed names text
 
-    -- why a text is not read as a requirement without a name
+    -- why a text is refused as a requirement without a name
     abbrev pub IsUnnamedRefusal : List ℕ → Refusal (Pep508Error U E) → Type 0
     IsUnnamedRefusal text refusals.OutOfMemory = ⊤
     IsUnnamedRefusal text refusals.SegmentAtEnd = UnnamedOverflows names text

@@ -1,9 +1,9 @@
-//! The end of a requirement, with a tree for its marker.
+//! The end of a requirement: its marker as a tree.
 
-ghost use Rattle.std.specs.Prelude.{◌≡◌, ◌≤◌, ◌++◌, IfErr, IfOk, Some};
+ghost use Rattle.std.specs.Prelude.{◌≡◌, ◌≤◌, ◌++◌, IfErr, IfOk, OnErr, Some};
 ghost use Rattle.std.specs.Str.{chars};
 ghost use Rattle.pep508_text.specs.Suffix.{IsSuffix};
-ghost use Rattle.marker_graph.specs.Contents.{IsHeld, IsKept};
+ghost use Rattle.marker_graph.specs.Contents.{HoldsTheSame, IsHeld, IsKept};
 ghost use Rattle.requirement_words.specs.Tail.{IsTail};
 ghost use Rattle.pep508_markers.specs.Text.{IsRefusalIn, OnFault};
 ghost use Rattle.pep508_requirements.specs.Requirement.{IsTreeOfEnd};
@@ -12,12 +12,11 @@ ghost use Rattle.pep508_requirements.specs.Refused.{IsEndRefusal};
 use crate::error::refusal_of_fault;
 use marker_graph::{Interner, MarkerTree};
 use pep508_errors::{MarkerWarningKind, Pep508Error, Pep508Url};
-use pep508_markers::read_behind;
+use pep508_markers::internal::read_behind;
 use refusal::Refusal;
 use requirement_words::read_tail;
 
-// The tree of the marker that a text ends with, behind `;` in `rest`, and the kinds of its
-// warnings.
+// Parses the marker after the `;` of `rest`. Returns its tree and the kinds of its warnings.
 fn read_marker<T: Pep508Url>(
     text: &str,
     rest: &str,
@@ -32,6 +31,7 @@ fn read_marker<T: Pep508Url>(
     ensures means { IfOk result (λ r. IsTreeOfEnd interner.new (chars rest.now) r.0 r.1.items) }
     ensures refused { IfErr result (IsRefusalIn text.now marker.now) }
     ensures untouched { OnFault result (interner.new ≡ interner.old) }
+    ensures released { OnErr result (HoldsTheSame interner.old interner.new) }
 {
     match read_behind(text, marker, interner) {
         Ok((tree, kinds)) => Ok((tree, kinds)),
@@ -39,9 +39,9 @@ fn read_marker<T: Pep508Url>(
     }
 }
 
-// The tree of the marker at the end of a text, and the kinds of its warnings: `TRUE` and none where
-// there is no marker. `url` is the URL that stands in front of the end as it is written, or empty
-// where none does.
+// Parses the end of a text. Returns the tree of its marker and the kinds of the marker's warnings;
+// without a marker, `TRUE` and none. `url` is the URL before the end as it is written, or empty if
+// there is none.
 pub(crate) fn read_end<T: Pep508Url>(
     text: &str,
     url: &str,
@@ -56,6 +56,7 @@ pub(crate) fn read_end<T: Pep508Url>(
     ensures means { IfOk result (λ r. IsTreeOfEnd interner.new (chars rest.now) r.0 r.1.items) }
     ensures refused { IfErr result (IsEndRefusal text.now url.now rest.now) }
     ensures untouched { OnFault result (interner.new ≡ interner.old) }
+    ensures released { OnErr result (HoldsTheSame interner.old interner.new) }
 {
     match read_tail(url, rest) {
         Ok(Some(marker)) => read_marker(text, rest, marker, interner),

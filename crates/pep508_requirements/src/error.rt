@@ -1,4 +1,4 @@
-//! How a text that is no requirement is told.
+//! Errors of requirements, with their messages and places.
 
 ghost use Rattle.std.specs.Prelude.{◌++◌, IfOk, Some, string_bytes};
 ghost use Rattle.pep508_text.specs.Suffix.{IsSuffix};
@@ -11,7 +11,7 @@ use requirement_words::Fault;
 use std::alloc::{AllocError, Global};
 use std::string::ToString;
 
-// What is said where a name is missing, or of another fault.
+// A message about a missing name, or about another fault.
 fn source<T: Pep508Url>(is_unsupported: bool, message: String) -> Pep508ErrorSource<T>
     ensures { HasMessage is_unsupported (Some (string_bytes message)) result }
 {
@@ -22,7 +22,7 @@ fn source<T: Pep508Url>(is_unsupported: bool, message: String) -> Pep508ErrorSou
     }
 }
 
-// The fault with its message, its place and its text.
+// The error for a fault: its message, its place and the text.
 fn error_of_fault<T: Pep508Url>(
     alloc: Global,
     text: &str,
@@ -39,8 +39,8 @@ fn error_of_fault<T: Pep508Url>(
     })
 }
 
-// The refusal of a text with this fault: its message, its place, and a copy of the text. It is
-// `OutOfMemory` where there is no memory for them.
+// The refusal for a fault: its message, its place and a copy of the text. `OutOfMemory` if there is
+// no memory for them.
 pub(crate) fn refusal_of_fault<T: Pep508Url>(
     alloc: Global,
     text: &str,
@@ -54,7 +54,7 @@ pub(crate) fn refusal_of_fault<T: Pep508Url>(
     }
 }
 
-// The refusal of a text with a fault of the URL in it.
+// The refusal of a text whose URL is invalid.
 pub(crate) fn refusal_of_url<T: Pep508Url>(
     alloc: Global,
     text: &str,

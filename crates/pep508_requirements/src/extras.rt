@@ -1,4 +1,4 @@
-//! Extras by themselves.
+//! Lists of extras.
 
 ghost use Rattle.std.specs.Prelude.{◌≡◌, IfErr, IfOk, List, ℕ};
 ghost use Rattle.std.specs.Str.{chars};
@@ -20,12 +20,12 @@ pub struct Extras {
 }
 
 impl Extras {
-    /// Reads the extras in brackets at the front of a text, and ignores what follows them. There
-    /// are none where no bracket stands in front.
+    /// Parses the extras in brackets at the front of a text, and ignores what follows them. Without
+    /// an opening bracket there are none.
     ///
     /// # Errors
-    /// - [`Refusal::OutOfMemory`] when memory runs out.
-    /// - [`Refusal::Fault`] if a bracket is there and no extras are, with what is wrong and where.
+    /// - [`Refusal::Fault`] if the text begins with a bracket and an invalid list, with what is
+    ///   wrong and where.
     pub fn parse<T: Pep508Url>(alloc: Global, text: &str) -> Result<Extras, Refusal<Pep508Error<T>>>
         ensures found { IfOk result (λ extras.
             (rest : List ℕ) × IsExtras (chars text.now) rest extras.names.items) }
@@ -39,7 +39,7 @@ impl Extras {
         }
     }
 
-    /// The names, in the order of the text.
+    /// Returns the names, in the order of the text.
     pub fn as_slice(&self) -> &[ExtraName]
         ensures { result.now ≡ self.now.names.items }
     {

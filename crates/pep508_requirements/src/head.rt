@@ -1,4 +1,4 @@
-//! A requirement up to its marker, with a value for its URL.
+//! A requirement up to its marker, with its URL parsed.
 
 ghost use Rattle.std.specs.Prelude.{◌≡◌, ◌++◌, IfErr, IfOk};
 ghost use Rattle.std.specs.Str.{chars};
@@ -28,7 +28,7 @@ pub(crate) fn read_named<'a, T: Pep508Url>(
         (FindsInHead (value_of surroundings.now) text.now) (HasNoHead (chars text.now)) text.now) }
     ensures suffix { IfOk result (λ x. IsSuffix text.now x.1.now) }
 
-    // A URL stands right before what follows it.
+    // The text of a URL comes directly before `rest`.
     ensures placed { IfOk result (λ x. IsSuffix text.now
         (asked_url (asked_of x.0.asked) ++ x.1.now)) }
 {
@@ -39,7 +39,7 @@ pub(crate) fn read_named<'a, T: Pep508Url>(
     }
 }
 
-// The text of the URL that is asked, or none.
+// The text of the URL, or an empty text.
 pub(crate) fn written_url<'a>(asked: &Asked<'a>) -> &'a str
     ensures { result.now ≡ asked_url (asked_of asked.now) }
 {
@@ -49,7 +49,7 @@ pub(crate) fn written_url<'a>(asked: &Asked<'a>) -> &'a str
     }
 }
 
-// The value that the type of URLs has for the text of a URL, in front of `rest`.
+// Parses the text of a URL, which comes before `rest`, by the type of URLs.
 pub(crate) fn read_version_or_url<T: Pep508Url>(
     alloc: Global,
     text: &str,

@@ -1,4 +1,4 @@
-//! Laws of the orders of this crate. Each is a function that compares two values, whose contract
+//! Laws of the orders of this crate. Each is a function that compares two values, and its contract
 //! says by what.
 
 ghost use Rattle.std.specs.Prelude.{◌≡◌};

@@ -1,4 +1,12 @@
 //! Requirements (PEP 508): a name, extras, version specifiers or a URL, and a marker.
+//!
+//! - [`Requirement`] has a name, [`UnnamedRequirement`] is a URL or a path. [`Extras`] parses a
+//!   list of extras alone.
+//! - A marker is an id in an interner. Calls that take a requirement and an interner require that
+//!   the interner holds the requirement's marker.
+//! - Calls that allocate return `AllocError` or `OutOfMemory` when memory runs out; every existing
+//!   value keeps its meaning. A text that is refused leaves the nodes of the interner as they were.
+//! - Comparison and evaluation allocate nothing, except for warnings that are reported.
 #![tactic(auto)]
 
 mod end;

@@ -1,4 +1,4 @@
-//! What requirements are asked, and how they are changed.
+//! Evaluating the markers of requirements, and changing requirements.
 
 ghost use Rattle.std.specs.Prelude.{◌≡◌, ◌≤◌, ◌&&◌, All, false, true, IfOk, OnErr, OnOk, Some};
 ghost use Rattle.marker_environment.specs.Environment.{valuation_of, values_of};
@@ -19,7 +19,7 @@ use pep508_names::ExtraName;
 use std::alloc::AllocError;
 
 impl<T: Pep508Url> Requirement<T> {
-    /// Drops the URL that is asked for, if one is. Specifiers stay.
+    /// Removes the URL, if there is one. Specifiers stay.
     pub fn clear_url(&mut self)
         ensures { self.new
             ≡ record self.old { version_or_url = without_url self.old.version_or_url } }
@@ -29,7 +29,7 @@ impl<T: Pep508Url> Requirement<T> {
         }
     }
 
-    /// The same requirement, which comes from there.
+    /// Returns the requirement with this origin.
     pub fn with_origin(mut self, origin: RequirementOrigin) -> Requirement<T>
         ensures { result ≡ record self { origin = Some origin } }
     {
@@ -37,8 +37,10 @@ impl<T: Pep508Url> Requirement<T> {
         self
     }
 
-    /// Asks for the extra too: the marker holds where it did and the extra is asked for. Refused
-    /// for want of memory alone, and then the requirement stays as it was.
+    /// Restricts the requirement to an extra: the new marker is the old one `and extra == '..'`.
+    ///
+    /// # Errors
+    /// - `AllocError` when memory runs out. The requirement stays as it was.
     pub fn with_extra_marker(
         &mut self,
         interner: &mut Interner,
@@ -58,7 +60,7 @@ impl<T: Pep508Url> Requirement<T> {
         Ok(())
     }
 
-    /// Whether the marker is true in the environment with these extras. This takes no memory.
+    /// Returns whether the marker is true in the environment with these extras.
     pub fn evaluate_markers(
         &self,
         interner: &Interner,
@@ -72,9 +74,10 @@ impl<T: Pep508Url> Requirement<T> {
         self.marker.evaluate(interner, environment, extras)
     }
 
-    /// Whether some valuation with exactly these extras, no arbitrary one, and the Python version
-    /// at one of these versions satisfies the marker. Without a version none does. This takes no
-    /// memory.
+    /// Returns whether the marker can be true with exactly these extras and one of these Python
+    /// versions. As in [`Requirement::evaluate_markers`] an invalid name is no extra; the other
+    /// keys and substring tests may have any values, each independently of the others. `false` if
+    /// `python_versions` is empty.
     pub fn evaluate_extras_and_python_version(
         &self,
         interner: &Interner,
@@ -91,8 +94,8 @@ impl<T: Pep508Url> Requirement<T> {
             .evaluate_extras_and_python_version(interner, extras, python_versions)
     }
 
-    /// Answers as [`Requirement::evaluate_markers`] does, with a list of the warnings of texts that
-    /// were compared by their order. Only memory can run out.
+    /// As [`Requirement::evaluate_markers`], with the warnings for texts that are compared by
+    /// order, as in `os_name < 'b'`.
     pub fn evaluate_markers_and_report(
         &self,
         interner: &Interner,

@@ -1,4 +1,4 @@
-//! Where a requirement comes from.
+//! Origins of requirements.
 
 ghost use Rattle.std.specs.Prelude.{◌≡◌};
 ghost use Rattle.pep508_requirements.specs.Origin.{path_of};
@@ -6,11 +6,11 @@ ghost use Rattle.pep508_requirements.specs.Origin.{path_of};
 use pep508_names::PackageName;
 use serde::{Deserialize, Serialize};
 
-/// Where a requirement comes from. JSON names the variants in kebab-case.
+/// Where a requirement comes from. In JSON the variants are in kebab-case.
 #[derive(Clone, Debug, PartialEq, Eq, PartialOrd, Ord, Hash, Serialize, Deserialize, Drop)]
 #[serde(rename_all = "kebab-case")]
 pub enum RequirementOrigin {
-    /// A file of requirements, by its path.
+    /// A requirements file, by its path.
     File(String),
     /// A project, by the path of its file and its name.
     Project(String, PackageName),
@@ -19,7 +19,7 @@ pub enum RequirementOrigin {
 }
 
 impl RequirementOrigin {
-    /// The path of the file that the requirement comes from, or `(workspace)`.
+    /// Returns the path of the file that the requirement comes from, or `(workspace)`.
     pub fn path(&self) -> &str
         ensures { result.now ≡ path_of self.now }
     {

@@ -1,10 +1,10 @@
 //! Requirements with a name.
 
-ghost use Rattle.std.specs.Prelude.{◌≡◌, ◌≤◌, ℕ, IfErr, IfOk, List, None};
+ghost use Rattle.std.specs.Prelude.{◌≡◌, ◌≤◌, ℕ, IfErr, IfOk, List, None, OnErr};
 ghost use Rattle.pep508_errors.specs.declared.warning.MarkerWarningKind.{MarkerWarningKind};
 ghost use Rattle.pep508_errors.specs.Kinds.{Adds, Keeps};
 ghost use Rattle.marker_parts.specs.Reporting.{HasBegun};
-ghost use Rattle.marker_graph.specs.Contents.{IsHeld, IsKept};
+ghost use Rattle.marker_graph.specs.Contents.{HoldsTheSame, IsHeld, IsKept};
 ghost use Rattle.pep508_markers.specs.Json.{IsStringOf};
 ghost use Rattle.pep508_markers.specs.Text.{OnFault, OnRefusedText};
 ghost use Rattle.pep508_requirements.specs.Requirement.{IsMarkedBy, IsReadAs, urls_in};
@@ -15,16 +15,16 @@ use crate::head::{read_named, read_version_or_url, written_url};
 use crate::origin::RequirementOrigin;
 use crate::version_or_url::VersionOrUrl;
 use marker_graph::{Interner, MarkerTree};
-use marker_parts::report_kinds;
+use marker_parts::internal::report_kinds;
 use pep508_errors::{MarkerWarningKind, Pep508Error, Pep508Url, Reporter, Surroundings};
-use pep508_markers::json::{no_string, read_string};
+use pep508_markers::internal::{no_string, read_string};
 use pep508_names::{ExtraName, PackageName};
 use refusal::Refusal;
 use requirement_words::Head;
 use std::alloc::AllocError;
 
-/// A requirement: the name of a package, extras of it, what is asked of its versions, and the
-/// marker that says where it is required.
+/// A requirement: the name of a package, its extras, the wanted versions or URL, and the marker
+/// that says in which environments it applies.
 ///
 /// ```
 /// let dev = [ExtraName::parse(rt.alloc(), "dev")?];
@@ -38,18 +38,19 @@ use std::alloc::AllocError;
 pub struct Requirement<T: Pep508Url> {
     /// The name of the package.
     pub name: PackageName,
-    /// The extras of the package that are required, as `security` and `tests` in
+    /// The required extras of the package, such as `security` and `tests` in
     /// `requests[security,tests]`.
     pub extras: Vec<ExtraName>,
-    /// The versions or the URL that are asked for, if any are.
+    /// The wanted versions or URL, if there are any.
     pub version_or_url: Option<VersionOrUrl<T>>,
-    /// Where the requirement holds.
+    /// In which environments the requirement applies.
     pub marker: MarkerTree,
     /// Where the requirement comes from, if that is known.
     pub origin: Option<RequirementOrigin>,
 }
 
-// Reads a requirement, and the kinds of the warnings of its marker, of which nobody is told yet.
+// Parses a requirement. Returns it with the kinds of the warnings of its marker, which are not
+// reported yet.
 fn read<T: Pep508Url>(
     text: &str,
     surroundings: &Surroundings<'_>,
@@ -65,6 +66,7 @@ fn read<T: Pep508Url>(
     ensures refused { IfErr result (IsRefusalIn
         T.names T.tells_size T.may_overflow surroundings.now text.now) }
     ensures untouched { OnFault result (interner.new ≡ interner.old) }
+    ensures released { OnErr result (HoldsTheSame interner.old interner.new) }
 {
     let alloc = interner.allocator();
     let (
@@ -99,8 +101,8 @@ fn read<T: Pep508Url>(
 }
 
 impl<T: Pep508Url> Requirement<T> {
-    /// Reads a requirement (PEP 508), which reports nothing. It is refused as
-    /// [`Requirement::parse_reporter`] says.
+    /// Parses a requirement (PEP 508) without reporting warnings. Its errors are those of
+    /// [`Requirement::parse_reporter`].
     pub fn parse(
         text: &str,
         surroundings: &Surroundings<'_>,
@@ -116,6 +118,7 @@ impl<T: Pep508Url> Requirement<T> {
         ensures refused { IfErr result (IsRefusalIn
             T.names T.tells_size T.may_overflow surroundings.now text.now) }
         ensures untouched { OnFault result (interner.new ≡ interner.old) }
+        ensures released { OnErr result (HoldsTheSame interner.old interner.new) }
     {
         match read(text, surroundings, interner) {
             Ok((requirement, _)) => Ok(requirement),
@@ -123,15 +126,14 @@ impl<T: Pep508Url> Requirement<T> {
         }
     }
 
-    /// Reads a requirement (PEP 508), and tells the reporter of the warnings of its marker, in
-    /// their order.
+    /// Parses a requirement (PEP 508) and reports the warnings of its marker, in order.
     ///
-    /// A text that is no requirement is refused as a fault, with its message, its place and the
-    /// text, and so is one whose URL its type refuses. `SegmentAtEnd` comes where the marker has a
-    /// comparison for which 18446744073709551615 would be raised. A text that is refused so has
-    /// reported nothing; where memory runs out the first of the warnings, or none, have been
-    /// reported. What the trees of the interner mean stays, also then, and at a fault the interner
-    /// stays as it was.
+    /// # Errors
+    /// - [`Refusal::Fault`] if the text is an invalid requirement, or its URL is rejected: what is
+    ///   wrong, where, and the text. Nothing was reported.
+    /// - [`Refusal::SegmentAtEnd`] if a comparison of the marker has a bound above 2^64 - 1.
+    ///   Nothing was reported.
+    /// - [`Refusal::OutOfMemory`] when memory runs out. The first warnings may have been reported.
     pub fn parse_reporter<R: Reporter>(
         text: &str,
         surroundings: &Surroundings<'_>,
@@ -150,6 +152,7 @@ impl<T: Pep508Url> Requirement<T> {
         ensures refused { IfErr result (IsRefusalIn
             T.names T.tells_size T.may_overflow surroundings.now text.now) }
         ensures untouched { OnFault result (interner.new ≡ interner.old) }
+        ensures released { OnErr result (HoldsTheSame interner.old interner.new) }
         ensures unreported { IfErr result (λ refusal. OnRefusedText refusal
             (Keeps (R.kinds reporter.old) (R.kinds reporter.new))) }
         ensures begun { IfErr result (λ _. HasBegun
@@ -157,19 +160,26 @@ impl<T: Pep508Url> Requirement<T> {
             text.now (R.kinds reporter.old) (R.kinds reporter.new)) }
         ensures again { R.can_report reporter.new }
     {
+        let mark = interner.mark();
         let (requirement, kinds) = match read(text, surroundings, interner) {
             Ok(reading) => reading,
             Err(refusal) => return Err(refusal),
         };
-        report_kinds(interner.allocator(), &kinds, reporter)?;
-        Ok(requirement)
+        match report_kinds(interner.allocator(), &kinds, reporter) {
+            Ok(()) => Ok(requirement),
+            Err(error) => {
+                interner.release(mark);
+                Err(error.into())
+            }
+        }
     }
 
-    /// Reads a requirement out of a JSON string, as [`Requirement::parse`] reads the string's text.
+    /// Parses a requirement from a JSON string, as [`Requirement::parse`] parses the string's text.
     ///
-    /// JSON that is no string is a fault at its start, with no length, or 1 at the end of no text.
-    /// A fault of the string's text has its place there, and keeps that text. At a fault the
-    /// interner stays as it was.
+    /// # Errors
+    /// - [`Refusal::Fault`] if the JSON is not a string: at its start, with length 0, or 1 if it is
+    ///   empty.
+    /// - The errors of [`Requirement::parse`], with the string's text and a place in it.
     pub fn from_json(
         json: &str,
         surroundings: &Surroundings<'_>,
@@ -186,6 +196,7 @@ impl<T: Pep508Url> Requirement<T> {
         ensures refused { IfErr result (IsJsonRefusalIn
             T.names T.tells_size T.may_overflow surroundings.now json.now) }
         ensures untouched { OnFault result (interner.new ≡ interner.old) }
+        ensures released { OnErr result (HoldsTheSame interner.old interner.new) }
     {
         let alloc = interner.allocator();
         match read_string(alloc, json)? {

@@ -14,7 +14,7 @@ use crate::version_or_url::VersionOrUrl;
 use marker_graph::Interner;
 use pep508_errors::Pep508Url;
 use pep508_markers::MarkerText;
-use pep508_markers::json::write_string;
+use pep508_markers::internal::write_string;
 use pep508_names::{ExtraName, PackageName};
 use requirement_words::laws::{head_text_is_ascii, head_text_reads_back};
 use requirement_words::{write_extras, write_specifiers};
@@ -22,7 +22,7 @@ use std::alloc::AllocError;
 use std::fmt;
 use std::fmt::Display;
 
-// Writes the text of a marker behind ` ; `, and nothing where there is none.
+// Writes ` ; ` and the text of a marker, or nothing without one.
 pub(crate) fn write_marker<W: fmt::Write>(
     marker: Option<&str>,
     f: &mut fmt::Formatter<W>,
@@ -61,7 +61,7 @@ impl<T: Pep508Url> Display for RequirementText<'_, T> {
     }
 }
 
-// What is told of a marker is a text in UTF-8: a look at it shows that.
+// The text of a marker is UTF-8, which reading it shows.
 fn look_at_text(marker: &Option<String>)
     ensures { IfSome marker.now (λ text. IsUtf8 (string_bytes text)) }
 {
@@ -70,7 +70,7 @@ fn look_at_text(marker: &Option<String>)
     }
 }
 
-// Names are in their normal form: a look at each shows that.
+// Names are in their normal form, which reading each shows.
 fn look_at_names(names: &[ExtraName])
     ensures { AllByRecursion IsNormal names.entry.now }
 {
@@ -81,7 +81,7 @@ fn look_at_names(names: &[ExtraName])
     }
 }
 
-// Specifiers are a set: a look at them shows that.
+// Specifiers keep the invariant of their set, which reading them shows.
 fn look_at_specifiers<T: Pep508Url>(asked: &Option<VersionOrUrl<T>>)
     ensures { AreSets asked.now }
 {
@@ -91,13 +91,13 @@ fn look_at_specifiers<T: Pep508Url>(asked: &Option<VersionOrUrl<T>>)
 }
 
 impl<T: Pep508Url> Requirement<T> {
-    /// The text of the requirement: its name, its extras in brackets, its specifiers with a comma
-    /// between each two or its URL behind ` @ `, and behind ` ; ` its marker, as
-    /// [`MarkerText::try_to_string`] tells it, where that is not `TRUE`.
+    /// Returns the text of the requirement: its name, its extras in brackets, its specifiers
+    /// separated by commas or ` @ ` and its URL, and ` ; ` and its marker as
+    /// [`MarkerText::try_to_string`] prints it. A marker that is `TRUE` is left out.
     ///
-    /// The text of a requirement that has neither a URL nor an empty list of specifiers, and whose
-    /// marker is `TRUE`, or is readable and not `FALSE`, is read as its name, extras, specifiers
-    /// and a marker that means the same. Only memory can run out.
+    /// The text parses back to the same name, extras and specifiers and an equivalent marker under
+    /// two conditions. There is no URL and no empty list of specifiers; and the marker is `TRUE`,
+    /// or readable and not `FALSE`.
     pub fn try_to_string(&self, interner: &Interner) -> Result<String, AllocError>
         requires { IsHeld interner.now self.now.marker }
         ensures text { IfOk result (λ text. IsTextOf (truth interner.now self.now.marker)
@@ -124,8 +124,8 @@ impl<T: Pep508Url> Requirement<T> {
         text.to_string(interner.allocator())
     }
 
-    /// The text of the requirement, as [`Requirement::try_to_string`] gives it, as a string of
-    /// JSON. Only memory can run out.
+    /// Returns the text of the requirement, as [`Requirement::try_to_string`] does, as a JSON
+    /// string.
     pub fn to_json(&self, interner: &Interner) -> Result<String, AllocError>
         requires { IsHeld interner.now self.now.marker }
         ensures text { IfOk result (λ json. IsJsonOf

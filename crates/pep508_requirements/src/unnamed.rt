@@ -1,12 +1,12 @@
 //! Requirements without a name.
 
-ghost use Rattle.std.specs.Prelude.{◌≡◌, ◌≤◌, IfErr, IfOk, List, None, Some, false, true};
+ghost use Rattle.std.specs.Prelude.{◌≡◌, ◌≤◌, IfErr, IfOk, List, None, OnErr, Some, false, true};
 ghost use Rattle.pep508_errors.specs.declared.warning.MarkerWarningKind.{MarkerWarningKind};
 ghost use Rattle.pep508_errors.specs.Kinds.{Adds, Keeps};
 ghost use Rattle.marker_environment.specs.Environment.{valuation_of, values_of};
 ghost use Rattle.marker_parts.specs.Reporting.{HasBegun};
 ghost use Rattle.marker_walks.specs.Possible.{IsImpossible, IsPossible};
-ghost use Rattle.marker_graph.specs.Contents.{IsHeld, IsKept, truth};
+ghost use Rattle.marker_graph.specs.Contents.{HoldsTheSame, IsHeld, IsKept, truth};
 ghost use Rattle.pep508_markers.specs.Text.{OnFault, OnRefusedText};
 ghost use Rattle.pep508_requirements.specs.Requirement.{urls_in};
 ghost use Rattle.pep508_requirements.specs.Unnamed.{IsUnnamedMarkedBy, IsUnnamedReadAs, IsUnnamedRefusalIn};
@@ -16,15 +16,15 @@ use crate::origin::RequirementOrigin;
 use crate::url::{read_unnamed, unnamed_url};
 use marker_environment::MarkerEnvironment;
 use marker_graph::{Interner, MarkerTree};
-use marker_parts::report_kinds;
+use marker_parts::internal::report_kinds;
 use pep508_errors::{MarkerWarningKind, Pep508Error, Reporter, Surroundings};
 use pep508_names::ExtraName;
 use pep508_urls::UnnamedRequirementUrl;
 use refusal::Refusal;
 use requirement_words::UnnamedHead;
 
-/// A requirement without a name: a URL or a path, extras, and the marker that says where it is
-/// required. PEP 508 has none; files of requirements do.
+/// A requirement without a name: a URL or a path, extras, and a marker. Requirements files have
+/// them, PEP 508 does not.
 ///
 /// ```
 /// let mut warnings = Vec::new(rt.alloc());
@@ -38,18 +38,18 @@ use requirement_words::UnnamedHead;
 /// ```
 #[derive(Clone, Debug, PartialEq, Eq, Hash, Drop)]
 pub struct UnnamedRequirement<Url: UnnamedRequirementUrl> {
-    /// The URL of what is required, or its path as a URL.
+    /// The URL, or that of the path.
     pub url: Url,
-    /// The extras that are required, as `dev` in `./a.whl[dev]`.
+    /// The required extras, such as `dev` in `./a.whl[dev]`.
     pub extras: Vec<ExtraName>,
-    /// Where the requirement holds.
+    /// In which environments the requirement applies.
     pub marker: MarkerTree,
     /// Where the requirement comes from, if that is known.
     pub origin: Option<RequirementOrigin>,
 }
 
-// Reads a requirement without a name, and the kinds of the warnings of its marker, of which nobody
-// is told yet.
+// Parses a requirement without a name. Returns it with the kinds of the warnings of its marker,
+// which are not reported yet.
 fn read<Url: UnnamedRequirementUrl>(
     text: &str,
     surroundings: &Surroundings<'_>,
@@ -65,6 +65,7 @@ fn read<Url: UnnamedRequirementUrl>(
     ensures refused { IfErr result (IsUnnamedRefusalIn
         Url.names Url.tells_size Url.may_overflow surroundings.now text.now) }
     ensures untouched { OnFault result (interner.new ≡ interner.old) }
+    ensures released { OnErr result (HoldsTheSame interner.old interner.new) }
 {
     let alloc = interner.allocator();
     let (head, rest) = match read_unnamed(alloc, text) {
@@ -95,15 +96,15 @@ fn read<Url: UnnamedRequirementUrl>(
 }
 
 impl<Url: UnnamedRequirementUrl> UnnamedRequirement<Url> {
-    /// Reads a requirement without a name, and tells the reporter of the warnings of its marker, in
-    /// their order. The URL is kept as it is given, without its extras.
+    /// Parses a requirement without a name and reports the warnings of its marker, in order. The
+    /// URL keeps the text that it was given as, without its extras.
     ///
-    /// A text that is none is refused as a fault, with its message, its place and the text, and so
-    /// is one whose URL its type refuses. `SegmentAtEnd` comes where the marker has a comparison
-    /// for which 18446744073709551615 would be raised. A text that is refused so has reported
-    /// nothing; where memory runs out the first of the warnings, or none, have been reported. What
-    /// the trees of the interner mean stays, also then, and at a fault the interner stays as it
-    /// was.
+    /// # Errors
+    /// - [`Refusal::Fault`] if the text is invalid or its URL is rejected: what is wrong, where,
+    ///   and the text. Nothing was reported.
+    /// - [`Refusal::SegmentAtEnd`] if a comparison of the marker has a bound above 2^64 - 1.
+    ///   Nothing was reported.
+    /// - [`Refusal::OutOfMemory`] when memory runs out. The first warnings may have been reported.
     pub fn parse<R: Reporter>(
         text: &str,
         surroundings: &Surroundings<'_>,
@@ -122,6 +123,7 @@ impl<Url: UnnamedRequirementUrl> UnnamedRequirement<Url> {
         ensures refused { IfErr result (IsUnnamedRefusalIn
             Url.names Url.tells_size Url.may_overflow surroundings.now text.now) }
         ensures untouched { OnFault result (interner.new ≡ interner.old) }
+        ensures released { OnErr result (HoldsTheSame interner.old interner.new) }
         ensures unreported { IfErr result (λ refusal. OnRefusedText refusal
             (Keeps (R.kinds reporter.old) (R.kinds reporter.new))) }
         ensures begun { IfErr result (λ _. HasBegun
@@ -129,15 +131,21 @@ impl<Url: UnnamedRequirementUrl> UnnamedRequirement<Url> {
             text.now (R.kinds reporter.old) (R.kinds reporter.new)) }
         ensures again { R.can_report reporter.new }
     {
+        let mark = interner.mark();
         let (requirement, kinds) = match read(text, surroundings, interner) {
             Ok(reading) => reading,
             Err(refusal) => return Err(refusal),
         };
-        report_kinds(interner.allocator(), &kinds, reporter)?;
-        Ok(requirement)
+        match report_kinds(interner.allocator(), &kinds, reporter) {
+            Ok(()) => Ok(requirement),
+            Err(error) => {
+                interner.release(mark);
+                Err(error.into())
+            }
+        }
     }
 
-    /// Whether the marker is true in the environment with these extras. This takes no memory.
+    /// Returns whether the marker is true in the environment with these extras.
     pub fn evaluate_markers(
         &self,
         interner: &Interner,
@@ -151,9 +159,9 @@ impl<Url: UnnamedRequirementUrl> UnnamedRequirement<Url> {
         self.marker.evaluate(interner, environment, extras)
     }
 
-    /// Whether the marker is true in the environment with these extras. Without an environment,
-    /// whether some valuation with exactly these extras, and no arbitrary one, satisfies it. This
-    /// takes no memory.
+    /// Returns whether the marker is true in the environment with these extras. Without an
+    /// environment: whether it can be true with exactly these extras, where the other keys and
+    /// substring tests may have any values, each independently of the others.
     pub fn evaluate_optional_environment(
         &self,
         interner: &Interner,
@@ -173,7 +181,7 @@ impl<Url: UnnamedRequirementUrl> UnnamedRequirement<Url> {
             .evaluate_optional_environment(interner, environment, extras)
     }
 
-    /// The same requirement, which comes from there.
+    /// Returns the requirement with this origin.
     pub fn with_origin(mut self, origin: RequirementOrigin) -> UnnamedRequirement<Url>
         ensures { result ≡ record self { origin = Some origin } }
     {

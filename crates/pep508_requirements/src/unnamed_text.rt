@@ -36,9 +36,8 @@ impl<Url: UnnamedRequirementUrl> Display for UnnamedText<'_, Url> {
 }
 
 impl<Url: UnnamedRequirementUrl> UnnamedRequirement<Url> {
-    /// The text of the requirement: its URL, its extras in brackets, and behind ` ; ` its marker,
-    /// as [`MarkerText::try_to_string`] tells it, where that is not `TRUE`. Only memory can run
-    /// out.
+    /// Returns the text of the requirement: its URL, its extras in brackets, and ` ; ` and its
+    /// marker as [`MarkerText::try_to_string`] prints it. A marker that is `TRUE` is left out.
     pub fn try_to_string(&self, interner: &Interner) -> Result<String, AllocError>
         requires { IsHeld interner.now self.now.marker }
         ensures { IfOk result (λ text. IsTextOf (truth interner.now self.now.marker)

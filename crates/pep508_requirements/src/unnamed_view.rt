@@ -1,4 +1,4 @@
-//! Requirements without a name, with the interners that their markers stand in.
+//! Requirements without a name, with the interners of their markers.
 
 ghost use Rattle.std.specs.Prelude.{◌≡◌, IfOk, None};
 ghost use Rattle.std.specs.Fmt.{DisplaysOnOk, DisplaysStyledOnOk};
@@ -18,12 +18,11 @@ use std::alloc::AllocError;
 use std::fmt;
 use std::fmt::Display;
 
-/// A requirement without a name, with the interner that its marker stands in.
+/// A requirement without a name, with the interner of its marker. It can be compared and printed.
 ///
-/// Views are compared field by field: URL, extras, marker and origin, where markers are compared as
-/// [`MarkerTreeView`] says, in one interner or in two. To compare takes no memory. A view prints as
-/// the text of its requirement; where memory for the text of the marker is refused, writing it is a
-/// fault.
+/// Views are compared by URL, extras, marker and origin, and markers as [`MarkerTreeView`] says,
+/// even across interners. A view prints as the text of its requirement; printing returns an error
+/// when memory for the marker's text runs out.
 #[derive(PartialEq, Eq, PartialOrd, Ord)]
 pub struct UnnamedRequirementView<'a, Url: UnnamedRequirementUrl> {
     url: &'a Url,
@@ -43,8 +42,7 @@ impl<Url: UnnamedRequirementUrl> Clone for UnnamedRequirementView<'_, Url> {
 impl<Url: UnnamedRequirementUrl> Copy for UnnamedRequirementView<'_, Url> {}
 
 impl<Url: UnnamedRequirementUrl> UnnamedRequirement<Url> {
-    /// The requirement with the interner that its marker stands in, which can be compared and
-    /// printed. This takes no memory.
+    /// Returns the requirement with the interner of its marker.
     pub fn view<'a>(&'a self, interner: &'a Interner) -> UnnamedRequirementView<'a, Url>
         requires { IsHeld interner.now self.now.marker }
         ensures url { result.url.now ≡ self.now.url }
@@ -63,14 +61,14 @@ impl<Url: UnnamedRequirementUrl> UnnamedRequirement<Url> {
 }
 
 impl<Url: UnnamedRequirementUrl> Display for UnnamedRequirementView<'_, Url> {
-    // The text is no function of the view, but told by a relation: the clause `told` of `fmt`.
+    // The text is not a function of the view: the clause `told` of `fmt` states it as a relation.
     ghost output = { λ _. None };
 
     fn fmt<W: fmt::Write>(&self, f: &mut fmt::Formatter<W>) -> fmt::Result
         ensures writes { DisplaysOnOk W.write_str_gives f.old result None f.new }
         ensures styled { DisplaysStyledOnOk W.write_str_gives f.old result None f.new }
 
-        // The text of the requirement is written, as far as that of its URL is known.
+        // Writes the text of the requirement, where the text of the URL is known.
         ensures told { IfOk result (λ _. WithText
             (truth self.now.marker.interner.now self.now.marker.tree)
             (unnamed_text (Url.output self.now.url.now) self.now.extras.now)

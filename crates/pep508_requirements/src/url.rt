@@ -1,4 +1,4 @@
-//! A requirement without a name up to its marker, with a value for its URL.
+//! A requirement without a name up to its marker, with its URL parsed.
 
 ghost use Rattle.std.specs.Prelude.{◌≡◌, ◌≢◌, ◌++◌, IfErr, IfOk, Some, false, option_copied, true};
 ghost use Rattle.std.specs.Str.{chars};
@@ -14,7 +14,8 @@ ghost use Rattle.pep508_requirements.specs.Refused.{IsRefusedBy, IsUrlError, OnE
 
 use crate::error::{refusal_of_fault, refusal_of_url};
 use pep508_errors::{Pep508Error, Surroundings};
-use pep508_urls::{Target, UnnamedRequirementUrl, expand_env_vars};
+use pep508_urls::internal::Target;
+use pep508_urls::{UnnamedRequirementUrl, expand_env_vars};
 use refusal::Refusal;
 use requirement_words::{UnnamedHead, read_unnamed_head};
 use std::alloc::Global;
@@ -30,7 +31,7 @@ pub(crate) fn read_unnamed<'a, Url: UnnamedRequirementUrl>(
         (IsRefusedBy (FindsInUnnamed text.now) (HasNoUnnamedHead (chars text.now)) text.now) }
     ensures suffix { IfOk result (λ x. IsSuffix text.now x.1.now) }
 
-    // The URL as it is written stands right before what follows it.
+    // The text of the URL comes directly before `rest`.
     ensures placed { IfOk result (λ x. IsSuffix text.now (x.0.given.now ++ x.1.now)) }
 {
     match read_unnamed_head(alloc, text) {
@@ -40,7 +41,7 @@ pub(crate) fn read_unnamed<'a, Url: UnnamedRequirementUrl>(
     }
 }
 
-// The value of what a text stands for. A path starts from the folder, if there is one.
+// The URL of a target. A relative path starts from the folder, if there is one.
 fn url_of<Url: UnnamedRequirementUrl>(
     alloc: Global,
     target: &Target<'_>,
@@ -61,7 +62,7 @@ fn url_of<Url: UnnamedRequirementUrl>(
     }
 }
 
-// The value of a URL or a path, given as it is written.
+// The URL of a text, which it keeps as given.
 fn given_url<Url: UnnamedRequirementUrl>(
     alloc: Global,
     given: &str,
@@ -86,8 +87,7 @@ fn given_url<Url: UnnamedRequirementUrl>(
     }
 }
 
-// The value of the URL `given`, where the text has `whole`, which is that with its extras, in front
-// of `rest`.
+// The URL of `given`. The text has `whole`, which is `given` with its extras, before `rest`.
 #[tactic(auto, using(crate::proofs::ErrorLaws::url_error))]
 pub(crate) fn unnamed_url<Url: UnnamedRequirementUrl>(
     alloc: Global,

@@ -1,4 +1,4 @@
-//! What a requirement asks of the versions.
+//! The wanted versions or URL of a requirement.
 
 ghost use Rattle.std.specs.Prelude.{◌≡◌};
 ghost use Rattle.pep508_requirements.specs.Wanted.{lent_wanted, wanted_text};
@@ -8,21 +8,21 @@ use pep508_errors::Pep508Url;
 use std::alloc::AllocError;
 use std::fmt;
 
-/// What a requirement asks of the versions. It prints as its specifiers, or as its URL.
+/// The wanted versions or URL of a requirement. It prints as its specifiers or its URL.
 #[derive(Clone, Debug, PartialEq, Eq, PartialOrd, Ord, Hash, Drop)]
 pub enum VersionOrUrl<T: Pep508Url> {
-    /// Specifiers that all have to hold.
+    /// Specifiers that must all match.
     VersionSpecifier(VersionSpecifiers),
-    /// The URL of what is wanted.
+    /// The URL of the package.
     Url(T),
 }
 
-/// What a requirement asks of the versions, by reference. It prints as what it lends.
+/// A borrowed [`VersionOrUrl`], which prints as that does.
 #[derive(Debug, PartialEq, Eq, Hash)]
 pub enum VersionOrUrlRef<'a, T: Pep508Url> {
-    /// Specifiers that all have to hold.
+    /// Specifiers that must all match.
     VersionSpecifier(&'a VersionSpecifiers),
-    /// The URL of what is wanted.
+    /// The URL of the package.
     Url(&'a T),
 }
 
@@ -61,7 +61,7 @@ impl<T: Pep508Url> fmt::Display for VersionOrUrlRef<'_, T> {
 impl<'a, T: Pep508Url> From<&'a VersionOrUrl<T>> for VersionOrUrlRef<'a, T> {
     ghost from_gives = { λ wanted reference. lent_wanted reference ≡ wanted.now };
 
-    /// Lends what is asked. This takes no memory.
+    /// Borrows the specifiers or the URL.
     fn from(wanted: &'a VersionOrUrl<T>) -> VersionOrUrlRef<'a, T> {
         match wanted {
             VersionOrUrl::VersionSpecifier(set) => VersionOrUrlRef::VersionSpecifier(set),

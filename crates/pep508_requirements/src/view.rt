@@ -1,4 +1,4 @@
-//! Requirements with a name, with the interners that their markers stand in.
+//! Requirements with a name, with the interners of their markers.
 
 ghost use Rattle.std.specs.Prelude.{◌≡◌, IfOk, None, string_bytes};
 ghost use Rattle.std.specs.Fmt.{DisplaysOnOk, DisplaysStyledOnOk};
@@ -20,12 +20,11 @@ use std::alloc::AllocError;
 use std::fmt;
 use std::fmt::Display;
 
-/// A requirement with the interner that its marker stands in.
+/// A requirement with the interner of its marker. It can be compared and printed.
 ///
-/// Views are compared field by field: name, extras, version or URL, marker and origin, where
-/// markers are compared as [`MarkerTreeView`] says, in one interner or in two. To compare takes no
-/// memory. A view prints as the text of its requirement; where memory for the text of the marker is
-/// refused, writing it is a fault.
+/// Views are compared by name, extras, version or URL, marker and origin, and markers as
+/// [`MarkerTreeView`] says, even across interners. A view prints as the text of its requirement;
+/// printing returns an error when memory for the marker's text runs out.
 #[derive(PartialEq, Eq, PartialOrd, Ord)]
 pub struct RequirementView<'a, T: Pep508Url> {
     name: &'a PackageName,
@@ -46,8 +45,7 @@ impl<T: Pep508Url> Clone for RequirementView<'_, T> {
 impl<T: Pep508Url> Copy for RequirementView<'_, T> {}
 
 impl<T: Pep508Url> Requirement<T> {
-    /// The requirement with the interner that its marker stands in, which can be compared and
-    /// printed. This takes no memory.
+    /// Returns the requirement with the interner of its marker.
     pub fn view<'a>(&'a self, interner: &'a Interner) -> RequirementView<'a, T>
         requires { IsHeld interner.now self.now.marker }
         ensures name { result.name.now ≡ self.now.name }
@@ -67,7 +65,7 @@ impl<T: Pep508Url> Requirement<T> {
     }
 }
 
-// The text of a marker, where there is memory for it.
+// The text of a marker, or an error when memory runs out.
 pub(crate) fn marker_text(marker: &MarkerTreeView<'_>) -> Result<Option<String>, fmt::Error>
     ensures { IfOk result (λ text. TellsText
         (truth marker.now.interner.now marker.now.tree) (option_map string_bytes text)) }
@@ -79,14 +77,14 @@ pub(crate) fn marker_text(marker: &MarkerTreeView<'_>) -> Result<Option<String>,
 }
 
 impl<T: Pep508Url> Display for RequirementView<'_, T> {
-    // The text is no function of the view, but told by a relation: the clause `told` of `fmt`.
+    // The text is not a function of the view: the clause `told` of `fmt` states it as a relation.
     ghost output = { λ _. None };
 
     fn fmt<W: fmt::Write>(&self, f: &mut fmt::Formatter<W>) -> fmt::Result
         ensures writes { DisplaysOnOk W.write_str_gives f.old result None f.new }
         ensures styled { DisplaysStyledOnOk W.write_str_gives f.old result None f.new }
 
-        // The text of the requirement is written, as far as that of its URL is known.
+        // Writes the text of the requirement, where the text of the URL is known.
         ensures told { IfOk result (λ _. WithText
             (truth self.now.marker.interner.now self.now.marker.tree)
             (requirement_text T.output self.now.name.now self.now.extras.now

@@ -2,18 +2,14 @@
 
 pub use marker_graph::{
     BooleanEdges, ContainsMarkerTree, ExtraMarkerTree, InMarkerTree, Interner, InvalidExpression,
-    MarkerTree, MarkerTreeContents, MarkerTreeKind, MarkerValueExtraRef, StringEdges,
+    Mark, MarkerTree, MarkerTreeContents, MarkerTreeKind, MarkerValueExtraRef, StringEdges,
     StringMarkerTree, TruthVariable, VersionEdges, VersionMarkerTree,
 };
 pub use marker_parts::{
-    ComparisonError, ExtraName, ExtraOperator, Fault, FaultKind, InvalidNameError,
-    MarkerEnvironment, MarkerEnvironmentBuilder, MarkerExpression, MarkerOperator,
-    MarkerOperatorBounds, MarkerValue, MarkerValueExtra, MarkerValueString, MarkerValueVersion,
-    MarkerWarningKind, PackageName, Pep508Error, Pep508ErrorSource, Pep508Url, Refusal, ReportTo,
-    Reporter, StringVersion, Surroundings, TextVariable, TracingReporter, Version,
-    VersionSpecifier, VersionVariable, read_comparison, report_kinds,
+    ExtraName, ExtraOperator, InvalidNameError, MarkerEnvironment, MarkerEnvironmentBuilder,
+    MarkerExpression, MarkerOperator, MarkerOperatorBounds, MarkerValue, MarkerValueExtra,
+    MarkerValueString, MarkerValueVersion, MarkerWarningKind, PackageName, Pep508Error,
+    Pep508ErrorSource, Pep508Url, Refusal, ReportTo, Reporter, StringVersion, Surroundings,
+    TextVariable, TracingReporter, Version, VersionSpecifier, VersionVariable,
 };
-pub use marker_view::MarkerTreeView;
-pub use pep508_markers::{
-    Command, MarkerText, Reason, Reply, Session, json, parse_behind, ser, tree_of,
-};
+pub use pep508_markers::{Command, MarkerText, MarkerTreeView, Reason, Reply, Session, ser};
