@@ -7,7 +7,7 @@ use Rattle.requirement_lines.specs.Character.{Character}
 use Rattle.requirement_lines.specs.Ends.{begins_with}
 use Rattle.requirement_lines.specs.Physical.{is_break, single_breaks, with_first, broken_lines, physical_lines}
 
--- a character that ends no line is no carriage return
+-- a character that does not end a line is not a carriage return
 no_return : (c : ℕ) → is_break c ≡ false → (c == 13) ≡ false
 no_return c e = go (c == 13) refl
   where
@@ -36,7 +36,7 @@ plain_more : (ps : List Character) (p : Character) → IsPlain ps → is_break p
 plain_more [] p plain e = (e, tt)
 plain_more (q ∷ qs) p plain e = (plain.0, plain_more qs p plain.1 e)
 
--- what stands before a line belongs to it
+-- the text before a line belongs to it
 lines-front : (front rest line : List Character) (lines : List (List Character)) → IsPlain front → physical_lines rest ≡ line ∷ lines → physical_lines (front ++ rest) ≡ (front ++ line) ∷ lines
 lines-front [] rest line lines plain e = e
 lines-front (p ∷ ps) rest line lines plain e = lines-goes_on p (ps ++ rest) plain.0 ∙ ap (with_first p) (lines-front ps rest line lines plain.1 e)

@@ -51,7 +51,7 @@ with_text-nil lines e = ap (λ x. with_text x lines) e
 
 -- ---- cut before a mark
 
--- what stands before the mark behind a front
+-- the part before the mark, after a front
 abbrev pub behind : Mark → Option Bool → List Character → List Character
 behind mark None ps = []
 behind mark (Some may) ps = before mark may ps
@@ -67,7 +67,7 @@ before-append mark may (p ∷ ps) ys = go (may && is_mark mark p.char) (before-a
 
 -- ---- cut from a mark on
 
--- what stands from the mark on, of a front and what follows it
+-- the part from the mark on, of a front and the rest
 pub from_mark-none : (mark : Mark) (may next : Bool) (xs ys : List Character) → Some next ≡ may_follow mark may xs → from_mark mark may (xs ++ ys) ≡ from_mark mark next ys
 from_mark-none mark may next [] ys e = ap (λ b. from_mark mark b ys) (cc)
 from_mark-none mark may next (p ∷ ps) ys e = go (may && is_mark mark p.char) (from_mark-none mark (opens mark p.char) next ps ys) e
@@ -132,7 +132,7 @@ line_of-push xs p = line_of-append xs (p ∷ []) ∙ ap (λ (x : List Character)
 pub line_pushed : (xs new : List Piece) (p : Piece) → new ≡ xs ++ (p ∷ []) → line_of new ≡ line_of xs ++ characters_of p
 line_pushed xs new p e = ap line_of e ∙ line_of-push xs p
 
--- what a read gives where there is nothing to read
+-- the result of a read if there is nothing to read
 abbrev pub no_piece : Piece
 no_piece = record { text = record { ref_ptr = (0, 0); now = [] }; place = record { to_end = 0; source = File } }
 

@@ -31,7 +31,7 @@ module _ (value_of : List ℕ → Option (List ℕ)) (others : List Character) w
       ∙ ap (λ (x : List Character). kept ++ replaced value_of true (x ++ others)) begins
       ∙ ap (λ (b : Bool). kept ++ replaced value_of b (ps ++ others)) (sym still_is))
 
-  -- one more character, in place of which `put` stands
+  -- one more character, which is replaced by `put`
   one_more : (p : Character) (ps : List Character) (value : Option (List ℕ)) → value ≡ value_at value_of ((p ∷ ps) ++ others)
       → replaced value_of false ((p ∷ ps) ++ others) ≡ in_place_of p value ++ replaced value_of (is_some value) (ps ++ others)
   one_more p ps value e = ap (λ (v : Option (List ℕ)). in_place_of p v ++ replaced value_of (is_some v) (ps ++ others)) (sym e)
@@ -134,7 +134,7 @@ one_character whole front rest c ps begins parts place =
 
 -- ---- the value of the variable that begins with a character
 
--- what a name stands for, by its bytes
+-- the value of a name, by its bytes
 named_value : (value_of : List ℕ → Option (List ℕ)) (name : Option (List ℕ)) → option_and_then value_of (option_map encode_utf8_all name) ≡ option_and_then (λ n. value_of (encode_utf8_all n)) name
 named_value value_of None = refl
 named_value value_of (Some n) = refl

@@ -9,7 +9,7 @@ use Rattle.requirement_lines.specs.declared.quoting.Step.TheVariants.{Pass, Begi
 
 -- ---- the end
 
--- between words there is no word that goes on
+-- between words there is no current word
 pub resume-start : (opened place : Place) (front ps : List Character) → split Between opened ps ≡ resume false [] place front (split Between opened ps)
 resume-start opened place front [] = refl
 resume-start opened place front (p ∷ ps) = go (parts_words p.char) (is_kept Between p.char (can_be_taken ps)) (split (next_quoting Between p.char (can_be_taken ps)) p.place ps)

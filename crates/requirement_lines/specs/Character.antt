@@ -1,5 +1,5 @@
--- Characters with their places. A place counts the bytes from the character to the end of the
--- file, so what stands before a character does not matter to its place.
+-- Characters with their places. A place counts the bytes from the character to the end of the file,
+-- so the text before a character does not matter.
 use Rattle.std.specs.Prelude.{ℕ, ◌-◌, List, [], ◌∷◌, length}
 use Rattle.std.specs.Char.{len_utf8}
 use Rattle.std.specs.Str.{chars}

@@ -1,5 +1,5 @@
 -- Characters of a set at the front and at the back of a line.
-use Rattle.std.specs.Prelude.{ℕ, Bool, false, List, [], ◌∷◌, ◌==◌, reverse, if◌then◌else◌}
+use Rattle.std.specs.Prelude.{ℕ, Bool, false, List, [], ◌∷◌, ◌==◌, drop, reverse, if◌then◌else◌}
 use Rattle.std.specs.Char.{is_whitespace}
 use Rattle.requirement_lines.specs.Character.{Character}
 use Rattle.requirement_lines.specs.declared.sets.CharacterSet.{CharacterSet}
@@ -14,7 +14,7 @@ abbrev pub skip : CharacterSet → List Character → List Character
 skip set [] = []
 skip set (p ∷ ps) = if holds set p.char then skip set ps else p ∷ ps
 
--- what stands before the characters of the set at the back
+-- the line without characters of the set at the back
 abbrev pub skip_back : CharacterSet → List Character → List Character
 skip_back set ps = reverse (skip set (reverse ps))
 
@@ -22,3 +22,7 @@ skip_back set ps = reverse (skip set (reverse ps))
 abbrev pub begins_with : ℕ → List Character → Bool
 begins_with c [] = false
 begins_with c (p ∷ ps) = p.char == c
+
+-- all but the last character
+abbrev pub without_last : List Character → List Character
+without_last ps = reverse (drop 1 (reverse ps))

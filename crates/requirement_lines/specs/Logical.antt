@@ -1,6 +1,6 @@
--- Logical lines, as pip has them: a line that ends in a backslash goes on in the next one, unless
--- it is a comment; comments are cut off what was joined, and white space at both ends; blank lines
--- do not count.
+-- Logical lines, as in pip: a line that ends in a backslash is continued in the next one, unless it
+-- is a comment; comments are removed from the joined line, and white space at both ends; blank
+-- lines do not count.
 use Rattle.std.specs.Prelude.{ℕ, Bool, true, not, List, [], ◌∷◌, ◌++◌, ◌&&◌, ◌==◌, reverse, if◌then◌else◌}
 use Rattle.requirement_lines.specs.Character.{Character, characters}
 use Rattle.requirement_lines.specs.Ends.{skip, skip_back, begins_with}
@@ -16,8 +16,8 @@ is_comment line = begins_with 35 (skip Space line)
 abbrev pub is_continued : List Character → Bool
 is_continued line = begins_with 92 (reverse line) && not (is_comment line)
 
--- What a line adds to the logical line: if it goes on in the next one, all but the backslashes at
--- its ends; nothing, if it is a comment; and else all of it.
+-- The part of a line in its logical line: all but the backslashes at its ends if it is continued;
+-- nothing if it is a comment; otherwise all of it.
 abbrev pub part_of : List Character → List Character
 part_of line =
     if is_continued line then skip_back Backslash (skip Backslash line)
@@ -28,7 +28,7 @@ abbrev pub with_front : List Character → List (List Character) → List (List 
 with_front front [] = front ∷ []
 with_front front (line ∷ lines) = (front ++ line) ∷ lines
 
--- the lines, each with those that it goes on in
+-- the lines, each with those in which it is continued
 abbrev pub joined : List (List Character) → List (List Character)
 joined [] = []
 joined (line ∷ lines) =
@@ -52,7 +52,7 @@ trimmed_lines (line ∷ lines) = with_text (trimmed line) (trimmed_lines lines)
 abbrev pub logical_lines : List Character → List (List Character)
 logical_lines ps = trimmed_lines (joined (physical_lines ps))
 
--- a byte order mark at the front is no part of the text
+-- a byte order mark at the front does not belong to the text
 abbrev pub without_mark : List Character → List Character
 without_mark [] = []
 without_mark (p ∷ ps) = if p.char == 65279 then ps else p ∷ ps

@@ -15,7 +15,7 @@ abbrev pub opens : Mark → ℕ → Bool
 opens Comment c = is_whitespace c
 opens Options c = c == 32
 
--- What stands before the first mark that counts; `may` says whether one counts at the front.
+-- The part before the first mark that counts; `may` says whether one counts at the front.
 abbrev pub before : Mark → Bool → List Character → List Character
 before mark may [] = []
 before mark may (p ∷ ps) =
@@ -27,7 +27,7 @@ may_follow mark may [] = Some may
 may_follow mark may (p ∷ ps) =
     if may && is_mark mark p.char then None else may_follow mark (opens mark p.char) ps
 
--- What stands from the first mark that counts on.
+-- The part from the first mark that counts on.
 abbrev pub from_mark : Mark → Bool → List Character → List Character
 from_mark mark may [] = []
 from_mark mark may (p ∷ ps) =

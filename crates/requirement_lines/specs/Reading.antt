@@ -1,4 +1,4 @@
--- What was read of a text that is split into words.
+-- The state of splitting a text into words.
 use Rattle.std.specs.Prelude.{Bool, true, false, List, [], ◌∷◌, ◌++◌, map}
 use Rattle.requirement_lines.specs.Character.{Character}
 use Rattle.requirement_lines.specs.Pieces.{line_of}
@@ -20,7 +20,7 @@ abbrev pub split_of : Words → Parted
 split_of (All found) = parts [] (map spelled_of found.items)
 split_of (Unclosed place) = unclosed place
 
--- a word goes on
+-- a word is not complete
 abbrev pub goes_on : Quoting → Bool
 goes_on Between = false
 goes_on Bare = true
@@ -29,7 +29,7 @@ goes_on Single = true
 goes_on Double = true
 goes_on DoubleEscaped = true
 
--- whether a word goes on before a step, and after it
+-- whether a word is not complete before a step, and after it
 abbrev pub inside_before : Step → Bool
 inside_before Pass = false
 inside_before Begin = false
@@ -42,7 +42,7 @@ inside_after Begin = true
 inside_after GoOn = true
 inside_after End = false
 
--- what a text is split into of which these words were read, and the front of one that goes on
+-- the words of a text of which these were read, and the front of an incomplete one
 abbrev pub resume : Bool → List Spelled → Place → List Character → Parted → Parted
 resume inside done place front (unclosed opened) = unclosed opened
 resume true done place front (parts rest others) =

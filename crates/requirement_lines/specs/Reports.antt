@@ -13,7 +13,7 @@ use Rattle.requirement_lines.specs.declared.reports.LineReport.{LineReport}
 abbrev pub text_of : List Character → List ℕ
 text_of line = encode_utf8_all (map (λ (p : Character). p.char) line)
 
--- the requirement of a line: what stands before its options; none, if it has options alone
+-- the requirement of a line: the part before its options; empty if it has only options
 abbrev pub requirement_of : List Character → List Character
 requirement_of line = before Options true line
 
@@ -35,8 +35,8 @@ report_of report =
     record { requirement = line_of report.requirement.items; findings = report.findings.items }
 
 module _ {State Finding : Type 0} (Finds : State → List ℕ → List Finding → State → Type 0) where
-  -- From the state `old` this is reported of a line: nothing, if it has options alone, and else
-  -- what its requirement has; the state is `new` then.
+  -- From the state `old` this is reported of a line: nothing if it has only options, otherwise the
+  -- findings of its requirement; then the state is `new`.
   abbrev pub ReportsLine : State → List Character → Option (Report Finding) → State → Type 0
   ReportsLine old line None new = (requirement_of line ≡ []) × (new ≡ old)
   ReportsLine old line (Some report) new = (report.requirement ≡ requirement_of line)

@@ -1,5 +1,5 @@
--- Variables of a line, as `${NAME}`, and the line with values in their place. A variable is
--- replaced wherever it stands, and what was put in is not looked at again.
+-- Variables of a line, such as `${NAME}`, and the line with their values. A variable is replaced
+-- wherever it is, and a value is not expanded again.
 use Rattle.std.specs.Prelude.{ℕ, Bool, true, false, not, ◌||◌, ◌==◌, List, [], ◌∷◌, ◌++◌, Option, None, Some, is_some, map, option_map, option_and_then, encode_utf8_all, String, string_bytes, if◌then◌else◌}
 use Rattle.std.specs.Char.{is_ascii_digit, is_ascii_uppercase}
 use Rattle.std.specs.Str.{chars}
@@ -32,8 +32,7 @@ braced_name [] = None
 braced_name (p ∷ ps) =
     if p.char == 123 then option_and_then not_empty (name_before_brace ps) else None
 
--- What the variable at the front stands for. `value_of` gives what the name of a variable that
--- has a value stands for.
+-- The value of the variable at the front. `value_of` has the values of names that have one.
 abbrev pub value_at : (List ℕ → Option (List ℕ)) → List Character → Option (List ℕ)
 value_at value_of [] = None
 value_at value_of (p ∷ ps) =
@@ -45,7 +44,7 @@ abbrev pub value_characters : Place → List ℕ → List Character
 value_characters place value =
     characters_at (record { to_end = place.to_end; source = Variable }) (chars value)
 
--- what stands in the line in place of a character, or of the variable that begins with it
+-- the characters in place of a character, or of the variable that begins with it
 abbrev pub in_place_of : Character → Option (List ℕ) → List Character
 in_place_of p None = p ∷ []
 in_place_of p (Some value) = value_characters p.place value
@@ -58,7 +57,7 @@ replaced value_of true (p ∷ ps) = replaced value_of (not (p.char == 125)) ps
 replaced value_of false (p ∷ ps) = in_place_of p (value_at value_of (p ∷ ps))
     ++ replaced value_of (is_some (value_at value_of (p ∷ ps))) ps
 
--- what the name of a variable stands for: its value in the table, unless that is empty
+-- the value of a name in the table, unless that is empty
 abbrev pub value_of : {A : Type 0} → BTreeMap (String A) (String A) → List ℕ → Option (List ℕ)
 value_of variables name =
     option_and_then (λ value. not_empty (string_bytes value)) (get_by_text variables name)

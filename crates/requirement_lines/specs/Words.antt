@@ -1,6 +1,5 @@
--- The words of a text, as Python's `shlex` has them: white space parts words, what stands in quotes
--- may hold any, and a backslash takes the next character as it is, in double quotes only a double
--- quote or a backslash.
+-- The words of a text, as in Python's `shlex`: white space separates words, except in quotes, and a
+-- backslash escapes the next character; in double quotes only a double quote or a backslash.
 use Rattle.std.specs.Prelude.{ℕ, Bool, true, false, not, ◌||◌, ◌&&◌, ◌==◌, List, [], ◌∷◌, if◌then◌else◌}
 use Rattle.requirement_lines.specs.Character.{Character}
 use Rattle.requirement_lines.specs.Ends.{begins_with}
@@ -14,17 +13,18 @@ use Rattle.requirement_lines.specs.declared.quoting.Step.TheVariants.{Pass, Begi
 abbrev pub parts_words : ℕ → Bool
 parts_words c = c == 32 || c == 9 || c == 10 || c == 13
 
--- in double quotes a backslash takes a character with which a text begins so
+-- in double quotes a backslash escapes the first character of such a text
 abbrev pub can_be_taken : List Character → Bool
 can_be_taken ps = begins_with 34 ps || begins_with 92 ps
 
--- what the next character stands in, after one that stands in no quotes
+-- the quotes around the next character, after one outside of quotes
 abbrev pub after_bare : ℕ → Quoting
 after_bare c =
     if parts_words c then Between else (if c == 39 then Single
     else (if c == 34 then Double else (if c == 92 then Escaped else Bare)))
 
--- what the next character stands in; `taken` says whether a backslash in double quotes takes it
+-- the quotes around the next character; `taken` says whether a backslash in double quotes escapes
+-- it
 abbrev pub next_quoting : Quoting → ℕ → Bool → Quoting
 next_quoting Between c taken = after_bare c
 next_quoting Bare c taken = after_bare c
@@ -46,7 +46,7 @@ step_at DoubleEscaped c = GoOn
 abbrev pub is_bare : ℕ → Bool
 is_bare c = not (parts_words c || c == 39 || c == 34 || c == 92)
 
--- the character is part of what a word spells
+-- the character belongs to the text of a word
 abbrev pub is_kept : Quoting → ℕ → Bool → Bool
 is_kept Between c taken = is_bare c
 is_kept Bare c taken = is_bare c
@@ -55,7 +55,7 @@ is_kept Single c taken = not (c == 39)
 is_kept Double c taken = not (c == 34 || c == 92 && taken)
 is_kept DoubleEscaped c taken = true
 
--- where the quotes or the backslash stand that the next character stands in
+-- where the quotes or the backslash around the next character are
 abbrev pub opened_at : Quoting → Place → Place → Place
 opened_at Between place opened = place
 opened_at Bare place opened = place
@@ -64,7 +64,7 @@ opened_at Single place opened = opened
 opened_at Double place opened = opened
 opened_at DoubleEscaped place opened = opened
 
--- a word: the place where it begins, with its quotes, and what it spells
+-- a word: the place at which it begins, with its quotes, and its characters without them
 pub record Spelled : Type 0 where
   pub place : Place
   pub characters : List Character
@@ -98,7 +98,7 @@ ended Single opened = unclosed opened
 ended Double opened = unclosed opened
 ended DoubleEscaped opened = unclosed opened
 
--- what a text is split into whose first character stands in this, which was opened there
+-- the words of a text whose first character is in these quotes, which were opened there
 abbrev pub split : Quoting → Place → List Character → Parted
 split quoting opened [] = ended quoting opened
 split quoting opened (p ∷ ps) =

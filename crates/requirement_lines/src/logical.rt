@@ -1,10 +1,10 @@
-//! Logical lines, one after another.
+//! Logical lines.
 
 ghost use Rattle.std.specs.Prelude.{◌≡◌, ◌≢◌, [], ◌∷◌, ◌<◌, length, true, IfOk, OnOk, IfSome, MatchOption};
 ghost use Rattle.pep508_text.specs.Suffix.{IsSuffix};
 ghost use Rattle.requirement_lines.specs.Character.{characters};
 ghost use Rattle.requirement_lines.specs.Pieces.{line_of};
-ghost use Rattle.requirement_lines.specs.Ends.{skip, skip_back};
+ghost use Rattle.requirement_lines.specs.Ends.{skip, skip_back, without_last};
 ghost use Rattle.requirement_lines.specs.Marks.{before, from_mark};
 ghost use Rattle.requirement_lines.specs.Logical as spec;
 ghost use Rattle.requirement_lines.specs.declared.sets.CharacterSet.TheVariants.{Space};
@@ -15,8 +15,8 @@ use crate::sets::{CharacterSet, Mark};
 use pep508_text::first;
 use std::alloc::{AllocError, Global};
 
-// What the first physical lines add to a logical line, and what follows them: the first line, and
-// each that the one before goes on in.
+// The parts of the physical lines of the first logical line, and the rest of the text. A logical
+// line is a physical line and each one in which the one before is continued.
 fn join<'a>(alloc: Global, text: &'a str) -> Result<(Vec<Piece<'a>>, &'a str), AllocError>
     ensures line { IfOk result (λ r. text.now ≢ [] → spec.logical_lines (characters text.now)
         ≡ spec.with_text (spec.trimmed (line_of r.0.items))
@@ -37,8 +37,8 @@ fn join<'a>(alloc: Global, text: &'a str) -> Result<(Vec<Piece<'a>>, &'a str), A
     Ok((parts, rest))
 }
 
-/// The part of the line before the first mark that counts: before the comment, or before the
-/// options. The whole line if there is none.
+/// Returns the part of the line before the first mark that counts: before the comment, or before
+/// the options. The whole line if there is none.
 pub fn cut_line<'a>(
     alloc: Global,
     pieces: &[Piece<'a>],
@@ -60,7 +60,7 @@ pub fn cut_line<'a>(
     Ok(kept)
 }
 
-/// The options of the line: what stands from the first `-` on that is at the front or after a space
+/// Returns the options of the line: from the first `-` on that is at the front or after a space
 /// (U+0020). Nothing if there is none.
 pub fn options_of<'a>(alloc: Global, line: &[Piece<'a>]) -> Result<Vec<Piece<'a>>, AllocError>
     ensures { IfOk result (λ v. line_of v.items ≡ from_mark Options true (line_of line.now)) }
@@ -114,7 +114,20 @@ fn skip_end(pieces: &mut Vec<Piece<'_>>) -> Result<(), AllocError>
     Ok(())
 }
 
-// The pieces without comment, and without white space at both ends.
+/// Removes the last character of a line, if it has one.
+pub fn drop_last(pieces: &mut Vec<Piece<'_>>) -> Result<(), AllocError>
+    ensures { OnOk result (line_of pieces.new.items ≡ without_last (line_of pieces.old.items)) }
+{
+    while let Some(last) = pieces.pop() {
+        if let Some((front, _)) = last.last() {
+            pieces.push(front)?;
+            return Ok(());
+        }
+    }
+    Ok(())
+}
+
+// The pieces without the comment, and without white space at both ends.
 fn trim<'a>(alloc: Global, pieces: &[Piece<'a>]) -> Result<Vec<Piece<'a>>, AllocError>
     ensures line { IfOk result (λ v. line_of v.items ≡ spec.trimmed (line_of pieces.now)) }
     ensures some { IfOk result (λ v. v.items ≢ [] → line_of v.items ≢ []) }
@@ -125,8 +138,8 @@ fn trim<'a>(alloc: Global, pieces: &[Piece<'a>]) -> Result<Vec<Piece<'a>>, Alloc
     Ok(line)
 }
 
-/// The first logical line of the text, in pieces, and what follows it: its logical lines are the
-/// others. `None` if the text has no logical line.
+/// Returns the first logical line of the text, in pieces, and the rest of the text, which has the
+/// other logical lines. `None` if the text has no logical line.
 ///
 /// A line has at least one character, and neither begins nor ends with white space.
 pub fn next_line<'a>(
@@ -152,7 +165,7 @@ pub fn next_line<'a>(
     Ok(None)
 }
 
-/// The text of a file without the byte order mark at its front, if there is one.
+/// Returns the text of a file without its byte order mark, if there is one.
 pub fn without_mark(text: &str) -> &str
     ensures characters { characters result.now ≡ spec.without_mark (characters text.now) }
     ensures suffix { IsSuffix text.now result.now }

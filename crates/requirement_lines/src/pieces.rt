@@ -24,7 +24,7 @@ pub struct Piece<'a> {
     pub place: Place,
 }
 
-// The text, which its characters spell.
+// The text as the encoding of its characters.
 fn text_itself(text: &str) -> &str
     ensures spelled { result.now ≡ encode_utf8_all (chars text.now) }
     ensures same { result.now ≡ text.now }
@@ -32,7 +32,7 @@ fn text_itself(text: &str) -> &str
     text
 }
 
-// What stands before this end of the text.
+// The text before this end of it.
 fn before_end<'a>(text: &'a str, rest: &str) -> &'a str
     requires { IsSuffix text.now rest.now }
     ensures { text.now ≡ result.now ++ rest.now }
@@ -41,7 +41,7 @@ fn before_end<'a>(text: &'a str, rest: &str) -> &'a str
 }
 
 impl<'a> Piece<'a> {
-    /// The whole text of a file, as one piece.
+    /// Returns the whole text of a file as one piece.
     pub fn whole(text: &'a str) -> Piece<'a>
         ensures characters { characters_of result ≡ characters text.now }
         ensures text { result.text.now ≡ text.now }
@@ -78,7 +78,7 @@ impl<'a> Piece<'a> {
         self.first().is_none()
     }
 
-    // The first character, and what follows it.
+    // The first character, and the rest.
     pub(crate) fn first(self) -> Option<(char, Piece<'a>)>
         ensures characters { MatchOption result (characters_of self.entry ≡ [])
             (λ x. characters_of self.entry
@@ -95,8 +95,8 @@ impl<'a> Piece<'a> {
         Some((c, piece))
     }
 
-    // The last character, and what stands before it.
-    fn last(self) -> Option<(Piece<'a>, char)>
+    // The piece before the last character, and that character.
+    pub(crate) fn last(self) -> Option<(Piece<'a>, char)>
         ensures characters { MatchOption result (characters_of self.entry ≡ [])
             (λ x. (place : Place) × (characters_of self.entry
             ≡ characters_of x.0 ++ (record { char = x.1; place = place } ∷ []))) }
@@ -113,7 +113,7 @@ impl<'a> Piece<'a> {
         Some((piece, c))
     }
 
-    // What stands before this end of the piece.
+    // The piece before this end of it.
     pub(crate) fn front(self, rest: Piece<'a>) -> Piece<'a>
         requires { IsEnd self rest }
         ensures parts { characters_of self.entry
@@ -126,7 +126,7 @@ impl<'a> Piece<'a> {
         }
     }
 
-    // What follows the characters of the set at the front.
+    // The piece without characters of the set at the front.
     pub(crate) fn skip(self, set: CharacterSet) -> Piece<'a>
         ensures { characters_of result ≡ ends.skip set (characters_of self.entry) }
     {
@@ -140,7 +140,7 @@ impl<'a> Piece<'a> {
         rest
     }
 
-    // What stands before the characters of the set at the back.
+    // The piece without characters of the set at the back.
     pub(crate) fn skip_back(self, set: CharacterSet) -> Piece<'a>
         ensures { characters_of result ≡ ends.skip_back set (characters_of self.entry) }
     {
@@ -154,8 +154,8 @@ impl<'a> Piece<'a> {
         front
     }
 
-    // What stands before the first mark that counts, and whether one counts after that: `None`
-    // where one was found.
+    // The piece before the first mark that counts, and whether one counts after that; `None` if one
+    // was found.
     pub(crate) fn cut(self, mark: Mark, may: bool) -> (Piece<'a>, Option<bool>)
         ensures front { characters_of result.0 ≡ marks.before mark may (characters_of self.entry) }
         ensures follow { result.1 ≡ marks.may_follow mark may (characters_of self.entry) }
@@ -172,7 +172,7 @@ impl<'a> Piece<'a> {
         (self, Some(now))
     }
 
-    // What stands from the first mark that counts on.
+    // The piece from the first mark that counts on.
     pub(crate) fn from_mark(self, mark: Mark, may: bool) -> Piece<'a>
         ensures { characters_of result ≡ marks.from_mark mark may (characters_of self.entry) }
     {
@@ -232,7 +232,7 @@ impl<'a> Piece<'a> {
         }
     }
 
-    // What the line adds to a logical line.
+    // The part of a physical line in its logical line.
     pub(crate) fn part(self) -> Piece<'a>
         ensures { characters_of result ≡ logical.part_of (characters_of self.entry) }
     {
@@ -247,7 +247,7 @@ impl<'a> Piece<'a> {
     }
 }
 
-// What follows a break that begins with this character.
+// The text after a line break that begins with this character.
 fn after_break(c: char, after: Piece<'_>) -> Piece<'_>
     ensures end { IsEnd after.entry result }
     ensures no_longer { length result.text.now ≤ length after.entry.text.now }
@@ -264,7 +264,7 @@ fn after_break(c: char, after: Piece<'_>) -> Piece<'_>
     }
 }
 
-/// The first physical line of the text, without its break, and what follows the break.
+/// Returns the first physical line of the text, without its line break, and the text after that.
 pub fn split_line(text: &str) -> (Piece<'_>, &str)
     ensures lines { text.now ≢ [] → physical.physical_lines (characters text.now)
         ≡ characters_of result.0 ∷ physical.physical_lines (characters result.1.now) }

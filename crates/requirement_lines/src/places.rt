@@ -5,9 +5,9 @@ ghost use Rattle.std.specs.Prelude.{◌≡◌};
 /// Where the characters of a line come from.
 #[derive(Clone, Copy, Debug, PartialEq, Eq)]
 pub enum Source {
-    /// They stand in the file.
+    /// From the text of the file.
     File,
-    /// They are the value of a variable that stands in the file.
+    /// From the value of a variable in the file.
     Variable,
 }
 
@@ -16,15 +16,15 @@ pub enum Source {
 pub struct Place {
     /// The number of bytes from here to the end of the file.
     pub to_end: usize,
-    /// Where the character at this place comes from. Those of a variable's value are all at the
-    /// place of the variable.
+    /// Where the character at this place comes from. The characters of a variable's value are all
+    /// at the place of the variable.
     pub source: Source,
 }
 
 impl Place {
     ghost use Rattle.requirement_lines.specs.Character.{after};
 
-    // The place so many bytes further on: the same one within the value of a variable.
+    // The place `size` bytes later; within the value of a variable it is the same one.
     pub(crate) fn after(self, size: usize) -> Place
         ensures { result ≡ after self size }
     {

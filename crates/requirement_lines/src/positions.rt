@@ -1,4 +1,4 @@
-//! Lines and columns of places, as people see them.
+//! Lines and columns of places, for people.
 
 ghost use Rattle.std.specs.Prelude.{◌≡◌, ◌<◌, ◌≤◌, ◌+◌, ◌^◌, ℕ, List, length};
 ghost use Rattle.pep508_text.specs.Suffix.{IsSuffix};
@@ -26,7 +26,7 @@ fn first_position() -> Position
     Position { line: 1, column: 1 }
 }
 
-// The position after this character, which the rest of the file follows.
+// The position after this character, which is followed by the rest of the file.
 fn next_position(here: Position, c: char, rest: Piece<'_>) -> Position
     requires line { here.line + 1 < 2 ^ 64 }
     requires column { here.column + 1 < 2 ^ 64 }
@@ -45,7 +45,7 @@ fn next_position(here: Position, c: char, rest: Piece<'_>) -> Position
     }
 }
 
-// The position of a place in what is left of a file, and what is left from there on.
+// The position of a place in the rest of a file, and the text from there on.
 fn advance(here: Position, rest: &str, to_end: usize) -> (Position, &str)
     requires line { here.line + length rest.now < 2 ^ 64 }
     requires column { here.column + length rest.now < 2 ^ 64 }
@@ -69,8 +69,8 @@ fn advance(here: Position, rest: &str, to_end: usize) -> (Position, &str)
     (position, left.text)
 }
 
-// Where to begin for a place: at the last position, or at the front of the file for a place before
-// it.
+// Where to begin for a place: at the last position, or at the front of the file if the place is
+// before it.
 fn start<'a>(file: &'a str, rest: &'a str, last: Position, to_end: usize) -> (Position, &'a str)
     requires { spec.StandsAt file.now rest.now last }
     ensures stands { spec.StandsAt file.now result.1.now result.0 }
@@ -84,8 +84,8 @@ fn start<'a>(file: &'a str, rest: &'a str, last: Position, to_end: usize) -> (Po
     }
 }
 
-/// Finds the positions of places of a file. Going forward takes one pass over the file in all;
-/// a place before the last one that was asked for starts a new pass.
+/// Finds the positions of places of a file. Going forward takes one pass over the file; a place
+/// before the last one starts a new pass.
 #[derive(Debug, Drop)]
 pub struct Positions<'a> {
     file: &'a str,
@@ -105,7 +105,7 @@ impl<'a> Model for Positions<'a> {
 }
 
 impl<'a> Positions<'a> {
-    /// The positions of the places of a file, which is given with its byte order mark.
+    /// Returns the positions of a file, which is given with its byte order mark.
     pub fn new(file: &'a str) -> Positions<'a>
         ensures { result ≡ file.now }
     {
@@ -116,7 +116,7 @@ impl<'a> Positions<'a> {
         }
     }
 
-    /// The position of the place from which so many bytes are left to the end of the file.
+    /// Returns the position of the place with `to_end` bytes from it to the end of the file.
     pub fn position_of(&mut self, to_end: usize) -> Position
         ensures position { result ≡ spec.position_in self.old to_end }
         ensures same { self.new ≡ self.old }

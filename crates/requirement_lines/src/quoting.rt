@@ -1,35 +1,35 @@
-//! What a character of a text does that is split into words, by the quotes it stands in.
+//! How a text is split into words: what each character does, depending on the quotes around it.
 
 ghost use Rattle.std.specs.Prelude.{◌≡◌};
 ghost use Rattle.requirement_lines.specs.Words as spec;
 
 use crate::places::Place;
 
-// What a character of a text stands in.
+// The quotes around a character.
 #[derive(Clone, Copy, Debug, PartialEq, Eq)]
 pub(crate) enum Quoting {
-    // It stands between words.
+    // None: the character is between words.
     Between,
-    // It stands in a word, in no quotes.
+    // None: the character is in a word.
     Bare,
-    // It follows a backslash in no quotes.
+    // A backslash before the character, outside of quotes.
     Escaped,
-    // It stands in single quotes.
+    // Single quotes.
     Single,
-    // It stands in double quotes.
+    // Double quotes.
     Double,
-    // It follows a backslash in double quotes, which takes it.
+    // A backslash before the character, in double quotes, that escapes it.
     DoubleEscaped,
 }
 
 // What a character does to the words.
 #[derive(Clone, Copy, Debug, PartialEq, Eq)]
 pub(crate) enum Step {
-    // Nothing: it stands between them.
+    // Nothing: it is between them.
     Pass,
     // A word begins with it.
     Begin,
-    // A word goes on with it.
+    // It is part of the current word.
     GoOn,
     // A word ends before it.
     End,
@@ -63,7 +63,7 @@ fn is_bare(c: char) -> bool
     !(parts_words(c) || c == '\'' || c == '"' || c == '\\')
 }
 
-// What the next character stands in.
+// The quotes around the next character.
 pub(crate) fn next_quoting(quoting: Quoting, c: char, taken: bool) -> Quoting
     ensures { result ≡ spec.next_quoting quoting c taken }
 {
@@ -103,7 +103,7 @@ pub(crate) fn step_at(quoting: Quoting, c: char) -> Step
     }
 }
 
-// Whether a character is part of what a word spells.
+// Whether a character is part of the text of a word.
 pub(crate) fn is_kept(quoting: Quoting, c: char, taken: bool) -> bool
     ensures { result ≡ spec.is_kept quoting c taken }
 {
@@ -117,7 +117,7 @@ pub(crate) fn is_kept(quoting: Quoting, c: char, taken: bool) -> bool
     }
 }
 
-// Where the quotes or the backslash stand that the next character stands in.
+// Where the quotes or the backslash around the next character are.
 pub(crate) fn opened_at(quoting: Quoting, place: Place, opened: Place) -> Place
     ensures { result ≡ spec.opened_at quoting place opened }
 {

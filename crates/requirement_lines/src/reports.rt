@@ -1,4 +1,4 @@
-//! What is found in the requirements of a file.
+//! Findings in the requirements of a file.
 
 ghost use Rattle.std.specs.Prelude.{◌≡◌, ◌≢◌, [], ◌∷◌, ◌++◌, ℕ, List, IfOk, IfNone, map, string_bytes};
 ghost use Rattle.std.specs.Option.{option_map};
@@ -15,29 +15,30 @@ use crate::variables::replace_variables;
 use std::alloc::{AllocError, Global};
 use std::collections::BTreeMap;
 
-/// Says what is found in the text of a requirement.
+/// Checks the texts of requirements.
 pub trait Judge {
-    /// Something that is found, as a fault or a warning.
+    /// A finding, such as an error or a warning.
     type Finding: Drop;
 
-    /// In the first state these are the findings of the text, and the last state comes of it.
+    /// In the first state these are the findings of the text, and the last state results.
     ghost finds: { Self → List ℕ → List Self.Finding → Self → Type 0 };
 
-    /// What is found in the text.
+    /// Returns the findings of the text.
     fn judge(&mut self, alloc: Global, text: &str) -> Result<Vec<Self::Finding>, AllocError>
         ensures { IfOk result (λ findings. finds self.old text.now findings.items self.new) };
 }
 
-/// A requirement of a file, and what is found in it.
+/// A requirement of a file, with its findings.
 #[derive(Debug, Drop)]
 pub struct LineReport<'a, F: Drop> {
     /// The requirement, in pieces.
     pub requirement: Vec<Piece<'a>>,
-    /// What is found in it.
+    /// The findings in it.
     pub findings: Vec<F>,
 }
 
-/// The place of this byte of the line's text. After the last byte it is where the line ends.
+/// Returns the place of this byte of the line's text. After the last byte that is where the line
+/// ends.
 pub fn place_at(pieces: &[Piece<'_>], at: usize) -> Place
     ensures { result
         ≡ spec.place_at (record { to_end = 0; source = File }) (line_of pieces.now) at }
@@ -61,7 +62,7 @@ pub fn place_at(pieces: &[Piece<'_>], at: usize) -> Place
     end
 }
 
-/// The text of the line.
+/// Returns the text of the line.
 pub fn text_of(alloc: Global, pieces: &[Piece<'_>]) -> Result<String, AllocError>
     ensures { IfOk result (λ text. string_bytes text ≡ spec.text_of (line_of pieces.now)) }
 {
@@ -73,8 +74,8 @@ pub fn text_of(alloc: Global, pieces: &[Piece<'_>]) -> Result<String, AllocError
     Ok(text)
 }
 
-/// What is found in the requirement of a line whose variables are replaced: what stands before its
-/// options. `None` if the line has options alone.
+/// Returns the findings of the requirement of a line, whose variables are already replaced: of the
+/// text before its options. `None` if the line has only options.
 pub fn check_line<'a, J: Judge>(
     alloc: Global,
     line: &[Piece<'a>],
@@ -97,8 +98,8 @@ pub fn check_line<'a, J: Judge>(
     }))
 }
 
-/// What is found in each requirement of a file, in their order, with the values of a table in
-/// place of variables ([`replace_variables`]).
+/// Returns the findings of each requirement of a file, in their order, with the values of a table
+/// in place of variables ([`replace_variables`]).
 pub fn check_text<'a, J: Judge>(
     alloc: Global,
     text: &'a str,

@@ -1,4 +1,4 @@
-//! Sets of characters that the reader of lines knows.
+//! Sets of characters for reading lines.
 
 ghost use Rattle.std.specs.Prelude.{◌≡◌, ◌&&◌};
 ghost use Rattle.requirement_lines.specs.Physical.{is_break};
@@ -48,7 +48,7 @@ impl Mark {
         }
     }
 
-    // Whether the character is this mark, where one may stand.
+    // Whether the character is this mark, if a mark may be here.
     pub(crate) fn counts(self, may: bool, c: char) -> bool
         ensures { result ≡ (may && is_mark self c) }
     {
@@ -66,7 +66,7 @@ impl Mark {
     }
 }
 
-/// Whether the character ends a line.
+/// Returns whether the character ends a line.
 pub fn is_break(c: char) -> bool
     ensures { result ≡ is_break c }
 {

@@ -10,7 +10,7 @@ ghost use Rattle.requirement_lines.specs.declared.places.Source.TheVariants.{Fil
 use crate::pieces::Piece;
 use crate::places::{Place, Source};
 use crate::quoting::{Quoting, Step, is_kept, next_quoting, opened_at, step_at};
-use crate::variables::{Rest, next_character};
+use crate::rest::{Rest, next_character};
 use std::alloc::{AllocError, Global};
 use std::mem;
 
@@ -19,7 +19,7 @@ use std::mem;
 pub struct Word<'a> {
     /// Where the word begins, with its quotes.
     pub place: Place,
-    /// What it spells, without them.
+    /// Its text, without the quotes.
     pub pieces: Vec<Piece<'a>>,
 }
 
@@ -28,12 +28,11 @@ pub struct Word<'a> {
 pub enum Words<'a> {
     /// All of them.
     All(Vec<Word<'a>>),
-    /// There are none, since quotes that begin at this place do not end, or a backslash there has
-    /// nothing after it.
+    /// None: quotes that begin at this place do not end, or a backslash there has nothing after it.
     Unclosed(Place),
 }
 
-// What was read of a line that is split into words: whole words, and the front of one that goes on.
+// The state of splitting a line into words: complete words, and the beginning of the current one.
 #[derive(Debug, Drop)]
 pub(crate) struct Reading<'a> {
     pub(crate) words: Vec<Word<'a>>,
@@ -49,7 +48,7 @@ impl<'a> Reading<'a> {
     ghost use Rattle.requirement_lines.specs.Words as spec;
     ghost use Rattle.requirement_lines.specs.Reading as state;
 
-    // Nothing was read.
+    // The state before the first character.
     fn new(alloc: Global, place: Place) -> Reading<'a>
         ensures words { result.words.items ≡ [] }
         ensures inside { result.inside ≡ false }
@@ -62,7 +61,7 @@ impl<'a> Reading<'a> {
         }
     }
 
-    // Ends the word that goes on.
+    // Ends the current word.
     fn end_word(&mut self, alloc: Global) -> Result<(), AllocError>
         ensures words { OnOk result (map state.spelled_of self.new.words.items
             ≡ map state.spelled_of self.old.words.items
@@ -79,7 +78,7 @@ impl<'a> Reading<'a> {
         Ok(())
     }
 
-    // Appends the character to the word that goes on, if it is kept.
+    // Appends the character to the current word, if it is kept.
     fn keep(&mut self, kept: bool, c: char, character: Piece<'a>) -> Result<(), AllocError>
         requires { characters_of character ≡ record { char = c; place = character.place } ∷ [] }
         ensures pieces { OnOk result (line_of self.new.pieces.items
@@ -107,7 +106,7 @@ impl<'a> Reading<'a> {
         self.place = place;
     }
 
-    // Goes on with a character, which is a piece by itself.
+    // Processes a character, which is a piece by itself.
     fn take(
         &mut self,
         alloc: Global,
@@ -157,7 +156,7 @@ impl<'a> Reading<'a> {
     }
 }
 
-// Whether a backslash in double quotes takes the first character of what is left of the line.
+// Whether a backslash in double quotes escapes the first character of the rest.
 fn can_be_taken<'a>(line: &[Piece<'a>], rest: Rest<'a>) -> bool
     ensures { result ≡ spec.can_be_taken (rest_of line.now rest.entry) }
 {
@@ -167,9 +166,9 @@ fn can_be_taken<'a>(line: &[Piece<'a>], rest: Rest<'a>) -> bool
     }
 }
 
-/// The words of a line, by the rules of a POSIX shell as Python's `shlex` has them: white space
-/// parts words, what stands in quotes may hold any, and a backslash takes the next character as it
-/// is, in double quotes only a double quote or a backslash.
+/// Splits a line into words by the rules of a POSIX shell, like Python's `shlex`. White space
+/// separates words, except in quotes. A backslash escapes the next character; in double quotes only
+/// a double quote or a backslash.
 pub fn split_words<'a>(alloc: Global, line: &[Piece<'a>]) -> Result<Words<'a>, AllocError>
     ensures { IfOk result (λ words. state.split_of words
         ≡ spec.words_of (record { to_end = 0; source = File }) (line_of line.now)) }

@@ -8,45 +8,9 @@ ghost use Rattle.requirement_lines.specs.declared.places.Place.{Place};
 
 use crate::pieces::Piece;
 use crate::places::{Place, Source};
+use crate::rest::{Rest, next_character};
 use std::alloc::{AllocError, Global};
 use std::collections::BTreeMap;
-
-// What is left of a line: a piece, and the pieces of the line from an index on.
-#[derive(Clone, Copy, Debug)]
-pub(crate) struct Rest<'a> {
-    pub(crate) piece: Piece<'a>,
-    pub(crate) next: usize,
-}
-
-// The first character of what is left of the line, also as a piece by itself, and what follows it.
-pub(crate) fn next_character<'a>(
-    line: &[Piece<'a>],
-    rest: Rest<'a>,
-) -> Option<(char, Piece<'a>, Rest<'a>)>
-    ensures { MatchOption result (rest_of line.now rest.entry ≡ [])
-        (λ x. (rest_of line.now rest.entry
-        ≡ record { char = x.0; place = x.1.place } ∷ rest_of line.now x.2)
-        × (characters_of x.1 ≡ record { char = x.0; place = x.1.place } ∷ [])) }
-{
-    if let Some((c, piece)) = rest.piece.first() {
-        let after = Rest {
-            piece,
-            next: rest.next,
-        };
-        return Some((c, rest.piece.front(piece), after));
-    }
-    for index in rest.next..line.len() {
-        let whole = line[index];
-        if let Some((c, piece)) = whole.first() {
-            let after = Rest {
-                piece,
-                next: index + 1,
-            };
-            return Some((c, whole.front(piece), after));
-        }
-    }
-    None
-}
 
 fn is_name_character(c: char) -> bool
     ensures { result ≡ spec.is_name_character c }
@@ -91,7 +55,8 @@ fn value_of<'a>(variables: &'a BTreeMap<String, String>, name: &str) -> Option<&
     Some(value)
 }
 
-// The value of the variable that begins with this character of a line, which the rest follows.
+// The value of the variable that begins with this character, which is followed by the rest of the
+// line.
 fn value_after<'a>(
     alloc: Global,
     c: char,
@@ -116,7 +81,7 @@ fn value_after<'a>(
     }
 }
 
-// The value of a variable that stands at a place.
+// The value of the variable at a place.
 fn value_piece(text: &str, place: Place) -> Piece<'_>
     ensures { characters_of result ≡ spec.value_characters place text.now }
 {
@@ -129,8 +94,8 @@ fn value_piece(text: &str, place: Place) -> Piece<'_>
     }
 }
 
-// Appends the piece with values in place of its variables. The piece begins within a variable that
-// was replaced already where `inside` says so; the result says whether what follows it does.
+// Appends the piece with the values of its variables. `inside` says that the piece begins within a
+// variable that was already replaced; the result says the same of what follows.
 fn replace_piece<'a>(
     alloc: Global,
     kept: &mut Vec<Piece<'a>>,
@@ -164,12 +129,12 @@ fn replace_piece<'a>(
     Ok(within)
 }
 
-/// The line with values in place of its variables, as pip replaces them. A variable is `${NAME}`,
-/// where the name is one or more of `A` to `Z`, `0` to `9` and `_`; one that the table does not
-/// have, or has with the empty text, is left as it is. What was put in is not looked at again, and
+/// Returns the line with the values of its variables, as pip replaces them. A variable is
+/// `${NAME}`, where the name is one or more of `A` to `Z`, `0` to `9` and `_`. One that the table
+/// does not have, or has with the empty text, is left as it is. A value is not expanded again, and
 /// has the place of its variable.
 ///
-/// Call it before the line's options are cut off: a value may hold options.
+/// Call this before the line's options are split off: a value may contain options.
 pub fn replace_variables<'a>(
     alloc: Global,
     line: &[Piece<'a>],

@@ -1,0 +1,3 @@
+mod FoldedLaws
+mod NameLaws
+mod HeaderLaws

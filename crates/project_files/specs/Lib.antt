@@ -1,0 +1,11 @@
+pub mod Entries
+pub mod Tables
+pub mod Found
+pub mod Groups
+pub mod Firsts
+pub mod Links
+pub mod Faults
+pub mod Expansion
+pub mod Steps
+pub mod Reading
+pub mod Judging

@@ -1,0 +1,3 @@
+mod ReadingLaws
+mod LineLaws
+mod SpecifierLaws

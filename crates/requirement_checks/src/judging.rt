@@ -1,0 +1,67 @@
+//! Checking the requirement of a line by the library's parsers.
+
+ghost use Rattle.std.specs.Prelude.{IfOk, IfSome};
+ghost use Rattle.requirement_checks.specs.Findings.{names_told, AddsNames, HoldsMarker};
+ghost use Rattle.requirement_checks.specs.Reading.{ReadsWithin};
+
+use crate::messages::{add_findings, add_too_complex};
+use crate::part::Page;
+use crate::reading::{Form, Reading, read_named, read_requirement, read_unnamed};
+use marker_graph::Interner;
+use pep508_errors::Surroundings;
+use pep508_urls::UnnamedRequirementUrl;
+use requirement_findings::Finding;
+use std::alloc::AllocError;
+
+// Parses the text. `None` if the interner has no room for its marker.
+fn read_within<T: UnnamedRequirementUrl>(
+    text: &str,
+    form: Form,
+    surroundings: &Surroundings<'_>,
+    interner: &mut Interner,
+) -> Result<Option<Reading<T>>, AllocError>
+    ensures held { IfOk result (λ read. IfSome read (HoldsMarker interner.new)) }
+    ensures read { IfOk result (ReadsWithin T.names T.tells_size T.may_overflow T.given_text
+        surroundings.now form interner.new text.now) }
+{
+    let read = match form {
+        Form::Any => read_requirement(text, surroundings, interner),
+        Form::Named => read_named(text, surroundings, interner),
+        Form::Unnamed => read_unnamed(text, surroundings, interner),
+    };
+    match read {
+        Ok(reading) => Ok(Some(reading)),
+        Err(_) if interner.has_met_room() => Ok(None),
+        Err(error) => Err(error),
+    }
+}
+
+// Checks the text of a requirement by the library's parsers, and appends the findings: each warning
+// of its marker, or its error. `None` if the interner has no room for the marker, which is then the
+// finding.
+pub(crate) fn judge<T: UnnamedRequirementUrl>(
+    page: &Page<'_, '_>,
+    text: &str,
+    form: Form,
+    surroundings: &Surroundings<'_>,
+    interner: &mut Interner,
+    findings: &mut Vec<Finding>,
+) -> Result<Option<Reading<T>>, AllocError>
+    ensures held { IfOk result (λ read. IfSome read (HoldsMarker interner.new)) }
+    ensures read { IfOk result (ReadsWithin T.names T.tells_size T.may_overflow T.given_text
+        surroundings.now form interner.new text.now) }
+    ensures told { IfOk result
+        (λ read. AddsNames (names_told read) findings.old.items findings.new.items) }
+{
+    let alloc = interner.allocator();
+    match read_within(text, form, surroundings, interner)? {
+        Some(reading) => {
+            add_findings(alloc, page, &reading, findings)?;
+            Ok(Some(reading))
+        }
+        None => {
+            add_too_complex(alloc, page.marker(text), findings)?;
+            Ok(None)
+        }
+    }
+}

@@ -1,0 +1,234 @@
+//! Requirements of one name, whose markers may be true together.
+
+use marker_graph::{Interner, MarkerTree};
+use pep508_errors::Surroundings;
+use pep508_requirements::Requirement;
+use pep508_urls::VerbatimUrl;
+use refusal::Refusal;
+use std::alloc::{AllocError, Global};
+use std::collections::BTreeMap;
+
+// After so many requirements of a name, the earlier ones are not distinguished.
+const NAMED: usize = 64;
+
+// An earlier requirement.
+#[derive(Debug, Drop)]
+struct Member {
+    // The number of its line.
+    number: usize,
+    // Its text in normal form, without its marker.
+    text: String,
+    marker: MarkerTree,
+}
+
+// Several requirements of a name.
+#[derive(Debug, Drop)]
+struct Members {
+    // The first of them.
+    first: Vec<Member>,
+    // The disjunction of all their markers.
+    any: MarkerTree,
+}
+
+// The requirements of a name.
+#[derive(Debug, Drop)]
+enum Group {
+    // One: the number of its line, and its text. It is read again when another one comes.
+    One(usize, String),
+    Several(Members),
+}
+
+// A requirement whose marker may be true together with that of an earlier one.
+#[derive(Clone, Copy, Debug)]
+pub(crate) struct Repeat {
+    // The number of the earlier one's line, unless there were too many.
+    pub(crate) earlier: Option<usize>,
+}
+
+// What is remembered of the requirements so far.
+#[derive(Drop)]
+pub(crate) struct Earlier {
+    interner: Interner,
+    groups: BTreeMap<String, Group>,
+    // How many visits of pairs of nodes two markers may take.
+    looks: usize,
+}
+
+// Whether the markers may be true together, as far as so many visits show.
+fn may_meet(interner: &Interner, a: MarkerTree, b: MarkerTree, looks: usize) -> bool {
+    interner.holds(&a)
+        && interner.holds(&b)
+        && a.is_disjoint_within(interner, b, looks) == Some(false)
+}
+
+// The text of a requirement in normal form, without its marker.
+fn bare_text(
+    mut requirement: Requirement<VerbatimUrl>,
+    interner: &Interner,
+) -> Result<String, AllocError> {
+    requirement.marker = MarkerTree::TRUE;
+    requirement.try_to_string(interner)
+}
+
+// The requirement of this text, if the interner has room for its marker.
+fn member_of(
+    interner: &mut Interner,
+    surroundings: &Surroundings<'_>,
+    number: usize,
+    text: &str,
+) -> Result<Option<Member>, AllocError> {
+    match Requirement::<VerbatimUrl>::parse(text, surroundings, interner) {
+        Ok(requirement) => {
+            let marker = requirement.marker;
+            let text = bare_text(requirement, interner)?;
+            Ok(Some(Member {
+                number,
+                text,
+                marker,
+            }))
+        }
+        Err(Refusal::OutOfMemory) if !interner.has_met_room() => Err(AllocError),
+        Err(_) => Ok(None),
+    }
+}
+
+// Makes a marker true where the other is too, if the interner has room for that.
+fn widen(
+    interner: &mut Interner,
+    any: &mut MarkerTree,
+    other: MarkerTree,
+) -> Result<(), AllocError> {
+    if !interner.holds(any) || !interner.holds(&other) {
+        return Ok(());
+    }
+    match any.or(interner, other) {
+        Err(error) if !interner.has_met_room() => Err(error),
+        _ => Ok(()),
+    }
+}
+
+impl Member {
+    fn is_same(&self, other: &Member) -> bool {
+        self.marker == other.marker && self.text.as_str() == other.text.as_str()
+    }
+}
+
+impl Members {
+    fn new(alloc: Global) -> Members {
+        Members {
+            first: Vec::new(alloc),
+            any: MarkerTree::FALSE,
+        }
+    }
+
+    // The earlier requirement that a new one may hold together with; not one that is the same.
+    fn repeat_of(&self, interner: &Interner, looks: usize, new: &Member) -> Option<Repeat> {
+        if !may_meet(interner, self.any, new.marker, looks) {
+            return None;
+        }
+        for index in 0..self.first.len() {
+            let member = &self.first[index];
+            if !member.is_same(new) && may_meet(interner, member.marker, new.marker, looks) {
+                return Some(Repeat {
+                    earlier: Some(member.number),
+                });
+            }
+        }
+        if self.first.len() < NAMED {
+            None
+        } else {
+            Some(Repeat { earlier: None })
+        }
+    }
+
+    // Remembers a requirement.
+    fn keep(&mut self, interner: &mut Interner, new: Member) -> Result<(), AllocError> {
+        widen(interner, &mut self.any, new.marker)?;
+        if self.first.len() < NAMED {
+            self.first.push(new)?;
+        }
+        Ok(())
+    }
+}
+
+// The requirements of a name, each read, if the interner has room for their markers.
+fn members_of(
+    alloc: Global,
+    interner: &mut Interner,
+    surroundings: &Surroundings<'_>,
+    group: Group,
+) -> Result<Option<Members>, AllocError> {
+    match group {
+        Group::Several(members) => Ok(Some(members)),
+        Group::One(number, text) => {
+            let Some(one) = member_of(interner, surroundings, number, text.as_str())? else {
+                return Ok(None);
+            };
+            let mut members = Members::new(alloc);
+            members.keep(interner, one)?;
+            Ok(Some(members))
+        }
+    }
+}
+
+impl Earlier {
+    // Returns no requirements. `room` is how many pieces the nodes of all markers may have.
+    pub(crate) fn new(alloc: Global, key: [u64; 2], room: usize) -> Earlier {
+        Earlier {
+            interner: Interner::with_key_and_room(alloc, key, room),
+            groups: BTreeMap::new(alloc),
+            looks: room,
+        }
+    }
+
+    // Keeps a requirement with this name and text. Tells whether it may hold together with an
+    // earlier one: never, once there was no room for the marker of one.
+    pub(crate) fn meet(
+        &mut self,
+        alloc: Global,
+        surroundings: &Surroundings<'_>,
+        name: &str,
+        text: &str,
+        number: usize,
+    ) -> Result<Option<Repeat>, AllocError> {
+        if self.interner.has_met_room() {
+            return Ok(None);
+        }
+        let key = String::from_str(alloc, name)?;
+        let Some(group) = self.groups.remove(name) else {
+            let one = Group::One(number, String::from_str(alloc, text)?);
+            self.groups.insert(key, one)?;
+            return Ok(None);
+        };
+        match self.join(alloc, surroundings, group, number, text)? {
+            Some((members, repeat)) => {
+                self.groups.insert(key, Group::Several(members))?;
+                Ok(repeat)
+            }
+            None => Ok(None),
+        }
+    }
+
+    // The requirements of a name and a further one, and whether that may hold together with one of
+    // the others. `None` if there is no room for the markers.
+    fn join(
+        &mut self,
+        alloc: Global,
+        surroundings: &Surroundings<'_>,
+        group: Group,
+        number: usize,
+        text: &str,
+    ) -> Result<Option<(Members, Option<Repeat>)>, AllocError> {
+        let looks = self.looks;
+        let interner = &mut self.interner;
+        let Some(mut members) = members_of(alloc, interner, surroundings, group)? else {
+            return Ok(None);
+        };
+        let Some(new) = member_of(interner, surroundings, number, text)? else {
+            return Ok(None);
+        };
+        let repeat = members.repeat_of(interner, looks, &new);
+        members.keep(interner, new)?;
+        Ok(Some((members, repeat)))
+    }
+}

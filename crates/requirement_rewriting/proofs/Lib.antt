@@ -1,0 +1,2 @@
+pub mod ApplyingLaws
+pub mod FindingLaws
