@@ -1,0 +1,3 @@
+pub mod Reporting
+pub mod Status
+pub mod Kinds

@@ -1,0 +1,238 @@
+//! The command line.
+
+use crate::kinds::FileKind;
+use crate::notices::Format;
+use clap::{Arg, ArgAction, ArgMatches, Command, value_parser};
+use std::alloc::{AllocError, Global};
+
+/// The names of the warnings that `--ignore` accepts: those of requirements, and two of files.
+pub const WARNINGS: [&str; 19] = [
+    "deprecated-marker-name",
+    "invalid-extra-comparison",
+    "lexicographic-comparison",
+    "marker-marker-comparison",
+    "invalid-version-comparison",
+    "string-string-comparison",
+    "control-character",
+    "marker-in-url",
+    "version-list",
+    "version-as-text",
+    "never-true",
+    "always-true",
+    "repeated-requirement",
+    "three-numbers",
+    "unprovided-extra",
+    "repeated-extra",
+    "url-requirement",
+    "declared-encoding",
+    "not-fetched",
+];
+
+/// When output has colors.
+#[derive(Clone, Copy, Debug, PartialEq, Eq)]
+pub enum Coloring {
+    /// On a terminal, unless `NO_COLOR` is set.
+    Auto,
+    Always,
+    Never,
+}
+
+/// A command of the program.
+#[derive(Clone, Copy, Debug, PartialEq, Eq)]
+pub enum Task {
+    Check,
+    List,
+}
+
+/// What the program is to do.
+#[derive(Clone, Copy, Debug)]
+pub struct Request<'m> {
+    pub task: Task,
+    /// The files; none means standard input, and so does `-`.
+    pub files: &'m [&'m str],
+    /// How the named files are read; `None`: by their names.
+    pub kind: Option<FileKind>,
+    /// Folders are searched for files.
+    pub is_recursive: bool,
+    pub format: Format,
+    pub coloring: Coloring,
+    /// Warnings fail too.
+    pub is_strict: bool,
+    /// Names of warnings that are not reported.
+    pub ignored: &'m [&'m str],
+    /// Variables, as `NAME=VALUE`.
+    pub variables: &'m [&'m str],
+    /// The room of each requirement.
+    pub limit: u64,
+    /// Values of variables are shown.
+    pub shows_values: bool,
+}
+
+fn files_argument<'a>(alloc: Global) -> Arg<'a> {
+    Arg::new(alloc, "file")
+        .value_name("FILE")
+        .num_args(0..)
+        .help("The files to read; `-`, or none, is standard input")
+}
+
+fn kind_argument<'a>(alloc: Global) -> Arg<'a> {
+    Arg::new(alloc, "kind")
+        .long("kind")
+        .value_name("KIND")
+        .value_parser(KINDS.as_slice())
+        .help("Read the named files as this, and not by their names")
+}
+
+fn recursive_argument<'a>(alloc: Global) -> Arg<'a> {
+    Arg::new(alloc, "recursive")
+        .long("recursive")
+        .action(ArgAction::SetTrue)
+        .help("Search folders, the current one if there is no FILE")
+}
+
+fn format_argument<'a>(alloc: Global) -> Arg<'a> {
+    Arg::new(alloc, "format")
+        .long("format")
+        .value_name("FORMAT")
+        .value_parser(FORMATS.as_slice())
+        .default_value("text")
+        .help("Write text, or an object of JSON on each line")
+}
+
+/// Returns the option `--color`.
+pub fn color_argument<'a>(alloc: Global) -> Arg<'a> {
+    Arg::new(alloc, "color")
+        .long("color")
+        .value_name("WHEN")
+        .value_parser(COLORINGS.as_slice())
+        .default_value("auto")
+        .help("Color the text; auto: on a terminal, unless NO_COLOR is set")
+}
+
+fn variable_argument<'a>(alloc: Global) -> Arg<'a> {
+    Arg::new(alloc, "var")
+        .long("var")
+        .value_name("NAME=VALUE")
+        .action(ArgAction::Append)
+        .help("Set a variable, which goes before the environment's")
+}
+
+fn limit_argument<'a>(alloc: Global) -> Arg<'a> {
+    Arg::new(alloc, "limit")
+        .long("limit")
+        .value_name("N")
+        .value_parser(value_parser!(u64).range(1..))
+        .default_value("1000000")
+        .help("The room of each requirement; one that needs more is too complex")
+}
+
+fn ignore_argument<'a>(alloc: Global) -> Arg<'a> {
+    Arg::new(alloc, "ignore")
+        .long("ignore")
+        .value_name("NAME")
+        .action(ArgAction::Append)
+        .value_parser(WARNINGS.as_slice())
+        .help("Do not report the warnings of this name")
+}
+
+static KINDS: [&str; 2] = ["requirements", "metadata"];
+
+static FORMATS: [&str; 2] = ["text", "json"];
+
+static COLORINGS: [&str; 3] = ["auto", "always", "never"];
+
+// Adds the options of all commands that read files.
+fn with_common(alloc: Global, command: Command<'_>) -> Result<Command<'_>, AllocError> {
+    command
+        .arg(files_argument(alloc))?
+        .arg(kind_argument(alloc))?
+        .arg(recursive_argument(alloc))?
+        .arg(format_argument(alloc))?
+        .arg(color_argument(alloc))?
+        .arg(variable_argument(alloc))?
+        .arg(limit_argument(alloc))
+}
+
+fn check_command<'a>(alloc: Global) -> Result<Command<'a>, AllocError> {
+    let strict = Arg::new(alloc, "strict")
+        .long("strict")
+        .action(ArgAction::SetTrue)
+        .help("Fail on warnings too");
+    let check = Command::new(alloc, "check")
+        .about("Reports the errors and warnings of requirements files and metadata")
+        .after_help("Example: pep508 check --strict requirements.txt");
+    with_common(alloc, check)?
+        .arg(strict)?
+        .arg(ignore_argument(alloc))
+}
+
+fn list_command<'a>(alloc: Global) -> Result<Command<'a>, AllocError> {
+    let shows_values = Arg::new(alloc, "show-values")
+        .long("show-values")
+        .action(ArgAction::SetTrue)
+        .help("Show what the values of variables went into");
+    let list = Command::new(alloc, "list")
+        .about("Lists the requirements of requirements files and metadata")
+        .after_help("Example: pep508 list --format json requirements.txt");
+    with_common(alloc, list)?.arg(shows_values)
+}
+
+/// Returns the command line of the program.
+pub fn command_line<'a>(alloc: Global) -> Result<Command<'a>, AllocError> {
+    Command::new(alloc, "pep508")
+        .version("0.1.0")
+        .about("Reads the dependency specifiers of Python packages")
+        .after_help("Example: pep508 check requirements.txt")
+        .subcommand_required(true)
+        .subcommand(check_command(alloc)?)?
+        .subcommand(list_command(alloc)?)
+}
+
+/// Returns the coloring of a word of `--color`.
+pub fn coloring_of(word: Option<&str>) -> Coloring {
+    match word {
+        Some("always") => Coloring::Always,
+        Some("never") => Coloring::Never,
+        _ => Coloring::Auto,
+    }
+}
+
+fn format_of(word: Option<&str>) -> Format {
+    match word {
+        Some("json") => Format::Json,
+        _ => Format::Text,
+    }
+}
+
+fn file_kind_of(word: &str) -> FileKind {
+    match word {
+        "metadata" => FileKind::Metadata,
+        _ => FileKind::Requirements,
+    }
+}
+
+/// Returns the request of the matches of a command.
+pub fn request_of<'m, 'w>(task: Task, given: &'m ArgMatches<'w>) -> Request<'m> {
+    Request {
+        task,
+        files: given.get_strs("file").unwrap_or(&[]),
+        kind: given.get_str("kind").map(file_kind_of),
+        is_recursive: given.get_flag("recursive"),
+        format: format_of(given.get_str("format")),
+        coloring: coloring_of(given.get_str("color")),
+        is_strict: given.get_flag("strict"),
+        ignored: given.get_strs("ignore").unwrap_or(&[]),
+        variables: given.get_strs("var").unwrap_or(&[]),
+        limit: given.get_one::<u64>("limit").unwrap_or(u64::MAX),
+        shows_values: given.get_flag("show-values"),
+    }
+}
+
+/// Returns the command of this name.
+pub fn task_of(name: &str) -> Option<Task> {
+    match name {
+        "check" => Some(Task::Check),
+        "list" => Some(Task::List),
+        _ => None,
+    }
+}

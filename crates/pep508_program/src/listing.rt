@@ -1,0 +1,85 @@
+//! The output of `list` for a requirement.
+
+use crate::excerpts::visible;
+use crate::notices::{Format, Span};
+use requirement_findings::Listed;
+use requirement_lines::{Mark, Piece, cut_line, text_of};
+use serde_json::{Value, json};
+use std::alloc::{AllocError, Global};
+
+// A text, or null.
+fn text_or_null(alloc: Global, text: Option<&str>) -> Result<Value, AllocError> {
+    match text {
+        Some(text) => json!(in alloc; (text)),
+        None => Ok(Value::Null),
+    }
+}
+
+// A list of texts.
+fn list_of(alloc: Global, texts: &[String]) -> Result<Value, AllocError> {
+    let mut values = Vec::new(alloc);
+    for text in texts {
+        values.push(json!(in alloc; (text.as_str()))?)?;
+    }
+    Ok(Value::Array(values))
+}
+
+// The JSON object of a requirement.
+fn object_of(alloc: Global, file: &str, span: Span, listed: &Listed) -> Result<Value, AllocError> {
+    json!(in alloc; {
+        "file": file,
+        "line": (span.position.line),
+        "column": (span.position.column),
+        "name": (text_or_null(alloc, listed.name.as_deref())?),
+        "extras": (list_of(alloc, listed.extras.as_slice())?),
+        "specifiers": (list_of(alloc, listed.specifiers.as_slice())?),
+        "url": (text_or_null(alloc, listed.url.as_deref())?),
+        "given_url": (text_or_null(alloc, listed.given_url.as_deref())?),
+        "marker": (text_or_null(alloc, listed.marker.as_deref())?),
+        "hashes": (list_of(alloc, listed.hashes.as_slice())?),
+        "editable": (listed.is_editable),
+        "constraint": (listed.is_constraint),
+        "text": (text_or_null(alloc, listed.text.as_deref())?)
+    })
+}
+
+// The requirement as it is written in the file.
+fn as_written(alloc: Global, line: &[Piece<'_>]) -> Result<String, AllocError> {
+    let requirement = cut_line(alloc, line, Mark::Options)?;
+    let text = text_of(alloc, requirement.as_slice())?;
+    visible(alloc, text.as_str().trim_end())
+}
+
+// Writes the requirement in its normal text, or as in the file if that would show the value of a
+// variable.
+fn write_text(
+    alloc: Global,
+    out: &mut String,
+    line: &[Piece<'_>],
+    listed: &Listed,
+) -> Result<(), AllocError> {
+    match &listed.text {
+        Some(text) => out.push_str(text.as_str()),
+        None => out.push_str(as_written(alloc, line)?.as_str()),
+    }
+}
+
+/// Appends a requirement to the output. `line` is its line as it is written in the file.
+pub fn write_listed(
+    alloc: Global,
+    out: &mut String,
+    format: Format,
+    file: &str,
+    span: Span,
+    line: &[Piece<'_>],
+    listed: &Listed,
+) -> Result<(), AllocError> {
+    match format {
+        Format::Text => write_text(alloc, out, line, listed)?,
+        Format::Json => {
+            let text = object_of(alloc, file, span, listed)?.to_string(alloc)?;
+            out.push_str(text.as_str())?;
+        }
+    }
+    out.push('\n')
+}

@@ -1,0 +1,92 @@
+//! Reading metadata, field by field.
+
+ghost use Rattle.pep508_program.specs.Reporting.{Grows};
+
+use super::{Reading, Walk, is_spoiled, offset_of};
+use crate::failures::Failure;
+use crate::hosts::Host;
+use crate::marks::marks_of;
+use crate::notices::Span;
+use crate::sheets::Sheet;
+use metadata_files::FieldKind;
+use requirement_findings::{
+    CheckLines, CheckedField, CheckedText, Finding, Listed, check_metadata,
+};
+use requirement_lines::Piece;
+use std::alloc::AllocError;
+
+impl<H: Host, C: CheckLines> Walk<'_, H, C> {
+    // Reports the findings of a part of a file, and lists its requirement.
+    pub(super) fn report_part(
+        &mut self,
+        reading: &mut Reading<'_>,
+        part: Piece<'_>,
+        findings: Vec<Finding>,
+        listed: Option<Listed>,
+    ) -> Result<(), AllocError>
+        ensures { Grows self.old.report.tally self.new.report.tally }
+    {
+        let sheet = reading.sheet;
+        let start = offset_of(sheet, part.place.to_end);
+        let span = Span {
+            start,
+            end: start.saturating_add(part.text.len()),
+            position: reading.positions.position_of(part.place.to_end),
+        };
+        let positions = &mut reading.positions;
+        let marks = marks_of(self.alloc, sheet.text(), findings, None, positions)?;
+        self.report_marks(&sheet.page(), marks.as_slice(), false)?;
+        self.report_marks(&sheet.page(), marks.as_slice(), true)?;
+        self.list_line(sheet, &[part], span, listed)
+    }
+
+    // Processes a field of metadata, and the bytes before it from one on. Returns the byte after
+    // it.
+    fn take_field(
+        &mut self,
+        reading: &mut Reading<'_>,
+        from: usize,
+        checked: CheckedField<'_>,
+    ) -> Result<usize, Failure>
+        ensures { Grows self.old.report.tally self.new.report.tally }
+    {
+        let CheckedField { field, checked } = checked;
+        let CheckedText { findings, listed } = checked;
+        let sheet = reading.sheet;
+        let value = field.value;
+        let start = offset_of(sheet, field.name.place.to_end);
+        let end = offset_of(sheet, value.place.to_end).saturating_add(value.text.len());
+        self.report_invalid(reading, from, start)?;
+        if !is_spoiled(sheet, &[value]) {
+            if field.kind == FieldKind::RequiresDist {
+                self.requirements = self.requirements.saturating_add(1);
+            }
+            self.report_part(reading, value, findings, listed)?;
+        }
+        self.report_invalid(reading, start, end)?;
+        self.progress.step(self.alloc, self.host)?;
+        if self.report.is_full() {
+            self.flush()?;
+        }
+        Ok(end)
+    }
+
+    // Reads a file of metadata.
+    pub(super) fn walk_metadata(&mut self, sheet: &Sheet) -> Result<(), Failure>
+        ensures { Grows self.old.report.tally self.new.report.tally }
+    {
+        let mut reading = self.begin(sheet)?;
+        let checked = check_metadata(self.alloc, sheet.text(), self.checker)?;
+        let mut from = 0;
+        for field in checked.fields {
+            from = self.take_field(&mut reading, from, field)?;
+        }
+        if let Some(finding) = checked.stray {
+            let mut findings = Vec::new(self.alloc);
+            findings.push(finding)?;
+            self.report_part(&mut reading, Piece::whole(sheet.text()), findings, None)?;
+        }
+        self.report_invalid(&mut reading, from, sheet.text().len())?;
+        Ok(())
+    }
+}
