@@ -1,0 +1,6 @@
+mod NameLaws
+mod RangeLaws
+mod ParsingLaws
+mod ComparingLaws
+mod EvaluatingLaws
+mod SimplifyingLaws

@@ -1,0 +1,10 @@
+-- The subtrees of the edges so far have numbers.
+use Rattle.std.proofs.Common.{map}
+use Rattle.marker_graph.specs.Edges.{string_edges_left}
+use Rattle.marker_graph.specs.Kind.{string_edges}
+use Rattle.marker_drawings.specs.Drawing.{targets_of}
+use Rattle.marker_drawings.proofs.NumberLaws.{Passed}
+use Rattle.marker_drawings.proofs.edges.edges_of_texts.Given as goal
+
+abbrev pub invariant-loop-edge : goal.invariant-loop-edge
+invariant-loop-edge l = Passed (map (λ e. e.value) (string_edges l.fn.view)) (map (λ e. e.value) (string_edges_left l.edge-iterator)) l.fn.found.keys l.found.keys (targets_of l.edges.items)

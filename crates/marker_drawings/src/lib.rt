@@ -1,0 +1,20 @@
+//! The drawing of a marker: its decision diagram, with labels, as a tree for a terminal, in the
+//! language of Graphviz, or as a picture.
+//!
+//! Calls that allocate return `AllocError` when memory runs out.
+#![tactic(auto)]
+
+mod dots;
+mod drawing;
+mod edges;
+mod escapes;
+mod labels;
+mod levels;
+mod numbering;
+mod pictures;
+mod trees;
+
+pub use crate::dots::dot_text;
+pub use crate::drawing::{Drawing, DrawnEdge, DrawnNode, Target, draw};
+pub use crate::pictures::svg_text;
+pub use crate::trees::tree_text;
