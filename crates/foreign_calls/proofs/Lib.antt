@@ -1,0 +1,4 @@
+pub mod KeptLaws
+pub mod MarkerLaws
+pub mod RelationLaws
+pub mod SimplifiedLaws

@@ -1,0 +1,4 @@
+pub mod CheckLaws
+pub mod JsonLaws
+pub mod ReadingLaws
+pub mod RequirementLaws

@@ -1,0 +1,4 @@
+pub mod Json
+pub mod Reading
+pub mod Requirement
+pub mod Check

@@ -1,0 +1,191 @@
+/* Python dependency specifiers (PEP 508), for C and every language that calls
+   C: requirements, as `requests[security] >= 2.8.1 ; python_version < '3'`, and
+   their markers.
+
+   Texts are bytes with a length and need no NUL at the end. Their bytes may be
+   NULL only where the text is a parameter of its own and its length is 0: the
+   bytes of a struct pep508_text are never NULL, so an empty one is
+   PEP508_TEXT(""). A text that is invalid UTF-8 is answered by PEP508_NOT_UTF8.
+
+   Every call returns a number of enum pep508_answer.
+   A call writes its results only if it answers PEP508_DONE, unless its comment
+   says more.
+
+   A call that writes bytes takes a buffer with its length, and writes to
+   `needed` how many bytes there are. It writes all of them to the start of the
+   buffer, without a NUL, or none if the buffer is too small, and then answers
+   PEP508_BUFFER_TOO_SMALL: call again with a buffer of `needed` bytes. A buffer
+   of length 0 may be NULL. With any other answer `needed` is 0.
+
+   Options are NULL with the count 0 for the defaults, or a pointer to one
+   struct pep508_options with the count 1.
+
+   Pointers to other parameters are not NULL, and what a call writes does not
+   overlap what it reads or other results. A call reads and writes nothing else,
+   keeps no pointer, and does not print, read the environment or end the process
+   (a build by `build_library --now` stops at an overflow or a bad access).
+   Memory comes from malloc, and each refusal is answered by
+   PEP508_OUT_OF_MEMORY. Calls may run in any number of threads at a time. */
+#ifndef PEP508_H
+#define PEP508_H
+
+#include <stdbool.h>
+#include <stddef.h>
+#include <stdint.h>
+
+#ifdef __cplusplus
+extern "C" {
+#endif
+
+enum pep508_answer {
+    PEP508_DONE = 0,             /* the results are written */
+    PEP508_INVALID = 1,          /* the text is an invalid requirement or marker */
+    PEP508_OUT_OF_MEMORY = 2,    /* malloc returned NULL */
+    PEP508_BUFFER_TOO_SMALL = 3, /* the buffer has fewer than `needed` bytes */
+    PEP508_NOT_UTF8 = 4,         /* a text is invalid UTF-8 */
+    PEP508_NUMBER_TOO_LARGE = 5, /* a version in the marker has the number
+                                    18446744073709551615 where the next one
+                                    is needed */
+    PEP508_INVALID_ARGUMENT = 6, /* a value or a bound is no version, an extra
+                                    is no name, or the options are not one
+                                    struct of this size */
+    PEP508_TOO_COMPLEX = 7,      /* more nodes or looks than the options allow */
+    PEP508_NO_SUCH_MARKER = 8,   /* no call returns it yet */
+    PEP508_SHUT = 9              /* no call returns it yet */
+};
+
+/* How two markers relate: the first of the list that is true. */
+enum pep508_relation {
+    PEP508_EQUAL = 0,                /* true in the same environments */
+    PEP508_DISJOINT = 1,             /* never true together */
+    PEP508_FIRST_IMPLIES_SECOND = 2, /* where the first is true, so is the second */
+    PEP508_SECOND_IMPLIES_FIRST = 3, /* where the second is true, so is the first */
+    PEP508_OVERLAPPING = 4           /* true together, and each alone */
+};
+
+struct pep508_text {
+    const char *bytes; /* not NULL, even if the length is 0 */
+    size_t length;
+};
+#define PEP508_TEXT(literal) {(literal), sizeof(literal) - 1}
+
+/* What a caller may choose. Begin with PEP508_OPTIONS. */
+struct pep508_options {
+    size_t size;     /* sizeof(struct pep508_options) */
+    uint64_t key[2]; /* the key of the hash tables: whoever takes texts from
+                        strangers fills it from a source of random bytes, such
+                        as getrandom; two zeros are a fixed key */
+    size_t pieces;   /* room for nodes: how many edges the nodes of an interner
+                        may have, or 0 for 1,000,000 */
+    size_t looks;    /* how many pairs of nodes a question of disjointness may
+                        look at, or 0 for 10,000,000 */
+    struct pep508_text working_folder; /* the folder that relative paths in
+                        requirements start from and that ${PROJECT_ROOT} stands
+                        for, or an empty text for none */
+};
+#define PEP508_OPTIONS {sizeof(struct pep508_options), {0, 0}, 0, 0, PEP508_TEXT("")}
+
+/* The values of the keys of markers. Those of implementation_version,
+   python_full_version and python_version are versions. */
+struct pep508_environment {
+    struct pep508_text implementation_name, implementation_version, os_name,
+        platform_machine, platform_python_implementation, platform_release,
+        platform_system, platform_version, python_full_version, python_version,
+        sys_platform;
+};
+
+/* A place in a text, in bytes. */
+struct pep508_span {
+    size_t start, length;
+};
+
+/* Where a range of Python versions begins or ends. */
+struct pep508_bound {
+    uint32_t kind; /* 0: no bound, 1: the version is in the range, 2: it is not */
+    struct pep508_text version;
+};
+#define PEP508_UNBOUNDED {0, PEP508_TEXT("")}
+
+/* The version of the library, such as 0.9.2. */
+int32_t pep508_version(char *buffer, size_t buffer_length, size_t *needed);
+
+/* Answers PEP508_DONE if the text is a requirement, and writes nothing then.
+   If it answers PEP508_INVALID, it writes where the text is wrong to `span`, and
+   to `needed` the length of a message that says what is wrong. The message is
+   written if the buffer is large enough for it. A span at the end of the text
+   starts at its length and is 1 long.
+
+   In requirements no variable is known: ${NAME} stays as it is written. A
+   relative path is invalid if there is no working folder. */
+int32_t pep508_requirement_check(const char *text, size_t length,
+                                 const struct pep508_options *options,
+                                 size_t options_count, struct pep508_span *span,
+                                 char *message, size_t message_length,
+                                 size_t *needed);
+
+/* Writes the normal text of a requirement: its name, its extras in brackets, its
+   specifiers separated by commas or ` @ ` and its URL, and ` ; ` and its marker
+   unless that is true in every environment. */
+int32_t pep508_requirement_normalize(const char *text, size_t length,
+                                     const struct pep508_options *options,
+                                     size_t options_count, char *buffer,
+                                     size_t buffer_length, size_t *needed);
+
+/* Writes the parts of a requirement as an object of JSON without spaces, in
+   normal form, such as
+   {"extras":["security"],"marker":"os_name == 'nt'","name":"requests",
+   "specifiers":[">=2.8.1"],"url":null} on one line. `marker` is null if it is
+   true in every environment, and `url` if there is none. */
+int32_t pep508_requirement_parts(const char *text, size_t length,
+                                 const struct pep508_options *options,
+                                 size_t options_count, char *buffer,
+                                 size_t buffer_length, size_t *needed);
+
+/* Writes the normal text of a marker, which is empty if the marker is true in
+   every environment. */
+int32_t pep508_marker_normalize(const char *text, size_t length,
+                                const struct pep508_options *options,
+                                size_t options_count, char *buffer,
+                                size_t buffer_length, size_t *needed);
+
+/* Writes whether a marker is true in an environment with these extras. */
+int32_t pep508_marker_evaluate(const char *text, size_t length,
+                               const struct pep508_environment *environment,
+                               const struct pep508_text *extras,
+                               size_t extras_count,
+                               const struct pep508_options *options,
+                               size_t options_count, bool *value);
+
+/* Writes how two markers relate, a number of enum pep508_relation. */
+int32_t pep508_markers_compare(const char *first, size_t first_length,
+                               const char *second, size_t second_length,
+                               const struct pep508_options *options,
+                               size_t options_count, int32_t *relation);
+
+/* Writes the normal text of a marker that is true where the given one is, for
+   Python versions in a range and with these extras. */
+int32_t pep508_marker_simplify(const char *text, size_t length,
+                               const struct pep508_bound *lower,
+                               const struct pep508_bound *upper,
+                               const struct pep508_text *extras,
+                               size_t extras_count,
+                               const struct pep508_options *options,
+                               size_t options_count, char *buffer,
+                               size_t buffer_length, size_t *needed);
+
+/* Answers lines, each with a reply line, on a session that begins without markers
+   and ends with the call, and writes the replies. The lines are those of the
+   program `markers`, such as
+       parse os_name == 'nt'
+       text 0
+   A line whose marker takes more memory or nodes than there are is answered by
+   `error memory`. An invalid line is answered too: the call never answers
+   PEP508_INVALID. */
+int32_t pep508_serve(const char *script, size_t length,
+                     const struct pep508_options *options, size_t options_count,
+                     char *buffer, size_t buffer_length, size_t *needed);
+
+#ifdef __cplusplus
+}
+#endif
+#endif
