@@ -1,4 +1,4 @@
-//! Clauses that have nothing to leave out, which takes a reduction the most comparisons of pairs.
+//! Clauses of which none is redundant: the reduction needs the most comparisons of pairs for them.
 
 use marker_parts::{MarkerExpression, MarkerOperator, MarkerValueString};
 use std::alloc::{AllocError, Global};
@@ -13,7 +13,7 @@ const KEYS: [MarkerValueString; 6] = [
     MarkerValueString::SysPlatform,
 ];
 
-/// So many clauses of six terms each, as different as they can be.
+/// Returns `count` clauses of six terms each, as different as they can be.
 pub fn clauses(alloc: Global, count: usize) -> Result<Vec<Vec<MarkerExpression>>, AllocError> {
     let mut clauses = Vec::with_capacity(alloc, count)?;
     for number in 0..count {

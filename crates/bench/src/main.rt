@@ -1,6 +1,6 @@
-//! Measures conjunctions of markers of three shapes, how texts are read as trees, evaluated and
-//! printed, reductions of clauses, and how requirements are read and printed. How many there are is
-//! written to standard output, and times to standard error.
+//! Measures conjunctions of markers of three shapes, parsing, evaluating and printing texts,
+//! reducing clauses, and parsing and printing requirements. Counts are written to standard output,
+//! and times to standard error.
 #![tactic(auto)]
 
 mod clauses;
@@ -21,10 +21,10 @@ use std::time::{Duration, Instant};
 
 const ROUNDS: u64 = 100;
 
-// How often the texts are read, and evaluated.
+// How often the texts are parsed, and evaluated.
 const TEXT_ROUNDS: u64 = 2_000;
 
-// Makes the markers of a shape in an interner of its own, and answers how many conjunctions were
+// Makes the markers of a shape in an interner of its own, and returns how many conjunctions were
 // computed.
 fn conjunctions(alloc: Global, shape: Shape) -> Result<u64, Unmade> {
     let mut interner = Interner::new(alloc);
@@ -32,14 +32,14 @@ fn conjunctions(alloc: Global, shape: Shape) -> Result<u64, Unmade> {
     Ok(interner.expansions())
 }
 
-// How many there are a second.
+// The count per second.
 fn rate(count: u64, time: Duration) -> u64 {
     let microseconds = u64::try_from(time.as_micros()).unwrap_or(u64::MAX);
     let all = count.saturating_mul(1_000_000);
     all.checked_div(microseconds).unwrap_or(u64::MAX)
 }
 
-// Reads the texts again and again, in one interner, and answers their trees.
+// Parses the texts again and again in one interner, and returns their trees.
 fn parse(alloc: Global, interner: &mut Interner) -> Result<Vec<MarkerTree>, Unmade> {
     let mut trees = texts::parse(alloc, interner)?;
     for _ in 1..TEXT_ROUNDS {
@@ -48,12 +48,12 @@ fn parse(alloc: Global, interner: &mut Interner) -> Result<Vec<MarkerTree>, Unma
     Ok(trees)
 }
 
-// How often a text or a tree is gone through.
+// How often a text or a tree is visited.
 fn all_of(trees: &[MarkerTree]) -> u64 {
     TEXT_ROUNDS.saturating_mul(u64::try_from(trees.len()).unwrap_or(u64::MAX))
 }
 
-// Measures how trees are evaluated.
+// Measures evaluating trees.
 fn measure_evaluation(
     rt: &HostRuntime,
     interner: &Interner,
@@ -73,7 +73,7 @@ fn measure_evaluation(
     )
 }
 
-// Measures how trees are printed.
+// Measures printing trees.
 fn measure_printing(rt: &HostRuntime, interner: &Interner, trees: &[MarkerTree]) -> io::Result<()> {
     let mut bytes = Ok(0);
     let start = Instant::now(rt)?;
@@ -88,7 +88,7 @@ fn measure_printing(rt: &HostRuntime, interner: &Interner, trees: &[MarkerTree])
     eprintln!(rt; "texts: {} are printed a second", rate(all_of(trees), time))
 }
 
-// Measures how the texts are read, and what their trees are asked.
+// Measures parsing the texts and checking their trees.
 fn measure_reading(
     rt: &HostRuntime,
     interner: &mut Interner,
@@ -105,7 +105,7 @@ fn measure_reading(
     measure_printing(rt, interner, &trees)
 }
 
-// Measures how the texts are read, and how their trees are evaluated and printed.
+// Measures parsing the texts, and evaluating and printing their trees.
 fn measure_texts(rt: &HostRuntime) -> io::Result<()> {
     let Ok(environment) = texts::environment(rt.alloc()) else {
         return println!(rt; "texts: not made");
@@ -117,19 +117,21 @@ fn measure_texts(rt: &HostRuntime) -> io::Result<()> {
 // How many clauses of six terms are reduced.
 const COUNTS: [usize; 2] = [64, 1_000];
 
-// Reduces so many clauses, and tells how many are left.
+// Reduces `count` clauses, and writes how many are left.
 fn measure_reduction(rt: &HostRuntime, count: usize) -> io::Result<()> {
-    let Ok(mut all) = clauses(rt.alloc(), count) else {
+    let Ok(all) = clauses(rt.alloc(), count) else {
         return println!(rt; "{count} clauses: not made");
     };
     let start = Instant::now(rt)?;
-    reduce(&mut all);
+    let Ok(left) = reduce(rt.alloc(), all) else {
+        return println!(rt; "{count} clauses: not reduced");
+    };
     let time = start.elapsed(rt)?;
-    println!(rt; "{count} clauses: {} left", all.len())?;
+    println!(rt; "{count} clauses: {} left", left.len())?;
     eprintln!(rt; "{count} clauses: {} microseconds", time.as_micros())
 }
 
-// Measures how these texts are read, the first time and again, and how they are read and printed.
+// Measures parsing these texts, the first time and again, and parsing and printing them.
 fn measure_parts(
     rt: &HostRuntime,
     texts: &[String],
@@ -163,7 +165,7 @@ fn measure_requirements(rt: &HostRuntime) -> io::Result<()> {
     measure_parts(rt, &texts, &surroundings, &mut interner)
 }
 
-// Tells what was counted of the requirements, and how long one of them took.
+// Writes the counts of the requirements, and the time for each.
 fn tell_requirements(
     rt: &HostRuntime,
     part: &str,

@@ -1,4 +1,4 @@
-//! Requirements, as they stand in files of requirements and in the metadata of packages.
+//! Requirements as in requirements files and in the metadata of packages.
 
 ghost use Rattle.std.specs.Prelude.{IfOk};
 ghost use Rattle.marker_graph.specs.Contents.{IsHeld};
@@ -13,7 +13,7 @@ use std::alloc::Global;
 /// How many there are.
 pub const COUNT: usize = 50_000;
 
-// What stands behind their names, in turn.
+// What follows their names, in turn.
 const FORMS: [&str; 10] = [
     "",
     ">=2.0.2",
@@ -27,7 +27,7 @@ const FORMS: [&str; 10] = [
     " @ https://example.org/packages/archive-1.2.tar.gz ; platform_machine == 'x86_64'",
 ];
 
-/// The texts of the requirements, each with a name of its own.
+/// Returns the texts of the requirements, each with a name of its own.
 pub fn texts(alloc: Global) -> Result<Vec<String>, Unmade> {
     let mut texts = Vec::with_capacity(alloc, COUNT)?;
     for number in 0..COUNT / FORMS.len() {
@@ -50,7 +50,7 @@ fn parse(
     Requirement::parse(text, surroundings, interner).map_err(|_| Unmade)
 }
 
-/// How many of the texts are read as a requirement of some version or URL.
+/// Returns how many of the texts parse as a requirement with a version or URL.
 pub fn count_asked(
     texts: &[String],
     surroundings: &Surroundings<'_>,
@@ -66,7 +66,7 @@ pub fn count_asked(
     Ok(count)
 }
 
-/// How many bytes the texts of the requirements have that are read of the texts.
+/// Returns how many bytes the parsed requirements have when they are printed.
 pub fn count_bytes(
     texts: &[String],
     surroundings: &Surroundings<'_>,

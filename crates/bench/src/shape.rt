@@ -1,8 +1,8 @@
-//! Shapes of markers, of which resolvers make many.
+//! Shapes of markers, such as resolvers make.
 
 use marker_grammar::read;
 use marker_graph::{Interner, MarkerTree};
-use pep508_markers::tree_of;
+use pep508_markers::internal::tree_of;
 use std::alloc::{AllocError, Global};
 use std::fmt;
 use std::fmt::Display;
@@ -51,7 +51,7 @@ impl Shape {
     }
 }
 
-/// The marker of a text.
+/// Returns the marker of a text.
 pub fn marker(alloc: Global, interner: &mut Interner, text: &str) -> Result<MarkerTree, Unmade> {
     let Ok(reading) = read(alloc, text) else {
         return Err(Unmade);

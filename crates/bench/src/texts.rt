@@ -1,4 +1,4 @@
-//! Whole marker texts, as they stand in the metadata of packages.
+//! Whole marker texts, as in the metadata of packages.
 
 use crate::shape::{Unmade, marker};
 use marker_environment::{MarkerEnvironment, MarkerEnvironmentBuilder};
@@ -29,12 +29,12 @@ const LINUX: MarkerEnvironmentBuilder<'static> = MarkerEnvironmentBuilder {
     sys_platform: "linux",
 };
 
-/// The environment in which the texts are evaluated.
+/// Returns the environment in which the texts are evaluated.
 pub fn environment(alloc: Global) -> Result<MarkerEnvironment, Unmade> {
     MarkerEnvironment::try_from(alloc, LINUX).map_err(|_| Unmade)
 }
 
-/// Reads each text as a tree.
+/// Parses each text as a tree.
 pub fn parse(alloc: Global, interner: &mut Interner) -> Result<Vec<MarkerTree>, Unmade> {
     let mut trees = Vec::with_capacity(alloc, TEXTS.len())?;
     for text in TEXTS {
@@ -44,7 +44,7 @@ pub fn parse(alloc: Global, interner: &mut Interner) -> Result<Vec<MarkerTree>, 
     Ok(trees)
 }
 
-/// How many of the trees are true in the environment without extras.
+/// Returns how many of the trees are true in the environment without extras.
 pub fn evaluate(
     interner: &Interner,
     trees: &[MarkerTree],
@@ -56,7 +56,7 @@ pub fn evaluate(
         .count()
 }
 
-/// How many bytes the texts of the trees have.
+/// Returns how many bytes the texts of the trees have.
 pub fn print(interner: &Interner, trees: &[MarkerTree]) -> Result<usize, Unmade> {
     let mut bytes: usize = 0;
     for tree in trees {

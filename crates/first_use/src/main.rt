@@ -1,4 +1,4 @@
-//! Reads a requirement, asks where it is required, and prints it.
+//! Parses a requirement, evaluates where it applies, and prints it.
 #![tactic(auto)]
 
 use anyhow::Result;
@@ -22,7 +22,7 @@ const LINUX: MarkerEnvironmentBuilder<'static> = MarkerEnvironmentBuilder {
     sys_platform: "linux",
 };
 
-// Tells whether a requirement is required, and prints it.
+// Prints whether a requirement applies, and its text.
 fn show(
     rt: &HostRuntime,
     text: &str,
@@ -39,7 +39,7 @@ fn show(
     Ok(())
 }
 
-// Tells what is wrong with a text that is no requirement.
+// Prints the error of an invalid requirement.
 fn show_fault(
     rt: &HostRuntime,
     text: &str,

@@ -1,4 +1,4 @@
--- How bytes are parted into lines: part after part.
+-- How bytes are split into lines, part by part.
 use Rattle.std.proofs.Common.{◌≡◌, ◌≢◌, ℕ, List, [], ◌∷◌, ◌++◌, refl, sym, ap, ◌∙◌, subst, append_assoc, take, drop, length, get_or, ◌<◌, ◌+◌, arith, length-take, add-one, ⊎_elim}
 use Rattle.std.specs.List.{flat_map}
 use Rattle.std.proofs.lemmas.List.{append-nil, take-append-drop, get_or-take}
@@ -21,7 +21,7 @@ whole_one {line} h = record {
   unended = All-nil (λ (b : ℕ). b ≢ 10);
 }
 
--- more bytes, behind the rest
+-- more bytes after the rest
 pub whole_then : {a rest end : List ℕ} {lines more : List (List ℕ)} (b : List ℕ) → WholeLines a lines rest → WholeLines (rest ++ b) more end → WholeLines (a ++ b) (lines ++ more) end
 whole_then {a} {rest} {end} {lines} {more} b p q = record {
   parts = ap (λ (x : List ℕ). x ++ b) p.parts ∙ append_assoc (flat_map with_feed lines) rest b ∙ ap (λ (x : List ℕ). flat_map with_feed lines ++ x) q.parts ∙ sym (append_assoc (flat_map with_feed lines) (flat_map with_feed more) end) ∙ ap (λ (x : List ℕ). x ++ end) (sym (flat_map-append with_feed lines more));
@@ -29,7 +29,7 @@ whole_then {a} {rest} {end} {lines} {more} b p q = record {
   unended = q.unended;
 }
 
--- one more byte in front of the first line, or of the rest
+-- one more byte before the first line, or before the rest
 begun : {bytes rest : List ℕ} (b : ℕ) → b ≢ 10 → (lines : List (List ℕ)) → WholeLines bytes lines rest → (ls : List (List ℕ)) × (r : List ℕ) × WholeLines (b ∷ bytes) ls r
 begun {bytes} {rest} b other [] w = ([], b ∷ rest, record { parts = ap (λ (x : List ℕ). b ∷ x) w.parts; whole = w.whole; unended = All-cons (λ (c : ℕ). c ≢ 10) b rest other w.unended })
 begun {bytes} {rest} b other (line ∷ lines) w = (

@@ -4,7 +4,7 @@ use Rattle.std.specs.Io.KnownBytes.{Appends, Consumes, Keeps}
 use Rattle.std.proofs.lemmas.List.{append-nil, take-append-drop}
 use Rattle.line_server.specs.Ports.{AppendsBeginning}
 
--- nothing was written, and nothing was read
+-- nothing was written, or nothing was read
 pub Appends-nil : (a : Option (List ℕ)) → Appends a a []
 Appends-nil None = tt
 Appends-nil (Some x) = sym (append-nil x)

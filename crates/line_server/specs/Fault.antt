@@ -1,4 +1,4 @@
--- How the program tells why it ended early.
+-- What the program reports when it ends early.
 use Rattle.std.specs.Prelude.{ℕ, List, codes}
 use Rattle.line_server.specs.declared.fault.ServeFault.{ServeFault}
 use Rattle.line_server.specs.declared.fault.ServeFault.TheVariants.{Input, Output, Memory, Usage}

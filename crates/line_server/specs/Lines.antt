@@ -1,5 +1,5 @@
--- How bytes are parted into lines: a line ends at a line feed alone, and a last line
--- without one counts where it is not empty.
+-- How bytes are split into lines: a line ends only at a line feed, and a last line without one
+-- counts if it is not empty.
 use Rattle.std.specs.Prelude.{◌≡◌, ◌≢◌, ℕ, List, [], ◌∷◌, ◌++◌, Option, All, ◌⊎◌}
 use Rattle.std.specs.List.{flat_map}
 use Rattle.std.specs.Io.KnownBytes.{IsAtEnd}
@@ -24,8 +24,7 @@ pub data Lines : List ℕ → List (List ℕ) → Type 0 where
   unended : {input last : List ℕ} {lines : List (List ℕ)}
       → WholeLines input lines last → last ≢ [] → Lines input (lines ++ (last ∷ []))
 
--- the lines of an input that was read so far: a last line without a line feed only where no byte
--- is left
+-- the lines of the input read so far; a last line without a line feed only if no byte is left
 abbrev pub LinesSoFar : Option (List ℕ) → List ℕ → List (List ℕ) → Type 0
 LinesSoFar left input lines =
     ((rest : List ℕ) × WholeLines input lines rest) ⊎ (IsAtEnd left × Lines input lines)

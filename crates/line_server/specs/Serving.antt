@@ -21,7 +21,7 @@ pub record Answers {State : Type 0} (Step : State → List ℕ → List ℕ → 
   pub run : Run Step old lines replies new
   pub written : output ≡ flat_map with_feed replies
 
--- the output is a beginning of what answers the first of the lines
+-- the output is a beginning of the replies to the first of the lines
 pub record AnswersBeginning {State : Type 0} (Step : State → List ℕ → List ℕ → State → Type 0)
     (old : State) (lines : List (List ℕ)) (output : List ℕ) : Type 0 where
   pub answered : List (List ℕ)
@@ -31,8 +31,8 @@ pub record AnswersBeginning {State : Type 0} (Step : State → List ℕ → List
   pub joined : lines ≡ answered ++ others
   pub answers : Answers Step old answered (output ++ more) new
 
--- Behind `held`, the beginning of a line, these bytes are answered by the output; `rest` is the
--- beginning of a line then.
+-- After `held`, the beginning of a line, these bytes are answered by the output; then `rest` is the
+-- beginning of a line.
 pub record Serves {State : Type 0} (Step : State → List ℕ → List ℕ → State → Type 0)
     (old : State) (held bytes output : List ℕ) (new : State) (rest : List ℕ) : Type 0 where
   pub lines : List (List ℕ)
@@ -40,7 +40,7 @@ pub record Serves {State : Type 0} (Step : State → List ℕ → List ℕ → S
   pub answers : Answers Step old lines output new
 
 module _ {State : Type 0} (Step : State → List ℕ → List ℕ → State → Type 0) where
-  -- The step leads from `old` by this line to `new`, and its reply comes behind `before`.
+  -- A step by this line leads from `old` to `new`, and its reply is appended to `before`.
   abbrev pub AddsReply : State → List ℕ → State → List ℕ → List ℕ → Type 0
   AddsReply old line new before after =
       (reply : List ℕ) × Step old line reply new × (after ≡ before ++ reply)
@@ -56,14 +56,14 @@ module _ {State : Type 0} (Step : State → List ℕ → List ℕ → State → 
     pub read : Lines input lines
     pub answers : Answers Step old lines output new
 
-  -- the output answers each line of the input that a line feed ends
+  -- the output answers each line of the input that ends with a line feed
   pub record AnswersWholeLines (old new : State) (input output : List ℕ) : Type 0 where
     pub lines : List (List ℕ)
     pub rest : List ℕ
     pub read : WholeLines input lines rest
     pub answers : Answers Step old lines output new
 
-  -- the output is a beginning of what answers the lines of the input, behind which `left` is left
+  -- the output is a beginning of the replies to the lines of the input, after which `left` remains
   pub record AnswersFirstLines (left : Option (List ℕ)) (old : State)
       (input output : List ℕ) : Type 0 where
     pub lines : List (List ℕ)

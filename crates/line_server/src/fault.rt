@@ -13,14 +13,14 @@ pub enum ServeFault {
     Input,
     /// A write failed.
     Output,
-    /// Room for a line, its words or its reply was refused.
+    /// Memory for a line, its words or its reply ran out.
     Memory,
-    /// The program was given an argument. Only `main` answers it.
+    /// The program was given an argument. Only `main` returns this.
     Usage,
 }
 
 impl ServeFault {
-    /// The line that the program writes to standard error, without a line feed.
+    /// Returns the line that the program writes to standard error, without a line feed.
     pub fn line(self) -> &'static str
         ensures { result.now ≡ line_of self }
     {
@@ -32,7 +32,7 @@ impl ServeFault {
         }
     }
 
-    /// The status that the program ends with: 2 for a wrong call, else 1.
+    /// Returns the exit status: 2 for a wrong call, otherwise 1.
     pub fn status(self) -> u8
         ensures { result ≡ status_of self }
     {

@@ -1,5 +1,5 @@
-//! Lines in, lines out: where bytes come from and go to, how they are parted into lines that are
-//! answered one by one, and why that ends early. What the lines say is up to who answers them.
+//! Lines in, lines out: sources and sinks of bytes, splitting bytes into lines that are answered
+//! one by one, and why that ends early. The meaning of lines is up to the [`Answer`] that is given.
 #![tactic(auto)]
 
 mod fault;

@@ -1,4 +1,4 @@
-//! Lines that are answered one after another, as they come.
+//! Answering lines as they arrive.
 
 ghost use Rattle.std.specs.Prelude.{◌≡◌, ◌≢◌, ◌++◌, [], ℕ, List, IsTrue, Err, OnOk, OnErr};
 ghost use Rattle.std.specs.Io.KnownBytes.{Appends, IsAtEnd};
@@ -14,12 +14,15 @@ use std::alloc::{AllocError, Global};
 
 /// Answers lines, one after another.
 pub trait Answer {
-    /// A step: from the first state the line may be answered by the reply, both without the line
-    /// feed that ends them, and the last state comes of it.
+    /// A step: in the first state the line may get this reply, and the last state results. Line and
+    /// reply are without the line feeds that end them.
     ghost step: { Self → List ℕ → List ℕ → Self → Type 0 };
 
-    /// Answers one line, given without its line feed: adds the reply to `replies`, without the
-    /// line feed that ends it. An error is refused room for the line's words or its reply.
+    /// Answers one line, given without its line feed: appends the reply to `replies`, without the
+    /// line feed that ends it.
+    ///
+    /// # Errors
+    /// - `AllocError` when memory for the line's words or its reply runs out.
     fn answer(&mut self, line: &[u8], replies: &mut Vec<u8>) -> Result<(), AllocError>
         ensures { OnOk result
             (AddsReply step self.old line.now self.new replies.old.items replies.new.items) };
@@ -39,7 +42,7 @@ fn answer_line<A: Answer>(
     Ok(())
 }
 
-// Answers the line that `end` ends; what `held` holds comes before it.
+// Answers the line that `end` ends; its beginning is in `held`.
 fn end_line<A: Answer>(
     answerer: &mut A,
     held: &mut Vec<u8>,
@@ -61,7 +64,7 @@ fn end_line<A: Answer>(
     Ok(())
 }
 
-// Answers each line that ends in these bytes, and holds the beginning of the next.
+// Answers each line that ends in these bytes, and keeps the beginning of the next in `held`.
 fn take_bytes<A: Answer>(
     answerer: &mut A,
     held: &mut Vec<u8>,
@@ -83,7 +86,7 @@ fn take_bytes<A: Answer>(
     Ok(())
 }
 
-// Hands all the replies to the sink.
+// Writes all the replies to the sink.
 fn hand_over<W: Sink>(replies: &mut Vec<u8>, sink: &mut W) -> Result<(), ServeFault>
     ensures emptied { OnOk result (replies.new.items ≡ []) }
     ensures all { OnOk result
@@ -102,12 +105,14 @@ fn hand_over<W: Sink>(replies: &mut Vec<u8>, sink: &mut W) -> Result<(), ServeFa
     Ok(())
 }
 
-/// Answers each line of the source, and hands the replies to the sink, each with a line feed: the
-/// replies to all whole lines read so far before the source is asked again.
+/// Answers each line of the source, and writes the replies to the sink, each with a line feed. The
+/// replies to all complete lines are written before the source is read again.
 ///
-/// `Err` is `Input` where a read failed, `Output` where a write failed, and else `Memory`, where
-/// room for a line, its words or its reply was refused. After a failed read the replies to all
-/// whole lines that were read are written, after the other two a beginning of them.
+/// # Errors
+/// - `Input` if a read failed. The replies to all complete lines were written.
+/// - `Output` if a write failed. A beginning of the replies was written.
+/// - `Memory` when memory for a line, its words or its reply runs out. A beginning of the replies
+///   was written.
 pub fn serve_lines<A: Answer, R: Source, W: Sink>(
     alloc: Global,
     answerer: &mut A,

@@ -1,4 +1,4 @@
-//! Where bytes go to.
+//! Sinks of bytes.
 
 ghost use Rattle.std.specs.Prelude.{◌≡◌, ◌<◌, ◌≤◌, ℕ, List, Option, Bool, false, IsTrue, IfOk, OnErr, OnOk, length, take};
 ghost use Rattle.std.specs.Io.KnownBytes.{Appends};
@@ -12,14 +12,14 @@ pub struct WriteFault;
 
 /// Takes bytes, in order.
 pub trait Sink {
-    /// The bytes taken so far, where the sink tells them.
+    /// The bytes taken so far, if the sink shows them.
     ghost contents: { Self → Option (List ℕ) };
 
     /// Whether a write has failed.
     ghost has_failed: { Self → Bool };
 
-    /// Takes a beginning of the bytes and answers its length: of a slice that is not empty at
-    /// least one byte. After a fault a beginning of the bytes may have been taken.
+    /// Takes a beginning of the bytes and returns its length, at least 1 unless the slice is empty.
+    /// After an error a beginning of the bytes may have been taken.
     fn write(&mut self, bytes: &[u8]) -> Result<usize, WriteFault>
         ensures count { IfOk result (λ n. n ≤ length bytes.now) }
         ensures some { IfOk result (λ n. 0 < length bytes.now → 0 < n) }
@@ -32,8 +32,8 @@ pub trait Sink {
         ensures failed { OnErr result (IsTrue (has_failed self.new)) };
 }
 
-/// Writes all the bytes, in as many writes as the sink takes for them. A fault of a write is that
-/// of this call, and then a beginning of the bytes is written.
+/// Writes all the bytes, in as many writes as the sink needs. If a write fails, so does this call,
+/// and a beginning of the bytes was written.
 pub fn write_all<W: Sink>(sink: &mut W, bytes: &[u8]) -> Result<(), WriteFault>
     ensures all { OnOk result (Appends (W.contents sink.old) (W.contents sink.new) bytes.now) }
     ensures sound { OnOk result (W.has_failed sink.new ≡ W.has_failed sink.old) }
@@ -50,9 +50,9 @@ pub fn write_all<W: Sink>(sink: &mut W, bytes: &[u8]) -> Result<(), WriteFault>
     Ok(())
 }
 
-/// The bytes that go to a writer of std. No byte is kept back between two calls: each is handed
-/// to the writer, and the writer is flushed. Any error of the writer is a fault, and so is a
-/// write that takes no byte of a slice that is not empty.
+/// A sink that writes to a writer of std. Nothing is kept back between two calls: bytes are written
+/// and the writer is flushed. An error of the writer is a fault, and so is a write that takes no
+/// byte of a slice that is not empty.
 #[derive(Drop)]
 pub struct Output<W> {
     writer: W,
@@ -60,7 +60,7 @@ pub struct Output<W> {
 }
 
 impl<W: Write> Output<W> {
-    /// Writes behind what `writer` holds.
+    /// Returns a sink that appends to what `writer` has.
     pub fn new(writer: W) -> Self
         ensures contents { ⟦<Output<W> as Sink>⟧.contents result ≡ W.contents writer }
         ensures sound { ⟦<Output<W> as Sink>⟧.has_failed result ≡ false }
@@ -71,7 +71,7 @@ impl<W: Write> Output<W> {
         }
     }
 
-    // Notes the fault.
+    // Records the fault.
     fn fail(&mut self) -> WriteFault
         ensures writer { self.new.writer ≡ self.old.writer }
         ensures failed { IsTrue self.new.has_failed }

@@ -1,4 +1,4 @@
-//! Where bytes come from.
+//! Sources of bytes.
 
 ghost use Rattle.std.specs.Prelude.{◌≡◌, ◌<◌, ◌≤◌, ◌-◌, ◌^◌, ℕ, List, Option, Bool, false, IsTrue, IfOk, OnErr, OnOk, length};
 ghost use Rattle.std.specs.Io.KnownBytes.{ReadConsumes};
@@ -11,19 +11,19 @@ pub struct ReadFault;
 
 /// Gives bytes, each once and in order.
 pub trait Source {
-    /// The bytes that are left, where the source tells them.
+    /// The bytes that are left, if the source shows them.
     ghost remaining: { Self → Option (List ℕ) };
 
     /// Whether a read has failed.
     ghost has_failed: { Self → Bool };
 
-    /// How many reads may still be asked for: every further one is a fault.
+    /// How many more reads may be tried: every further one fails.
     ghost reads_left: { Self → ℕ };
 
-    /// Reads into the front of the buffer, and answers how many bytes it wrote there: 0 only at
-    /// the end, or for an empty buffer. A fault has read nothing.
+    /// Reads into the front of the buffer, and returns how many bytes it wrote there: 0 only at the
+    /// end, or for an empty buffer. A failed read has read nothing.
     ///
-    /// Of any source at most 18446744073709551615 reads succeed.
+    /// At most 18446744073709551615 reads of a source succeed.
     fn read(&mut self, buffer: &mut [u8]) -> Result<usize, ReadFault>
         ensures count { IfOk result (λ n. n ≤ length buffer.new) }
         ensures bytes { ReadConsumes (remaining self.old) (remaining self.new) result buffer.new }
@@ -36,8 +36,8 @@ pub trait Source {
         ensures failed { OnErr result (IsTrue (has_failed self.new)) };
 }
 
-/// The bytes of a reader of std. Any error of the reader is a fault, and so is every read after
-/// the first 18446744073709551615.
+/// A source that reads from a reader of std. An error of the reader is a fault, and so is every
+/// read after the first 18446744073709551615.
 #[derive(Drop)]
 pub struct Input<R> {
     reader: R,
@@ -46,7 +46,7 @@ pub struct Input<R> {
 }
 
 impl<R: Read> Input<R> {
-    /// Reads from `reader` on.
+    /// Returns a source of what is left of `reader`.
     pub fn new(reader: R) -> Self
         ensures remaining { ⟦<Input<R> as Source>⟧.remaining result ≡ R.remaining reader }
         ensures sound { ⟦<Input<R> as Source>⟧.has_failed result ≡ false }
@@ -59,7 +59,7 @@ impl<R: Read> Input<R> {
         }
     }
 
-    // Notes the fault.
+    // Records the fault.
     fn fail(&mut self) -> ReadFault
         ensures reader { self.new.reader ≡ self.old.reader }
         ensures reads { self.new.reads_left ≡ self.old.reads_left }

@@ -1,4 +1,4 @@
--- What a line asks is one thing: the line's first word tells the form.
+-- A line has one request: its first word determines the form.
 use Rattle.std.proofs.Common.{◌≡◌, ◌≢◌, ℕ, Bool, true, false, nat_eq, List, [], ◌∷◌, drop, refl, sym, ap, ◌∙◌, subst, get_or, Result, Ok, Err, Option, Some, None, MatchOption, Bor}
 use Rattle.std.specs.declared.ops.Bound.{Bound}
 use Rattle.std.specs.declared.ops.Bound.TheVariants.{Included, Excluded, Unbounded}
@@ -69,7 +69,7 @@ first_with (word ∷ words) text = if bytes_eq (word_text word) text then word e
 abbrev word_of : List ℕ → Word
 word_of text = first_with table text
 
--- each word stands in the table, and is the first one with its text
+-- each word is in the table, and is the first one with its text
 read_back : (word : Word) → word_of (word_text word) ≡ word
 read_back Env = refl
 read_back Parse = refl
@@ -143,11 +143,11 @@ takes_same (two_cells {command = command} p) (two_cells q) = two_same (pair_requ
 takes_same (cell_and_names {command = command} p) (cell_and_names q) = named_same (with_names command) p q
 takes_same (cell_and_bounds {command = command} p) (cell_and_bounds q) = ranged_same (with_range command) p q
 
--- a line without a space asks nothing
+-- a line without a space has no request
 pub asks_spaced : {line : List ℕ} {request : Request} → HasNoSpace line → Asks line request → ⊥
 asks_spaced h a = spaced_has (word_text a.word) a.text (subst HasNoSpace a.parts h)
 
--- the first word, and what is behind it
+-- the first word, and the text after it
 asked : {line : List ℕ} {request : Request} (first rest : List ℕ) → HasNoSpace first → line ≡ with_space first rest → (a : Asks line request) → (first ≡ word_text a.word) × (rest ≡ a.text)
 asked first rest h e a = spaced_same first (word_text a.word) rest a.text h (word_has_no_space a.word) (sym e ∙ a.parts)
 
@@ -159,7 +159,7 @@ asks_behind {request = request} word rest e a =
     let s = asked (word_text word) rest (word_has_no_space word) e a in
     subst (λ (x : Word). Takes x rest request) (sym (same_word word a.word s.0)) (subst (λ (x : List ℕ). Takes a.word x request) (sym s.1) a.takes)
 
--- A line asks one thing.
+-- A line has one request.
 asks_same : {line : List ℕ} {a b : Request} → Asks line a → Asks line b → b ≡ a
 asks_same p q = takes_same p.takes (asks_behind p.word p.text p.parts q)
 
@@ -171,7 +171,7 @@ pub asks_only : {E : Type 0} (line : List ℕ) (r : Result LineCommand E) → If
 asks_only line (Ok command) a = λ request b. asks_same a b
 asks_only line (Err e) a = tt
 
--- texts behind a word that ask nothing
+-- texts after a word that make no request
 pub no_key : {text : List ℕ} {request : Request} → HasNoSpace text → Takes Env text request → ⊥
 no_key h (key_and_value {key = key} {value = value} e k) = spaced_has key value (subst HasNoSpace e h)
 

@@ -1,4 +1,4 @@
--- What a session of lines does: names, values, and what is served, told by the states that sessions stand for.
+-- The work of a session of lines: names, values, and what is served, by the states of sessions.
 use Rattle.std.proofs.Common.{◌≡◌, ◌≢◌, ℕ, codes, lit<, ◌<◌, ◌+◌, List, [], ◌∷◌, ◌++◌, Option, take, length, get_or, suc, zero, sym, ◌∙◌, subst, refl, inl, Ok, Err, arith}
 use denote.Ref.{Bor}
 use Rattle.std.proofs.lemmas.List.{take_more}
@@ -37,7 +37,7 @@ names_more {names} {more} {normal} words i d below n p made =
     subst (Names (texts_of (take (i + 1) words))) (sym made)
     (subst (λ (x : List (List ℕ)). Names x (names ++ (normal ∷ []))) (sym (texts-push (take i words) (get_or words i d) (take_more words i d below))) (names_then n p))
 
--- one of the words is no name
+-- one of the words is an invalid name
 pub names_refused : {names : List (List ℕ)} (words : List (Bor (List ℕ))) (i : ℕ) (d : Bor (List ℕ)) → i < length words → (IsName (get_or words i d).now → ⊥) → Names (texts_of words) names → ⊥
 names_refused [] i d below refused n = omega arith
 names_refused (word ∷ words) zero d below refused (name p n) = refused (_, p)
@@ -62,11 +62,11 @@ zero_alone says =
     let same = some-value _ _ (sym (version-again _ _ says.version) ∙ version-again _ _ zero_said) in
     λ i. record { string = says.string i; version = same i }
 
--- values of which each text is empty, and each version is written `0`
+-- values with each text empty, and each version written `0`
 pub first_values : (values : Values) → ((variable : TextVariable) → values.text variable ≡ []) → ((key : MarkerValueVersion) → Says (codes "0") (values.version key)) → values ≡ start.values
 first_values values texts versions = λ i. record { text = λ variable. texts variable i; version = λ key. zero_alone (versions key) i }
 
--- values of which one is set are those of the state
+-- if one of the values is set, they are those of the state
 pub sets_text : {old same new : Values} {variable : TextVariable} {value given : List ℕ} → same ≡ old → given ≡ value → SetsText same new variable given → SetsText old new variable value
 sets_text {old} {same} {new} {variable} {value} {given} p q s = subst (λ (x : List ℕ). SetsText old new variable x) q (subst (λ (v : Values). SetsText v new variable given) p s)
 
@@ -77,7 +77,7 @@ sets_version {old} {same} {new} {key} {value} p s = subst (λ (v : Values). Sets
 pub for_request : {old new : State} {reply : List ℕ} {r s : Request} → r ≡ s → RequestStep old s reply new → RequestStep old r reply new
 for_request {old} {new} {reply} e step = subst (λ (x : Request). RequestStep old x reply new) (sym e) step
 
--- the machine answers what it is asked in another way
+-- the machine answers the same request in another form
 pub asked_as : {old new : State} {asked other : Machine.Request} {answer : Answer} → asked ≡ other → Step old.cells asked answer new.cells → new.values ≡ old.values → MachineStep old other answer new
 asked_as {old} {new} {answer = answer} e step same = record { step = subst (λ (x : Machine.Request). Step old.cells x answer new.cells) e step; values = same }
 

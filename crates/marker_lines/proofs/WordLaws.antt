@@ -40,7 +40,7 @@ min_below n m h = omega arith
 min_above : (n m : ℕ) → m ≤ n → m - 1 ≡ min n (m - 1)
 min_above n m h = omega arith
 
--- what `parse` answers for a numeral, or else the greatest usize
+-- the result of `parse` for a numeral, or the greatest usize
 cell_from : {E : Type 0} (bytes : List ℕ) (r : Result ℕ E) → IsNumeral 10 bytes → OkIff r ((0 < length bytes) × (digits_value 10 bytes < 2 ^ 64)) (digits_value 10 bytes) → result_unwrap_or r (2 ^ 64 - 1) ≡ cell_number bytes
 cell_from bytes (Ok x) n h = h.1 ∙ min_below (digits_value 10 bytes) (2 ^ 64) h.0.1
 cell_from bytes (Err e) n h = ⊎_elim (λ (below : digits_value 10 bytes < 2 ^ 64). absurd (h (n.0, below))) (λ (above : 2 ^ 64 ≤ digits_value 10 bytes). min_above (digits_value 10 bytes) (2 ^ 64) above) (cases_lt (digits_value 10 bytes) (2 ^ 64))
@@ -65,7 +65,7 @@ no_words (last is) e = is.some e
 no_words (more {word = []} parts is later) e = is.some refl
 no_words (more {word = b ∷ word} parts is later) e = not_cons (sym e ∙ parts)
 
--- what `split_once` answers at a space
+-- the result of `split_once` at a space
 pub split_at_space : (text : List ℕ) (r : Option (Bor (List ℕ) × Bor (List ℕ))) → IsSplitOnceResult 32 text r → MatchOption r (HasNoSpace text) (λ parts. HasNoSpace parts.0.now × (text ≡ with_space parts.0.now parts.1.now))
 split_at_space text None h = All-from_get_or (λ (b : ℕ). b ≢ 32) text 0 (split_parts 32 text None h (omega arith))
 split_at_space text (Some x) h =

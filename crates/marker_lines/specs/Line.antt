@@ -1,5 +1,5 @@
--- What a line of the program `markers` asks. A line is UTF-8, and is given here
--- without its line feed, as bytes.
+-- The request of a line of the program `markers`. A line is UTF-8, and is given here as bytes,
+-- without its line feed.
 use Rattle.std.specs.Prelude.{◌≡◌, ◌≢◌, ℕ, ◌-◌, ◌^◌, min, List, [], ◌∷◌, ◌++◌, All, codes}
 use Rattle.std.specs.Str.Parse.{IsNumeral, digits_value}
 use Rattle.std.specs.declared.ops.Bound.{Bound}
@@ -14,7 +14,7 @@ use Rattle.marker_lines.specs.declared.word.NamesCommand.{NamesCommand}
 use Rattle.marker_lines.specs.declared.word.RangeCommand.{RangeCommand}
 use Rattle.marker_lines.specs.Word.{word_text, cell_request, pair_request}
 
--- two texts, parted by one space
+-- two texts, separated by one space
 abbrev pub with_space : List ℕ → List ℕ → List ℕ
 with_space before after = before ++ (32 ∷ after)
 
@@ -27,7 +27,7 @@ pub record IsWord (bytes : List ℕ) : Type 0 where
   pub some : bytes ≢ []
   pub no_space : HasNoSpace bytes
 
--- The text is these words, one or more, parted by exactly one space.
+-- The text is these words, one or more, separated by exactly one space.
 pub data Words : List ℕ → List (List ℕ) → Type 0 where
   last : {word : List ℕ} → IsWord word → Words word (word ∷ [])
   more : {text word rest : List ℕ} {words : List (List ℕ)} → text ≡ with_space word rest
@@ -43,7 +43,7 @@ pub record OneCell (text : List ℕ) (cell : ℕ) : Type 0 where
   pub digits : IsNumeral 10 text
   pub number : cell ≡ cell_number text
 
--- the text is the numbers of these two cells, parted by one space
+-- the text is the numbers of these two cells, separated by one space
 pub record TwoCells (text : List ℕ) (left right : ℕ) : Type 0 where
   pub first : List ℕ
   pub second : List ℕ
@@ -57,7 +57,7 @@ bound_word (Included version) = codes "incl:" ++ version
 bound_word (Excluded version) = codes "excl:" ++ version
 bound_word Unbounded = codes "none"
 
--- the text is the number of this cell and these two bounds, parted by one space each
+-- the text is the number of this cell and these two bounds, separated by one space each
 pub record CellAndBounds (text : List ℕ) (cell : ℕ)
     (lower upper : Bound (List ℕ)) : Type 0 where
   pub number : List ℕ
@@ -66,22 +66,22 @@ pub record CellAndBounds (text : List ℕ) (cell : ℕ)
   pub lower_word : HasNoSpace (bound_word lower)
   pub upper_word : HasNoSpace (bound_word upper)
 
--- the text is the number of this cell and these names, parted by one space each
+-- the text is the number of this cell and these names, separated by one space each
 pub record CellAndNames (text : List ℕ) (cell : ℕ) (names : List (List ℕ)) : Type 0 where
   pub number : List ℕ
   pub words : Words text (number ∷ names)
   pub is_cell : OneCell number cell
 
--- what a line may ask
+-- the requests of lines
 pub data Request : Type 0 where
   set : (key value : List ℕ) → Request
-  -- what the machine is asked as it stands
+  -- a request to the machine as it is
   run : Machine.Request → Request
   with_names : NamesCommand → (cell : ℕ) (names : List (List ℕ)) → Request
   -- bounds with the texts of their versions
   with_range : RangeCommand → (cell : ℕ) (lower upper : Bound (List ℕ)) → Request
 
--- Behind this word the text asks this.
+-- After this word the text is this request.
 pub data Takes : Word → List ℕ → Request → Type 0 where
   -- env KEY VALUE: the value is the rest of the line as it is
   key_and_value : {text key value : List ℕ} → text ≡ with_space key value → HasNoSpace key
@@ -103,7 +103,7 @@ pub data Takes : Word → List ℕ → Request → Type 0 where
       {lower upper : Bound (List ℕ)} → CellAndBounds text cell lower upper
       → Takes (WithRange command) text (with_range command cell lower upper)
 
--- The line asks this. A line of no such form is malformed.
+-- The line is this request. A line of no such form is malformed.
 pub record Asks (line : List ℕ) (request : Request) : Type 0 where
   pub word : Word
   pub text : List ℕ

@@ -51,7 +51,7 @@ pub data SaysBound : Bound (List ℕ) → Bound Parts → Type 0 where
       → IsVersionText text version → SaysBound (Excluded text) (Excluded version)
   unbounded : SaysBound Unbounded Unbounded
 
--- one of the words is no name
+-- one of the words is an invalid name
 abbrev pub HasNoNames : List (List ℕ) → Type 0
 HasNoNames words = (names : List (List ℕ)) → Names words names → ⊥
 

@@ -1,4 +1,4 @@
--- The request that a value of the crate stands for.
+-- The request of a value of the crate.
 use Rattle.std.specs.Prelude.{ℕ, List, map}
 use denote.Ref.{Bor}
 use Rattle.std.specs.Range.Bound.{bound_map}

@@ -1,5 +1,5 @@
--- How the program `markers` writes what the machine answers, without the line feed
--- that ends it.
+-- The replies of the program `markers` to what the machine answers, without the line feeds that end
+-- them.
 use Rattle.std.specs.Prelude.{ℕ, true, false, List, ◌++◌, Some, None, codes}
 use Rattle.std.specs.Fmt.{decimal}
 use Rattle.std.specs.List.{flat_map}
@@ -15,7 +15,7 @@ kind_name MarkerMarkerComparison = codes "MarkerMarkerComparison"
 kind_name Pep440Error = codes "Pep440Error"
 kind_name StringStringComparison = codes "StringStringComparison"
 
--- a kind behind a number
+-- a kind after a number
 abbrev pub kind_text : MarkerWarningKind → List ℕ
 kind_text kind = codes " " ++ kind_name kind
 
@@ -28,8 +28,8 @@ reason_text (marker start len message) =
     codes "error marker "
     ++ (decimal start ++ (codes " " ++ (decimal len ++ (codes " " ++ message))))
 
--- a new cell is told with the kinds of its text's warnings, a fault with its start and length in
--- bytes; no line asks for a comparison that the machine could refuse as invalid
+-- a new cell has the kinds of its text's warnings, a fault its start and length in bytes; no line
+-- has a comparison that the machine could refuse as invalid
 abbrev pub reply_text : Answer → List ℕ
 reply_text (cell n kinds) = (codes "cell " ++ decimal n) ++ flat_map kind_text kinds
 reply_text (truth_is true) = codes "true"

@@ -1,4 +1,4 @@
--- The first words of lines, and what the machine is asked by them.
+-- The first words of lines, and the requests to the machine that they name.
 use Rattle.std.specs.Prelude.{ℕ, List, codes}
 use Rattle.std.specs.declared.ops.Bound.{Bound}
 use Rattle.pep440_version.specs.Parts.{Parts}
@@ -31,25 +31,25 @@ word_text (WithNames Possible) = codes "possible"
 word_text (WithRange Simplify) = codes "simplify"
 word_text (WithRange Complexify) = codes "complexify"
 
--- what is asked of a cell
+-- the request on a cell
 abbrev pub cell_request : CellCommand → ℕ → Machine.Request
 cell_request Not cell = make (Machine.negation cell)
 cell_request Text cell = print cell
 
--- what is asked of two cells
+-- the request on two cells
 abbrev pub pair_request : PairCommand → ℕ → ℕ → Machine.Request
 pair_request And left right = make (Machine.conjunction left right)
 pair_request Or left right = make (Machine.disjunction left right)
 pair_request Equal left right = ask (Machine.equal left right)
 pair_request Disjoint left right = ask (Machine.disjoint left right)
 
--- what is asked of a cell with extras; only an evaluation reads the values of the environment
+-- the request on a cell with extras; only an evaluation reads the values of the environment
 abbrev pub names_request : NamesCommand → ℕ → Values → List (List ℕ) → Machine.Request
 names_request Extras cell values names = make (Machine.simplify_extras cell names)
 names_request Evaluate cell values names = ask (Machine.evaluate cell values names)
 names_request Possible cell values names = ask (Machine.evaluate_extras cell names)
 
--- what is asked of a cell with a range of Python versions
+-- the request on a cell with a range of Python versions
 abbrev pub range_request : RangeCommand → ℕ → Bound Parts → Bound Parts → Machine.Request
 range_request Simplify cell lower upper = make (Machine.simplify_python cell lower upper)
 range_request Complexify cell lower upper = make (Machine.complexify_python cell lower upper)

@@ -1,11 +1,11 @@
-//! The keys that a line sets.
+//! The keys that a line can set.
 
 ghost use Rattle.std.specs.Prelude.{◌≡◌, MatchOption};
 ghost use Rattle.marker_lines.specs.Key.{key_name, IsNoKey};
 
 use marker_words::{MarkerValue, MarkerValueVersion, TextVariable};
 
-// A key of an environment. What is deprecated is not one.
+// A key of an environment, without the deprecated ones.
 #[derive(Clone, Copy)]
 pub(crate) enum EnvironmentKey {
     Text(TextVariable),
@@ -13,7 +13,7 @@ pub(crate) enum EnvironmentKey {
 }
 
 impl EnvironmentKey {
-    // The key whose modern name this is.
+    // The key with this modern name.
     pub(crate) fn parse(name: &str) -> Option<EnvironmentKey>
         ensures { MatchOption result (IsNoKey name.now) (λ key. name.now ≡ key_name key) }
     {

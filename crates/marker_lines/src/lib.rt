@@ -1,4 +1,4 @@
-//! What a line of the program `markers` asks, and how a session answers it with a line.
+//! The lines of the program `markers`: their commands, and the lines that a session replies.
 #![tactic(auto)]
 
 mod key;
@@ -7,4 +7,4 @@ mod line_session;
 mod reply;
 mod word;
 
-pub use line_session::serve;
+pub use line_session::{LineSession, serve};

@@ -1,4 +1,4 @@
-//! What a line of the program `markers` asks.
+//! The command of a line of the program `markers`.
 
 ghost use Rattle.std.specs.Prelude.{◌≡◌, ◌≢◌, ◌<◌, ◌↔◌, ℕ, List, Err, IsTrue, IfOk, MatchOption, EachIndex, length, slice_index};
 ghost use Rattle.std.specs.Int.{IsInRange};
@@ -13,19 +13,19 @@ use pep508_markers::Command;
 use std::alloc::Global;
 use std::ops::Bound;
 
-// Why a line asks nothing.
+// Why a line has no command.
 #[derive(Clone, Copy)]
 pub(crate) enum LineFault {
     // The line's bytes are not UTF-8.
     NotUtf8,
     // The line has none of the forms of `LineCommand`.
     Malformed,
-    // Room for the line's words was refused.
+    // Memory for the line's words ran out.
     OutOfMemory,
 }
 
-// What a line asks. Keys, names, texts and those of versions are as they stand in the line, and not
-// judged.
+// The command of a line. Keys, names, texts and those of versions are as they are in the line, and
+// not validated.
 #[derive(Drop)]
 pub(crate) enum LineCommand<'a> {
     // `env KEY VALUE`
@@ -33,7 +33,7 @@ pub(crate) enum LineCommand<'a> {
         key: &'a str,
         value: &'a str,
     },
-    // `parse TEXT`, and what is asked of one cell or two: `not A`, `text A`, `and A B`, ..
+    // `parse TEXT`, and commands on one cell or two: `not A`, `text A`, `and A B`, ..
     Run(Command<'a>),
     // `extras A NAME ..`, `eval A NAME ..`, `possible A NAME ..`
     WithNames {
@@ -51,11 +51,12 @@ pub(crate) enum LineCommand<'a> {
 }
 
 impl<'a> LineCommand<'a> {
-    // Reads a line, which is given without its line feed.
+    // Parses a line, which is given without its line feed.
     //
     // A line that is not UTF-8 is `NotUtf8`. Any other that has none of the forms above is
     // `Malformed`: another command word, a wrong number of words, two spaces in a row or a space at
-    // the end outside of a value or a text, a cell that is no number, a word that is no bound.
+    // the end outside of a value or a text, a cell that is not a number, a word that is not a
+    // bound.
     pub(crate) fn read(alloc: Global, line: &'a [u8]) -> Result<LineCommand<'a>, LineFault>
         ensures asks { IfOk result (λ command. Asks line.now (request_of command)) }
         ensures only { IfOk result (λ command. (request : Request)
@@ -79,7 +80,7 @@ impl<'a> LineCommand<'a> {
     }
 }
 
-// What is asked by a word and the text behind it.
+// The command of a word and the text after it.
 fn read_behind<'a>(alloc: Global, word: Word, text: &'a str) -> Result<LineCommand<'a>, LineFault>
     ensures takes { IfOk result (λ command. Takes word text.now (request_of command)) }
     ensures text { result ≢ Err LineFault.NotUtf8 }
@@ -164,7 +165,7 @@ fn cell_and_bounds(text: &str) -> Option<(usize, Bound<&str>, Bound<&str>)>
     Some((cell, lower, upper))
 }
 
-// The bound that a word is, with the text of its version.
+// The bound of a word, with the text of its version.
 fn read_bound(word: &str) -> Option<Bound<&str>>
     ensures { MatchOption result ((bound : Bound (List ℕ)) → word.now ≡ bound_word bound → ⊥)
         (λ bound. word.now ≡ bound_word (bound_text_of bound)) }
@@ -227,7 +228,7 @@ fn words<'a>(alloc: Global, text: &'a str) -> Result<Vec<&'a str>, LineFault>
     }
 }
 
-// What comes before the first space, and after it.
+// The text before and after the first space.
 fn split_word(text: &str) -> Option<(&str, &str)>
     ensures { MatchOption result (HasNoSpace text.now)
         (λ parts. HasNoSpace parts.0.now × (text.now ≡ with_space parts.0.now parts.1.now)) }
@@ -245,7 +246,7 @@ fn read_cell(word: &str) -> Option<usize>
     Some(word.parse().unwrap_or(usize::MAX))
 }
 
-// One ASCII digit or more, and nothing else.
+// Whether a word is one or more ASCII digits.
 fn is_number(word: &[u8]) -> bool
     ensures { IsTrue result ↔ ((0 < length word.now)
         × EachIndex word.now (λ k. IsInRange 48 57 (slice_index word.now k))) }

@@ -1,4 +1,4 @@
-//! A session that is spoken to in lines.
+//! A session with commands and replies as lines.
 
 ghost use Rattle.std.specs.Prelude.{◌≡◌, ◌≢◌, IsTrue, Err, IfOk, OnOk, OnErr, MatchOption};
 ghost use Rattle.std.specs.Io.KnownBytes.{IsAtEnd};
@@ -26,27 +26,44 @@ use refusal::unless_fault;
 use std::alloc::{AllocError, Global};
 use std::ops::Bound;
 
-// A session, and the environment in which its cells are evaluated.
+/// A session, and the environment in which its cells are evaluated.
 #[derive(Drop)]
-struct LineSession {
+pub struct LineSession {
     alloc: Global,
     session: Session,
     environment: MarkerEnvironment,
 }
 
 impl LineSession {
-    // A session with no cells, and an environment of empty texts and of versions 0.
-    fn new(alloc: Global) -> Result<LineSession, AllocError>
+    /// Returns a session without cells, with an environment of empty texts and of versions 0.
+    pub fn new(alloc: Global) -> Result<LineSession, AllocError>
+        ensures { IfOk result (λ session. state_of session ≡ start) }
+    {
+        LineSession::with_key_and_room(alloc, [0, 0], usize::MAX)
+    }
+
+    /// Returns a session as `new` does, whose interner hashes by a key of two random words and has
+    /// room for `pieces` pieces of nodes. A line that needs more is answered by `error memory`.
+    pub fn with_key_and_room(
+        alloc: Global,
+        key: [u64; 2],
+        pieces: usize,
+    ) -> Result<LineSession, AllocError>
         ensures { IfOk result (λ session. state_of session ≡ start) }
     {
         Ok(LineSession {
             alloc,
-            session: Session::new(alloc),
+            session: Session::with_key_and_room(alloc, key, pieces),
             environment: first_environment(alloc)?,
         })
     }
 
-    // Does what a line asks, and adds the reply.
+    /// Returns whether a line was ever refused because the interner was full.
+    pub fn has_met_room(&self) -> bool {
+        self.session.has_met_room()
+    }
+
+    // Runs the command of a line, and appends the reply.
     fn run(&mut self, command: LineCommand<'_>, replies: &mut Vec<u8>) -> Result<(), AllocError>
         ensures { OnOk result (Replies self.old (request_of command.entry)
             self.new replies.old.items replies.new.items) }
@@ -71,7 +88,7 @@ impl LineSession {
         }
     }
 
-    // Sets a value of the environment. The key is judged before the value.
+    // Sets a value of the environment. The key is validated before the value.
     fn set(&mut self, key: &str, value: &str, replies: &mut Vec<u8>) -> Result<(), AllocError>
         ensures { OnOk result (Replies self.old (set key.now value.now)
             self.new replies.old.items replies.new.items) }
@@ -93,7 +110,7 @@ impl LineSession {
         }
     }
 
-    // Runs a command with extras. Their names are judged before the cell.
+    // Runs a command with extras. Their names are validated before the cell.
     fn run_with_names(
         &mut self,
         command: NamesCommand,
@@ -112,7 +129,7 @@ impl LineSession {
         put_reply(replies, &reply)
     }
 
-    // Runs a command with a range of Python versions. Its bounds are judged before the cell.
+    // Runs a command with a range of Python versions. Its bounds are validated before the cell.
     fn run_with_range(
         &mut self,
         command: RangeCommand,
@@ -176,7 +193,7 @@ fn first_environment(alloc: Global) -> Result<MarkerEnvironment, AllocError>
     }
 }
 
-// The version that a value says, or nothing where it is none.
+// The version of a value, or `None` if it is invalid.
 fn read_version(alloc: Global, value: &str) -> Result<Option<StringVersion>, AllocError>
     ensures { IfOk result (λ read. MatchOption read
         ((version : Parts) → IsVersionText value.now version → ⊥)
@@ -185,7 +202,7 @@ fn read_version(alloc: Global, value: &str) -> Result<Option<StringVersion>, All
     unless_fault(StringVersion::parse(alloc, value))
 }
 
-// The bound with the version that its text says, or nothing where it says none.
+// The bound with its text parsed as a version, or `None` if that is invalid.
 fn read_bound(alloc: Global, bound: Bound<&str>) -> Result<Option<Bound<Version>>, AllocError>
     ensures { IfOk result (λ read. MatchOption read
         (SaysNoBound (bound_text_of bound.entry)) (SaysBound (bound_text_of bound.entry))) }
@@ -203,7 +220,7 @@ fn read_bound(alloc: Global, bound: Bound<&str>) -> Result<Option<Bound<Version>
     }
 }
 
-// The names of extras, or nothing where a word is no name.
+// The names of extras, or `None` if a word is an invalid name.
 fn read_names(alloc: Global, words: &[&str]) -> Result<Option<Vec<ExtraName>>, AllocError>
     ensures { IfOk result (λ read. MatchOption read
         (HasNoNames (texts_of words.now)) (λ names. Names (texts_of words.now) names.items)) }
@@ -218,31 +235,39 @@ fn read_names(alloc: Global, words: &[&str]) -> Result<Option<Vec<ExtraName>>, A
     Ok(Some(names))
 }
 
-/// Answers each line that the reader gives with a line to the writer, in order, until no line is
-/// left, beginning with no cells and an environment of empty texts and of versions `0`. The replies
-/// to all whole lines read so far are written before the reader is asked again.
+/// Answers each line of the reader with a line to the writer, in order, until no line is left. It
+/// begins without cells, and with an environment of empty texts and of versions `0`. The replies to
+/// all complete lines are written before the reader is read again.
 ///
-/// | Line | What it asks |
+/// | Line | Effect or reply |
 /// |---|---|
 /// | `env KEY VALUE` | sets a key, by its modern name; the value is the rest of the line as it is |
-/// | `parse TEXT` | reads a marker into a new cell; the text is the rest of the line as it is |
+/// | `parse TEXT` | parses a marker into a new cell; the text is the rest of the line as it is |
 /// | `not A`, `and A B`, `or A B` | make a cell of others |
 /// | `equal A B`, `disjoint A B` | compare cells |
-/// | `text A` | the text of a cell, or none where it is true everywhere |
-/// | `extras A NAME ..` | makes a cell of another one with extras set true |
+/// | `text A` | the text of a cell, or none if it is true everywhere |
+/// | `extras A NAME ..` | makes a cell of another one with extras set to true |
 /// | `eval A NAME ..` | whether a cell is true in the environment with these extras |
-/// | `possible A NAME ..` | whether a cell is true in some valuation with exactly these extras |
+/// | `possible A NAME ..` | whether a cell can be true with exactly these extras |
 /// | `simplify A LOWER UPPER` | makes a cell of another one, for Python in a range |
 /// | `complexify A LOWER UPPER` | makes a cell of the conjunction of another one with a range |
 ///
-/// Words are parted by exactly one space. A and B are numbers of cells in ASCII digits; one beyond
-/// `usize::MAX` is read as that. A bound is `none`, `incl:V` or `excl:V` with a version's text.
+/// The interner of the cells hashes by `key`, two random words, and has room for `pieces` pieces of
+/// nodes. A line that needs more is answered by `error memory`, and its nodes are removed.
 ///
-/// `Err` is `Input` where the reader failed, `Output` where the writer failed, and else `Memory`,
-/// where room for a line, its words or its reply was refused. After a failed read the replies to
-/// all whole lines that were read are written, after the other two a beginning of them.
+/// Words are separated by exactly one space. A and B are numbers of cells in ASCII digits; one
+/// above `usize::MAX` counts as that. A bound is `none`, `incl:V` or `excl:V` with a version's
+/// text.
+///
+/// # Errors
+/// - `Input` if the reader failed. The replies to all complete lines were written.
+/// - `Output` if the writer failed. A beginning of the replies was written.
+/// - `Memory` when memory for a line, its words or its reply runs out. A beginning of the replies
+///   was written.
 pub fn serve<R: Source, W: Sink>(
     alloc: Global,
+    key: [u64; 2],
+    pieces: usize,
     reader: &mut R,
     writer: &mut W,
 ) -> Result<(), ServeFault>
@@ -271,7 +296,7 @@ pub fn serve<R: Source, W: Sink>(
         W.has_failed writer.new ≡ W.has_failed writer.old }
     ensures no_usage { result ≢ Err ServeFault.Usage }
 {
-    let Ok(mut session) = LineSession::new(alloc) else {
+    let Ok(mut session) = LineSession::with_key_and_room(alloc, key, pieces) else {
         return Err(ServeFault::Memory);
     };
     serve_lines(alloc, &mut session, reader, writer)

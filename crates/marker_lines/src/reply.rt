@@ -1,4 +1,4 @@
-//! How the program `markers` writes what a session replies.
+//! Writing the replies of a session for the program `markers`.
 
 ghost use Rattle.std.specs.Prelude.{◌≡◌, ◌++◌, IfSome, OnOk};
 ghost use Rattle.std.specs.List.{flat_map};
@@ -11,21 +11,21 @@ use std::alloc::AllocError;
 use std::fmt::Display;
 use std::io::Write;
 
-// Adds a text to the replies.
+// Appends a text to the replies.
 pub(crate) fn put(replies: &mut Vec<u8>, text: &str) -> Result<(), AllocError>
     ensures { OnOk result (replies.new.items ≡ replies.old.items ++ text.now) }
 {
     replies.extend_from_slice(text.as_bytes())
 }
 
-// Adds what a value is printed as.
+// Appends a printed value.
 fn put_printed<D: Display + Drop>(replies: &mut Vec<u8>, value: D) -> Result<(), AllocError>
     ensures { OnOk result (IfSome (D.output value)
         (λ bytes. replies.new.items ≡ replies.old.items ++ bytes)) }
 {
     match replies.write_fmt(value) {
         Ok(()) => Ok(()),
-        // A list has no other fault than want of memory.
+        // A list has no other error than an allocation failure.
         Err(_) => Err(AllocError),
     }
 }
@@ -44,7 +44,7 @@ fn name_of_kind(kind: MarkerWarningKind) -> &'static str
     }
 }
 
-// Adds a space and the name of each kind.
+// Appends a space and the name of each kind.
 fn put_kinds(replies: &mut Vec<u8>, kinds: &[MarkerWarningKind]) -> Result<(), AllocError>
     ensures { OnOk result
         (replies.new.items ≡ replies.old.items ++ flat_map kind_text kinds.now) }
@@ -56,7 +56,7 @@ fn put_kinds(replies: &mut Vec<u8>, kinds: &[MarkerWarningKind]) -> Result<(), A
     Ok(())
 }
 
-// Adds a reply to the replies, without the line feed that ends it.
+// Appends a reply to the replies, without the line feed that ends it.
 pub(crate) fn put_reply(replies: &mut Vec<u8>, reply: &Reply) -> Result<(), AllocError>
     ensures { OnOk result
         (replies.new.items ≡ replies.old.items ++ reply_text (answer_of reply.now)) }
@@ -78,7 +78,7 @@ pub(crate) fn put_reply(replies: &mut Vec<u8>, reply: &Reply) -> Result<(), Allo
     }
 }
 
-// Adds the reply to a refused command.
+// Appends the reply to a refused command.
 fn put_reason(replies: &mut Vec<u8>, reason: &Reason) -> Result<(), AllocError>
     ensures { OnOk result
         (replies.new.items ≡ replies.old.items ++ reason_text (reason_of reason.now)) }

@@ -1,4 +1,4 @@
-//! The first words of lines, by what stands behind them.
+//! The first words of lines, by what follows them.
 
 ghost use Rattle.std.specs.Prelude.{◌≡◌, ◌≢◌, MatchOption};
 ghost use Rattle.version_ranges.specs.Clamp.{bound_of};
@@ -12,7 +12,7 @@ use pep508_markers::Command;
 use pep508_names::ExtraName;
 use std::ops::Bound;
 
-// The word that a line begins with, which tells what the line asks.
+// The word that a line begins with, which names the command.
 #[derive(Clone, Copy)]
 pub(crate) enum Word {
     // `env`
@@ -25,7 +25,7 @@ pub(crate) enum Word {
     WithRange(RangeCommand),
 }
 
-// What is asked of a cell.
+// A command on a cell.
 #[derive(Clone, Copy)]
 pub(crate) enum CellCommand {
     // `not`
@@ -34,7 +34,7 @@ pub(crate) enum CellCommand {
     Text,
 }
 
-// What is asked of two cells.
+// A command on two cells.
 #[derive(Clone, Copy)]
 pub(crate) enum PairCommand {
     // `and`
@@ -47,7 +47,7 @@ pub(crate) enum PairCommand {
     Disjoint,
 }
 
-// What is asked of a cell with names of extras.
+// A command on a cell and names of extras.
 #[derive(Clone, Copy)]
 pub(crate) enum NamesCommand {
     // `extras`
@@ -58,7 +58,7 @@ pub(crate) enum NamesCommand {
     Possible,
 }
 
-// What is asked of a cell with a range of Python versions.
+// A command on a cell and a range of Python versions.
 #[derive(Clone, Copy)]
 pub(crate) enum RangeCommand {
     // `simplify`
@@ -68,7 +68,7 @@ pub(crate) enum RangeCommand {
 }
 
 impl Word {
-    // The word of this text, in small letters as it stands above, or nothing where it is none.
+    // The word with this text, in small letters as above, or `None`.
     pub(crate) fn parse(text: &str) -> Option<Word>
         ensures { MatchOption result ((word : Word) → text.now ≢ word_text word)
             (λ word. text.now ≡ word_text word) }
@@ -131,7 +131,7 @@ impl PairCommand {
 }
 
 impl NamesCommand {
-    // The command on the cell with these extras, in the environment where it asks for one.
+    // The command on the cell with these extras, in the environment if it needs one.
     pub(crate) fn on<'a>(
         self,
         cell: usize,

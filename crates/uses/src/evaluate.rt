@@ -6,7 +6,7 @@ use pep508_rs::{
     VerbatimUrl,
 };
 
-const LINUX: MarkerEnvironmentBuilder<'static> = MarkerEnvironmentBuilder {
+pub const LINUX: MarkerEnvironmentBuilder<'static> = MarkerEnvironmentBuilder {
     implementation_name: "cpython",
     implementation_version: "3.12.1",
     os_name: "posix",
@@ -37,7 +37,7 @@ fn in_environment(
     Ok(())
 }
 
-// The marker in two environments, of which one is made of the other.
+// The marker in two environments; the second is the first with another value.
 fn in_environments(rt: &HostRuntime, dev: &[ExtraName], interner: &mut Interner) -> Result<()> {
     let alloc = rt.alloc();
     let win32 = String::from_str(alloc, "win32")?;

@@ -1,4 +1,4 @@
-//! Markers are read of texts, and it is told what is wrong with a text that is none.
+//! Markers are parsed, with warnings, and with an error for an invalid one.
 
 use anyhow::Result;
 use pep508_rs::{Interner, MarkerText, MarkerTree, Refusal, VerbatimUrl};
@@ -11,18 +11,20 @@ fn is_true_everywhere(alloc: Global, text: &str) -> Result<bool> {
     Ok(marker.is_true())
 }
 
-// A marker, and how many warnings there are of it.
-fn read_with_warnings(rt: &HostRuntime, interner: &mut Interner) -> Result<()> {
+// A marker with a warning, which has a kind and a text.
+fn parse_with_warnings(rt: &HostRuntime, interner: &mut Interner) -> Result<()> {
     let mut warnings = Vec::new(rt.alloc());
     let text = "'posix' == 'nt'";
     let marker = MarkerTree::parse_reporter::<VerbatimUrl, _>(text, &mut warnings, interner)?;
-    let is_true = marker.is_true();
-    println!(rt; "true everywhere: {is_true}, warnings: {}", warnings.len())?;
+    println!(rt; "true everywhere: {}", marker.is_true())?;
+    for (kind, warning) in &warnings {
+        println!(rt; "{kind:?}: {warning}")?;
+    }
     Ok(())
 }
 
-// A text that is no marker.
-fn read_faulty(rt: &HostRuntime, interner: &mut Interner) -> Result<()> {
+// An invalid marker.
+fn parse_invalid(rt: &HostRuntime, interner: &mut Interner) -> Result<()> {
     match MarkerTree::parse_str::<VerbatimUrl>("os_name = 'nt'", interner) {
         Ok(_marker) => println!(rt; "a marker")?,
         Err(Refusal::Fault(error)) => println!(rt; "at byte {}: {}", error.start, error.message)?,
@@ -36,6 +38,6 @@ pub fn run(rt: &HostRuntime) -> Result<()> {
     let is_true = is_true_everywhere(alloc, "os_name == 'nt' or os_name != 'nt'")?;
     println!(rt; "true everywhere: {is_true}")?;
     let mut interner = Interner::new(alloc);
-    read_with_warnings(rt, &mut interner)?;
-    read_faulty(rt, &mut interner)
+    parse_with_warnings(rt, &mut interner)?;
+    parse_invalid(rt, &mut interner)
 }

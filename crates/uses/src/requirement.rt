@@ -1,8 +1,7 @@
-//! Requirements with a name and without one, their URLs, and their JSON.
+//! Requirements with a name and without one, and their JSON.
 
 use anyhow::Result;
 use pep508_rs::{Interner, Requirement, Surroundings, UnnamedRequirement, VerbatimUrl};
-use std::collections::BTreeMap;
 
 const TEXT: &str = "Flask_Login[Dev] >= 2.0, < 3 ; os_name == 'nt'";
 
@@ -18,7 +17,7 @@ fn read_named(
     Ok(())
 }
 
-// A requirement as JSON, and read of it.
+// A requirement as JSON, and parsed from it.
 fn write(rt: &HostRuntime, surroundings: &Surroundings<'_>, interner: &mut Interner) -> Result<()> {
     let requirement = Requirement::<VerbatimUrl>::parse(TEXT, surroundings, interner)?;
     let json = requirement.to_json(interner)?;
@@ -53,25 +52,13 @@ fn url(rt: &HostRuntime) -> Result<()> {
     Ok(())
 }
 
-// All requirements in one interner.
-fn in_interner(
+pub fn run(
     rt: &HostRuntime,
     surroundings: &Surroundings<'_>,
     interner: &mut Interner,
 ) -> Result<()> {
+    url(rt)?;
     read_named(rt, surroundings, interner)?;
     write(rt, surroundings, interner)?;
     read_unnamed(rt, surroundings, interner)
-}
-
-pub fn run(rt: &HostRuntime) -> Result<()> {
-    url(rt)?;
-    let vars = BTreeMap::new(rt.alloc());
-    let surroundings = Surroundings {
-        vars: &vars,
-        project_root: "/srv",
-        working_dir: Some("/srv"),
-    };
-    let mut interner = Interner::new(rt.alloc());
-    in_interner(rt, &surroundings, &mut interner)
 }

@@ -13,7 +13,7 @@ returns-in-Set c =
 
 pub returns-in-Run : goal.returns-in-Run
 returns-in-Run c =
-    on_ok_weaker c.put_reply.result (λ w. (_, for_request (ap request_of c.in-Run.is) (is_run (answer_of c.execute-reply.result) (asked_as refl c.execute-reply.ensures refl)), w)) c.put_reply.ensures
+    on_ok_weaker c.put_reply.result (λ w. (_, for_request (ap request_of c.in-Run.is) (is_run (answer_of c.execute-reply.result) (asked_as refl c.execute-reply.ensures.answers refl)), w)) c.put_reply.ensures
 
 pub returns-in-WithNames : goal.returns-in-WithNames
 returns-in-WithNames c =

@@ -16,4 +16,4 @@ pub returns : goal.returns
 returns c =
     let names = rw c.in-Some.is at c.in_ok-extras.ensures in
     let request = c.on-command.ensures ∙ ap (names_request c.args.command c.args.cell (values_of c.args.self.now.environment)) c.deref.ensures.value in
-    on_ok_weaker c.put_reply.result (λ w. (_, is_run_with_names (answer_of c.execute-reply.result) names (asked_as request c.execute-reply.ensures refl), w)) c.put_reply.ensures
+    on_ok_weaker c.put_reply.result (λ w. (_, is_run_with_names (answer_of c.execute-reply.result) names (asked_as request c.execute-reply.ensures.answers refl), w)) c.put_reply.ensures

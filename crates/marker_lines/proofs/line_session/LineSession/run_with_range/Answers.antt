@@ -21,4 +21,4 @@ returns c =
     let low = rw c.in-Some.is at c.in_ok-lower.ensures in
     let high = rw c.in-Some-2.is at c.in_ok-upper.ensures in
     let request = c.on-command.ensures ∙ (λ i. range_request c.args.command c.args.cell (c.as_ref.ensures i) (c.as_ref-2.ensures i)) in
-    on_ok_weaker c.put_reply.result (λ w. (_, is_run_with_range (answer_of c.execute-reply.result) low high (asked_as request c.execute-reply.ensures refl), w)) c.put_reply.ensures
+    on_ok_weaker c.put_reply.result (λ w. (_, is_run_with_range (answer_of c.execute-reply.result) low high (asked_as request c.execute-reply.ensures.answers refl), w)) c.put_reply.ensures
