@@ -40,13 +40,13 @@ class Trial:
         self.rt = quick_kit(room / f"kit-{tester}")
         self.tell = tell
 
-    def run(self) -> list[bool]:
-        """Tries every edit. Answers which were caught."""
+    def run(self) -> list[tuple[bool, str]]:
+        """Tries every edit. Answers of each whether it was caught, and what was told of it."""
         together = 1 if self.tester == PROGRAM else TOGETHER
         groups = [self.edits[at : at + together] for at in range(0, len(self.edits), together)]
-        return [is_caught for group in groups for is_caught in self.check(group)]
+        return [answer for group in groups for answer in self.check(group)]
 
-    def check(self, group: list[Edit]) -> list[bool]:
+    def check(self, group: list[Edit]) -> list[tuple[bool, str]]:
         """Tries edits in one build, and those of which it does not tell once more alone."""
         self.builds += 1
         copy = self.room / f"{self.tester}-{self.builds}"
@@ -62,7 +62,7 @@ class Trial:
                 answers += self.check([edit])
             else:
                 self.tell(f"{edit.name}: {said}")
-                answers.append(bool(is_caught))
+                answers.append((bool(is_caught), f"{edit.name}: {said}"))
         return answers
 
     def tests(self, group: list[Edit], copy: Path) -> list[tuple[bool | None, str]]:

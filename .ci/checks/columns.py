@@ -18,6 +18,8 @@ FILES = ("src/**/*.rt", "specs/**/*.antt", "*.rt.txt")
 IMPORT = re.compile(r"\s*(pub\s+|ghost\s+)?use\b")
 COMMENT = re.compile(r"\s*(//|--)")
 TEXT = re.compile(r'\b[bc]?r(?P<fence>#*)".*?"(?P=fence)|\b[bc]?"(\\.|[^"\\])*"|"(\\.|[^"\\])*"')
+# A text that goes over several lines, as it is.
+LINES = re.compile(r'\b[bc]?r(?P<fence>#+)".*?"(?P=fence)', re.DOTALL)
 # A row of a table: a tuple or a list with a comma behind it.
 ROW = re.compile(r"\s*(&?\[|\().*[\])],$")
 TABLES = re.compile(r"(test_|starved)")
@@ -25,7 +27,8 @@ TABLES = re.compile(r"(test_|starved)")
 
 def in_text(text: str, tables: bool = False) -> Iterator[int]:
     """The numbers of the lines that are too wide; `tables` may have wide rows."""
-    for number, line in enumerate(text.splitlines(), 1):
+    lines = LINES.sub(lambda found: "\n" * found[0].count("\n"), text).splitlines()
+    for number, line in enumerate(lines, 1):
         if len(line) <= WIDTH or IMPORT.match(line):
             continue
         if tables and ROW.match(line):

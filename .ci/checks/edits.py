@@ -6,7 +6,7 @@ An edit is a file of lines 'KEY: TEXT'. 'file:' names a file of the crate, and e
   function: F   the function that is wrong, as the prover names it, or the end of that name
   fails: G      the goal of that function which must be left open
   search: ..    'gives up' where that goal is left open at a limit of the search alone
-  promise: ..   the promise that it breaks, in plain words, where docs/PROOFS.md lists it
+  promise: ..   the promise of the whole project that it breaks; docs/PROMISES.md lists them
   test: T       the test that must fail, or 'stored run' for the lines of the program `markers`
   crate: C      the crate of that test, where it is another than the edit's own
 """

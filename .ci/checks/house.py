@@ -27,7 +27,7 @@ CLAUSE = re.compile(r"\b(?:ensures|requires)\*?\s*(?:\w+\s*)?\{")
 FUNCTION = re.compile(r"^\s*(?:pub(?:\([a-z]+\))? )?(?:const )?(?:unsafe )?fn (\w+)", re.M)
 EMPTY = re.compile(r"\{\s*\}\s*(?:\n|$)")
 STATEMENT = re.compile(r";\s*\n|\n\s*(?:let|match|if|for|self\b)")
-OTHERS = {"drop", "new", "default"}
+OTHERS = {"clone", "default", "drop", "fmt", "new"}
 
 
 def widths(text: str) -> Iterator[int]:
@@ -99,8 +99,8 @@ def faults(root: Path, now: dict[str, float]) -> list[str]:
     return above + raised
 
 
-def main() -> int:
-    now = figures_of(ROOT)
+def main(now: dict[str, float]) -> int:
+    """Prints figures beside their limits, and lowers these if that is asked for."""
     text = (ROOT / LIMITS).read_text()
     limits = read(text)
     for name, figure in now.items():
@@ -114,4 +114,4 @@ def main() -> int:
 
 
 if __name__ == "__main__":
-    sys.exit(main())
+    sys.exit(main(figures_of(ROOT)))

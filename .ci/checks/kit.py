@@ -96,12 +96,12 @@ class Repository:
         found = [file for part in PARTS for file in sorted((folder / part).rglob("*"))]
         return [file for file in found if file.is_file()]
 
-    def sum_of(self, files: Iterable[Path]) -> str:
-        """A sum over the names and the bytes of files of the repository."""
+    def sum_of(self, files: Iterable[Path], read: Callable[[Path], bytes] = Path.read_bytes) -> str:
+        """A sum over the names of files of the repository, and over what is read of each."""
         found = hashlib.sha256()
         for file in files:
             found.update(f"{file.relative_to(self.root)}\0".encode())
-            found.update(hashlib.sha256(file.read_bytes()).digest())
+            found.update(hashlib.sha256(read(file)).digest())
         return found.hexdigest()
 
     def library(self, crate: str) -> Path:

@@ -1,11 +1,11 @@
 """Examples in documents and in doc comments, which stand in programs that the gate runs.
 
-Each fenced block of Rust of the README and of `docs/`, and each fenced block of a doc comment, is a
-stretch of lines of a file of `PROGRAMS`, indentation aside. So is the last cell of each row of the
+Each fenced block of Rust or C of the README and of `docs/`, and each fenced block of a doc comment,
+is a stretch of lines of a file of `PROGRAMS` or `FOREIGN`, indentation aside. So is the last cell of each row of the
 tables of `COMPARED`, where each piece of code is a line. Each other fenced block of a document, but
-those of `DRAWN`, is a stretch of lines of what a program prints, as it is stored. The lines of the
-README's table, and their answers, are a session of the program `markers`, which `.ci/long_texts`
-asks for.
+those of `DRAWN`, is a stretch of lines of what a program prints, as it is stored, or as a test of
+`STATED` states it. The lines of the README's table, and their answers, are a session of the program
+`markers`, which `.ci/long_texts` asks for.
 """
 
 from __future__ import annotations
@@ -17,10 +17,20 @@ from pathlib import Path
 from checks.kit import Repository
 
 # The crates whose programs are quoted.
-PROGRAMS = ("first_use", "uses")
+PROGRAMS = ("first_use", "needed", "uses")
 COMPARED = "docs/COMING_FROM.md"
 # The picture of the crates.
 DRAWN = ("docs/ARCHITECTURE.md",)
+# Tests that state what a program prints, of which one run alone is stored.
+STATED = (
+    "tests/test_pep508/outputs.rt.txt",
+    "tests/test_pep508/metadata.rt.txt",
+    "tests/test_marker_commands/outputs.rt.txt",
+    "tests/test_marker_drawings/outputs.rt.txt",
+    "library_for_c/use.stdout",
+)
+# The programs of other languages that are quoted.
+FOREIGN = ("library_for_c/use.c",)
 FENCED = re.compile(r"^```(?P<kind>[^`\n]*)\n(?P<block>.*?)^```$", re.MULTILINE | re.DOTALL)
 COMMENTS = re.compile(r"(?:^[ \t]*//[/!].*\n)+", re.MULTILINE)
 IN_COMMENT = re.compile(r"^```\n(?P<block>.*?)^```$", re.MULTILINE | re.DOTALL)
@@ -43,7 +53,7 @@ def stands_in(block: list[str], program: list[str]) -> bool:
 def blocks_of_document(text: str, of_code: bool) -> Iterator[list[str]]:
     """The fenced blocks of a document, those of code or the others."""
     for found in FENCED.finditer(text):
-        if of_code == (found["kind"] == "rust"):
+        if of_code == (found["kind"] in ("rust", "c")):
             yield lines_of(found["block"]) if of_code else found["block"].splitlines()
 
 
@@ -84,6 +94,11 @@ def in_repository(repository: Repository) -> list[str]:
         for name in PROGRAMS
         for file in sorted((repository.folder(name) / "src").rglob("*.rt"))
     ]
+    programs += [
+        lines_of(file.read_text(encoding="utf-8"))
+        for file in map(root.joinpath, FOREIGN)
+        if file.is_file()
+    ]
     quoting: list[tuple[Path, Iterator[list[str]]]] = []
     documents = [root / "README.md", *sorted((root / "docs").glob("*.md"))]
     for file in documents:
@@ -95,7 +110,8 @@ def in_repository(repository: Repository) -> list[str]:
             quoting.append((file, blocks_of_code(file.read_text(encoding="utf-8"))))
     printed = [
         file.read_text(encoding="utf-8").splitlines()
-        for file in sorted((root / "crates").glob("*/stdout"))
+        for file in [*sorted((root / "crates").glob("*/stdout")), *map(root.joinpath, STATED)]
+        if file.is_file()
     ]
     showing = [
         (file, blocks_of_document(file.read_text(encoding="utf-8"), False))

@@ -24,36 +24,54 @@ ARM = re.compile(r"^(?P<pattern>[^{}]*?)=>(?P<body>.*)$")
 NAMED = re.compile(r"AllocError|OutOfMemory|::Memory")
 
 # How often a refusal is handed on that the pattern does not name: the only error that a call has,
-# the one that is left behind its faults, one that an iterator or a list has as another type, or one
-# that `?` converts.
+# the one that is left behind its faults, one that an iterator or a list has as another type, one
+# that `?` converts, or one that an error of std has as its kind.
 HANDED_ON = {
+    "crates/foreign_calls/src/environment.rt": 3,
+    "crates/foreign_calls/src/marker.rt": 2,
+    "crates/foreign_calls/src/simplification.rt": 1,
+    "crates/foreign_scripts/src/script.rt": 1,
     "crates/line_server/src/serving.rt": 2,
+    "crates/marker_commands/src/environments.rt": 2,
+    "crates/marker_commands/src/files.rt": 1,
+    "crates/marker_commands/src/outcome.rt": 2,
+    "crates/marker_commands/src/parsing.rt": 1,
+    "crates/marker_commands/src/ranges.rt": 2,
+    "crates/marker_commands/src/stops.rt": 3,
+    "crates/marker_commands/src/values.rt": 1,
     "crates/marker_environment/src/string_version.rt": 1,
     "crates/marker_lines/src/line.rt": 2,
     "crates/marker_lines/src/line_session.rt": 2,
     "crates/marker_lines/src/reply.rt": 1,
     "crates/marker_parts/src/comparison.rt": 1,
     "crates/markers/src/main.rt": 1,
+    "crates/markers_within/src/main.rt": 1,
     "crates/pep440_specifier/src/parse.rt": 2,
     "crates/pep440_version/src/serialization.rt": 1,
     "crates/pep508_markers/src/json.rt": 1,
     "crates/pep508_markers/src/session.rt": 9,
     "crates/pep508_names/src/normal.rt": 1,
+    "crates/pep508_program/src/commands.rt": 3,
+    "crates/pep508_program/src/failures.rt": 2,
+    "crates/pep508_program/src/walks.rt": 1,
     "crates/pep508_requirements/src/error.rt": 1,
     "crates/pep508_requirements/src/extras.rt": 1,
     "crates/pep508_requirements/src/head.rt": 2,
     "crates/pep508_requirements/src/url.rt": 2,
     "crates/pep508_urls/src/serialization.rt": 1,
+    "crates/project_files/src/file.rt": 1,
     "crates/refusal/src/lib.rt": 3,
+    "crates/requirement_checks/src/specifiers.rt": 1,
     "crates/requirement_words/src/extras.rt": 1,
     "crates/requirement_words/src/head.rt": 4,
     "crates/requirement_words/src/specifiers.rt": 1,
     "crates/version_ranges/src/gather.rt": 1,
 }
 # How often one is made up: a clone that is not equal to its source, since `Clone` has no law that
-# it is; a list whose length would not fit into 64 bits, for which there is no memory either; and a
-# node for which a table has no room left.
+# it is; a list whose length would not fit into 64 bits, for which there is no memory either; a
+# node for which a table has no room left, and the terms of a clause for which there is none.
 MADE_UP = {
+    "crates/marker_clauses/src/walk.rt": 1,
     "crates/marker_nodes/src/table.rt": 1,
     "crates/version_ranges/src/combine.rt": 1,
     "crates/version_ranges/src/equality.rt": 2,

@@ -16,18 +16,6 @@ from checks.kit import Repository
 from checks.prover import Prover, Said
 
 
-# Crates whose edits were not looked at since a goal at which the search gives up no longer counts by
-# itself: there such a goal is told, and counts. A crate that was looked at leaves this list.
-UNSEEN = frozenset(
-    """
-    marker_clauses marker_comparisons marker_conjunctions marker_environment marker_grammar
-    marker_graph marker_lines marker_nodes marker_parts marker_simplifications marker_walks
-    marker_words pep508_errors pep508_markers pep508_names pep508_requirements pep508_urls
-    requirement_lines requirement_words
-    """.split()
-)
-
-
 @dataclass(frozen=True)
 class Verdict:
     """Whether a wrong body is refused for a cause of its own, and what to say of it."""
@@ -85,8 +73,7 @@ def settled(edit: Edit, verdict: Verdict, goals: str) -> Verdict:
         return Verdict(True, f"refused at {goal}, which the search proves without the edit")
     if edit.fields.get("search") == "gives up":
         return Verdict(True, f"left open at {goal}, at a limit of the search")
-    told = f"{verdict.text}: without the edit there is no such goal"
-    return Verdict(edit.name.partition("/")[0] in UNSEEN, told)
+    return Verdict(False, f"{verdict.text}: without the edit there is no such goal")
 
 
 def function_of(edit: Edit, calls: Calls, crate: Path) -> Function:
@@ -114,8 +101,8 @@ class Trial:
         self.folder = repository.folder(crate)
         self.edits = edits.of_crate(self.folder, edits.TOGETHER)
 
-    def run(self) -> list[bool]:
-        """Tries every edit. Answers which were refused."""
+    def run(self) -> list[tuple[bool, str]]:
+        """Tries every edit. Answers of each whether it was refused, and what was told of it."""
         try:
             if not self.repository.build_below(self.crate):
                 raise BadEdit(f"{self.crate}: the libraries below it do not stand")
@@ -123,7 +110,7 @@ class Trial:
             functions = {edit: function_of(edit, calls, self.folder) for edit in self.edits}
         except BadEdit as error:
             self.tell(str(error))
-            return [False for _ in self.edits]
+            return [(False, str(error)) for _ in self.edits]
         are_apart = lambda one, other: calls.are_apart(functions[one], functions[other])
         with tempfile.TemporaryDirectory(prefix=f"wrong-{self.crate}-") as room:
             prover = Prover(self.repository, self.crate, Path(room), calls.cycles())
@@ -136,7 +123,7 @@ class Trial:
             if verdict.given_up:
                 verdicts[edit] = settled(edit, verdict, goals)
                 self.tell(f"{edit.name}: {verdicts[edit].text}")
-        return [verdict.is_refused for verdict in verdicts.values()]
+        return [(it.is_refused, f"{edit.name}: {it.text}") for edit, it in verdicts.items()]
 
     def check(self, prover: Prover, group: list[Edit]) -> dict[Edit, Verdict]:
         """Tries edits in one check, and those of which it does not tell once more alone. Tells of

@@ -4,6 +4,8 @@ What differs on purpose is not generated:
 - a value that has a `$`: pip looks for a later variable of the line in what it put in for an
   earlier one;
 - U+001F at an end of a line, which Python's `strip` takes for white space and Unicode does not.
+Faults that pip does not have are allowed: an option or a text that pip ignores, and a hash whose
+digits are not those of a hash by its name.
 """
 
 from __future__ import annotations
@@ -23,6 +25,8 @@ from checks.unproved import quick_kit, workspace
 NAMES = ["A", "B_2", "LONG_NAME_3"]
 VALUES = ["", "1", "x y", " -r z", "#", "é", "'", "\\", " # c"]
 MARK = "\ufeff"
+# How long the program may take, in seconds, in a build that checks each access.
+LONGEST = 600
 
 # What files are made of.
 PARTS = [
@@ -30,6 +34,28 @@ PARTS = [
     *["\x0b", "\x0c", "\x1c", "\x1d", "\x1e", "\x85", "\u2028", "\u2029", "\u00a0", "é", "\u4e2d"],
     *["$", "{", "}", "${A}", "${B_2}", "${LONG_NAME_3}", "${NO}", "${a}", "${A\\\n}", "'", '"', MARK],
 ]
+
+
+# What lines of options are made of.
+ZEROS = {"sha256": 64, "sha384": 96, "sha512": 128}
+OPTIONS = [
+    *[" -r x", " --requirement=x", " -rx", " --requirem 'x y'", " -r", " --requ x", " -r ''"],
+    *[" -c y", " --constraint=y", " --cons y", " --con y", " -e z", " -ez", " --ed=z", " --e z"],
+    *[" -i u", " --index-url=u", " --pypi-url u", " --py=u", " --extra-index-url u", " --no-index"],
+    *[" -f l", " --find-links=l", " --no-binary x,y", " --no-binary -x", " --only-binary=:all:"],
+    *[" --prefer-binary", " --require-hashes", " --pre", " --pre=x", " --pr", " --trusted-host h"],
+    *[" --use-feature=fast-deps", " --use-feature truststore", " --use-feature x", " --use-fe="],
+    *[" --use-feature no-binary-enable-wheel-cache", " --global-option=g", " --global-option"],
+    *[f" --hash={name}:{'0' * size}" for name, size in ZEROS.items()],
+    *[" --hash sha256:0", " --hash=sha1:0", " --hash sha512", " --hash", " --h=sha384:g"],
+    *[" --config-settings a=b", " -C a=", " -Ca", " --config=x=y", " --x", " -x", " --", " -", " ---"],
+    *[" --=", " --Pre", " foo", " foo", " ''", " 'a", "\\ ", "=", "-", "\n", "\n", "\nfoo", "\\\n", " #"],
+]
+# Faults that pip has too, beside quotes that do not end.
+FAULTS = {
+    *["Unclosed", "Unknown", "Ambiguous", "NoArgument", "UnwantedArgument", "UnknownFeature"],
+    *["InvalidHash", "InvalidSetting"],
+}
 
 
 @dataclass(frozen=True)
@@ -60,7 +86,8 @@ def cases(count: int) -> Iterator[Case]:
     chosen = random.Random("requirements files")
     for number in range(count):
         longest = 80 if number % 10 == 0 else 14
-        parts = [chosen.choice(PARTS) for _ in range(chosen.randrange(longest))]
+        made_of = OPTIONS if number % 2 else PARTS
+        parts = [chosen.choice(made_of) for _ in range(chosen.randrange(longest))]
         mark = MARK if chosen.random() < 0.05 else ""
         yield Case(mark + "".join(parts), [chosen.choice(VALUES) for _ in NAMES])
 
@@ -87,6 +114,70 @@ def wanted(case: Case) -> list[tuple[str, str, list[str] | None]]:
         os.environ.update(before)
     parts = [req_file.break_args_options(line) for line in lines]
     return [(line, front, words_of(options)) for line, (front, options) in zip(lines, parts)]
+
+
+@dataclass(frozen=True)
+class Said:
+    """What pip makes of a line: what it is, the options in order, and the words that it ignores."""
+
+    content: str
+    options: list[tuple[str, str | None]]
+    ignored: list[str]
+
+
+def said_by(line: str) -> Said | None:
+    """What pip makes of a line, or None where it refuses its options."""
+    from pip._internal.req import req_file
+
+    front, rest = req_file.break_args_options(line)
+    parser = req_file.build_parser()
+    parser.print_usage = lambda file=None: None
+    seen: list[tuple[str, str | None]] = []
+    for option in parser.option_list:
+
+        def process(opt, value, values, parser, option=option, kept=option.process):
+            kept(opt, value, values, parser)
+            seen.append((option._long_opts[0], value))
+
+        option.process = process
+    try:
+        options, ignored = parser.parse_args(shlex.split(rest), parser.get_default_values())
+    except Exception:
+        return None
+    made = req_file.ParsedLine("file", 1, front, options, False)
+    if made.is_requirement:
+        content = ("E" if made.is_editable else "R") + made.requirement
+    elif options.requirements:
+        content = "F" + options.requirements[0]
+    elif options.constraints:
+        content = "C" + options.constraints[0]
+    else:
+        content = "S"
+    return Said(content, seen, ignored)
+
+
+def unlike_options(line: str, content: str, options: str, faults: str) -> str | None:
+    """How the options of a line differ from those that pip reads."""
+    told = set(faults.split(",")) - {""}
+    said = said_by(line)
+    if said is None:
+        return None if told & FAULTS else f"the options of {line!r} are a fault in pip, and here {options}"
+    if told == {"InvalidHash"} and any(name == "--hash" for name, _ in said.options):
+        return None
+    if told & FAULTS:
+        return f"the options of {line!r} are the fault {faults}, and in pip {said}"
+    found = [
+        (name, bytes.fromhex(argument).decode() if dot else None)
+        for name, dot, argument in (option.partition(".") for option in options.split(",") if option)
+    ]
+    if found != said.options:
+        return f"the options of {line!r} are {found}, and in pip {said.options}"
+    text = content[:1] + bytes.fromhex(content[1:]).decode()
+    if said.content != text:
+        return f"{line!r} is {text!r}, and in pip {said.content!r}"
+    if faults.split(",").count("LostText") != len(said.ignored):
+        return f"{line!r} has the faults {faults}, and pip ignores {said.ignored}"
+    return None
 
 
 def position(file: str, byte: int) -> tuple[int, int]:
@@ -120,7 +211,11 @@ def unlike(case: Case, output: str) -> str | None:
             return f"{case}: the requirement of {line!r} is {front!r}, and in pip {requirement!r}"
         if words != shown_words:
             return f"{case}: the words of {line!r} are {shown_words}, and in pip {words}"
-    for (line, _), (_, _, *place, byte, source, _) in zip(found, shown):
+    for (line, _), (*_, content, options, faults) in zip(found, shown):
+        difference = unlike_options(line, content, options, faults)
+        if difference is not None:
+            return f"{case}: {difference}"
+    for (line, _), (_, _, *place, byte, source, _, _, _, _) in zip(found, shown):
         stands = case.file.encode()[int(byte) :].decode()
         if not stands.startswith("$" if source == "value" else line[:1]):
             return f"{case}: {line!r} does not begin at the byte {byte}"
@@ -140,7 +235,7 @@ def run(repository: Repository, given: list[Case], room: Path) -> tuple[int, lis
     line that it wrote for each of them."""
     workspace(repository, ["pip_lines"], room / "copy")
     said = subprocess.run(
-        [quick_kit(room / "kit"), "try"],
+        [quick_kit(room / "kit"), "try", "--seconds", str(LONGEST)],
         cwd=room / "copy" / "crates" / "pip_lines",
         input="".join(case.line() + "\n" for case in given),
         stdout=subprocess.PIPE,
