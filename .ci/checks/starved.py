@@ -4,14 +4,23 @@ from __future__ import annotations
 
 import re
 import subprocess
+import tempfile
 from collections.abc import Callable, Iterable
 from dataclasses import dataclass
 from pathlib import Path
 
-from checks.kit import Repository
-from checks.unproved import quick_kit, workspace
+from checks.kit import Repository, kit
+from checks.unproved import link, quick_kit, workspace
 
 NOTHING = "nothing was refused"
+
+# A linker that keeps the program that it links.
+LINKER = """\
+#!/bin/sh
+'%s' "$@" && cp program '%s'
+"""
+# Seconds that a run may take.
+LIMIT = 60
 
 # In so many runs of a family the refused growth comes after all of its own.
 LEFT = 3
@@ -33,11 +42,6 @@ class Family:
     growths: int
     met: list[str]
     hints: int = 0
-
-    @property
-    def case(self) -> str:
-        """What its inputs are named by."""
-        return self.name.replace(" ", "_")
 
     def all_met(self) -> list[str]:
         return ["refused before the calls", *self.met]
@@ -66,6 +70,27 @@ def faults_of(family: Family, growth: int, answers: list[tuple[int, str]]) -> li
     return wrong + [f"{family.name}: never {met}" for met in family.all_met() if met not in found]
 
 
+def keeping_kit(room: Path, kept: Path) -> Path:
+    """Makes a copy of the toolchain whose linker keeps the program that it links, and answers its
+    `rt`: a run of that program takes a fiftieth of the time of a run by `rt try`."""
+    rt = quick_kit(room)
+    (room / "toolchain").unlink()
+    link(kit() / "toolchain", room / "toolchain", but=["bin"])
+    link(kit() / "toolchain" / "bin", room / "toolchain" / "bin", but=["ld.lld"])
+    linker = room / "toolchain" / "bin" / "ld.lld"
+    linker.write_text(LINKER % (kit() / "toolchain" / "bin" / "ld.lld", kept))
+    linker.chmod(0o755)
+    return rt
+
+
+@dataclass(frozen=True)
+class Run:
+    """How a run of a program ended, and what it printed."""
+
+    status: int | None
+    said: str
+
+
 class Starved:
     """Runs of programs with one growth refused, and what was wrong with them."""
 
@@ -74,81 +99,88 @@ class Starved:
     ) -> None:
         self.room = room
         self.tell = tell
-        self.rt = quick_kit(room / "kit")
         workspace(repository, programs, room / "copy")
 
-    def run(self, program: str, growth: int, cases: dict[str, str]) -> tuple[int, str]:
-        """Builds a program, runs it on each input with this growth refused, and answers the status
-        and what was printed."""
-        folder = self.room / f"{program}-{growth}"
-        folder.mkdir()
-        for name, given in cases.items():
-            (folder / name).write_text(given)
+    def built(self, program: str, growth: int) -> Path:
+        """Builds a program in which this growth is refused, and answers where it is."""
+        kept = self.room / f"{program}-{growth}"
+        rt = keeping_kit(self.room / f"kit-{program}-{growth}", kept)
         said = subprocess.run(
-            [self.rt, "try", "--fail-alloc", str(growth), "--cases", str(folder)],
+            [rt, "try", "--fail-alloc", str(growth)],
             cwd=self.room / "copy" / "crates" / program,
+            stdin=subprocess.DEVNULL,
             stdout=subprocess.PIPE,
             stderr=subprocess.STDOUT,
             text=True,
             errors="replace",
         )
-        return said.returncode, said.stdout
+        if not kept.is_file():
+            self.tell("\n".join(said.stdout.splitlines()[-5:]))
+        return kept
+
+    def run(self, program: Path, given: str) -> Run:
+        """Runs a program on a file. It has no status if it takes too long, or was not built. (From
+        a pipe it would ask for memory more often.)"""
+        how = {"stdout": subprocess.PIPE, "stderr": subprocess.STDOUT, "timeout": LIMIT}
+        with tempfile.TemporaryFile() as file:
+            file.write(given.encode())
+            file.seek(0)
+            try:
+                ran = subprocess.run([program], stdin=file, env={}, **how)
+            except (subprocess.TimeoutExpired, FileNotFoundError) as error:
+                return Run(None, str(error))
+        return Run(ran.returncode, ran.stdout.decode(errors="replace"))
 
     def sweep(self, program: str, families: list[Family]) -> list[bool]:
         """Refuses each growth of each family in turn, and answers which families are right. The
         same growth of the whole run is refused each time, which is another one of the family for
         each number of growths before."""
         growth = max(family.growths for family in families)
-        cases: dict[str, str] = {}
-        for family in families:
-            for held in range(growth - family.growths, growth):
-                cases[f"{family.case}_{held:03}"] = f"{held} {family.name}\n"
-        status, said = self.run(program, growth, cases)
-        answers = [self.judge(program, family, growth, said) for family in families]
-        if status and all(answers):
-            self.tell(f"refusals: {program}: rt try ended with status {status}")
-            return [False for _ in families]
-        return answers
+        built = self.built(program, growth)
+        return [self.judge(program, family, growth, built) for family in families]
 
-    def judge(self, program: str, family: Family, growth: int, said: str) -> bool:
+    def judge(self, program: str, family: Family, growth: int, built: Path) -> bool:
         """Whether the runs of a family are right, in which this growth of the whole run was
         refused. Tells what is wrong with them."""
-        found = re.findall(rf"^(?:\| )?(\d+) {re.escape(family.name)}: (.*)$", said, re.M)
-        answers = sorted((int(held), met) for held, met in found)
+        every = range(growth - family.growths, growth)
+        runs = [(held, self.run(built, f"{held} {family.name}\n")) for held in every]
+        answers = []
+        for held, ran in runs:
+            found = re.fullmatch(rf"{held} {re.escape(family.name)}: (.*)\n", ran.said)
+            if ran.status == 0 and found:
+                answers.append((held, found[1]))
         wrong = faults_of(family, growth, answers)
-        ended = re.findall(rf"^case={family.case}_\d+ run=ended status=0 ", said, re.M)
-        if len(ended) != family.growths:
-            wrong.append(f"{family.name}: {len(ended)} of {family.growths} runs ended well")
         refused = sum(met.startswith("refused ") for _, met in answers)
         self.tell(f"refusals: {program}, {family.name}: {refused} growths refused")
-        return self.passed(program, wrong, said)
+        bad = [ran for _, ran in runs if ran.status != 0]
+        return self.passed(program, wrong, bad[0].said if bad else "")
 
     def long_input(self, lines: int, growths: int) -> list[bool]:
         """Serves a long line and so many short ones, of which no cell is left, and refuses the
         growth after so many: there is none, so memory grows with the longest line and not with
         their number."""
         given = f"{0:020000}\n" + "noop\n" * lines
-        _, said = self.run("markers", growths + 1, {"lines": given})
-        answers = len(re.findall(r"^(?:\| )?error command$", said, re.M))
+        ran = self.run(self.built("markers", growths + 1), given)
+        answers = len(re.findall(r"^error command$", ran.said, re.M))
         wrong = []
         if answers != lines + 1:
             wrong.append(f"{answers} of {lines + 1} lines were answered")
-        if not re.search(r"^case=lines run=ended status=0 ", said, re.M):
+        if ran.status != 0:
             wrong.append("serving ended otherwise")
         self.tell(f"refusals: markers: {answers} lines served with at most {growths} growths")
-        return [self.passed("markers", wrong, said)]
+        return [self.passed("markers", wrong, ran.said)]
 
     def refused_start(self) -> list[bool]:
         """Refuses the first growth of a run, that of the arguments: the program tells it and ends
         with status 1."""
-        _, said = self.run("markers", 1, {"line": "noop\n"})
+        ran = self.run(self.built("markers", 1), "noop\n")
         wrong = []
-        if not re.search(r"^(?:\| )?markers: out of memory$", said, re.M):
+        if not re.search(r"^markers: out of memory$", ran.said, re.M):
             wrong.append("a refused start is not told")
-        if not re.search(r"^case=line run=ended status=1 ", said, re.M):
+        if ran.status != 1:
             wrong.append("a refused start ended otherwise")
         self.tell("refusals: markers: a start without memory is tried")
-        return [self.passed("markers", wrong, said)]
+        return [self.passed("markers", wrong, ran.said)]
 
     def passed(self, program: str, wrong: list[str], said: str) -> bool:
         """Tells what is wrong with the runs of a program, if anything is."""
