@@ -66,6 +66,8 @@ pub struct Request<'m> {
     pub limit: u64,
     /// Values of variables are shown.
     pub shows_values: bool,
+    /// The one group of projects whose requirements are listed.
+    pub group: Option<&'m str>,
 }
 
 fn files_argument<'a>(alloc: Global) -> Arg<'a> {
@@ -90,7 +92,8 @@ fn recursive_argument<'a>(alloc: Global) -> Arg<'a> {
         .help("Search folders, the current one if there is no FILE")
 }
 
-fn format_argument<'a>(alloc: Global) -> Arg<'a> {
+/// Returns the option `--format` of text or JSON.
+pub fn format_argument<'a>(alloc: Global) -> Arg<'a> {
     Arg::new(alloc, "format")
         .long("format")
         .value_name("FORMAT")
@@ -135,19 +138,30 @@ fn ignore_argument<'a>(alloc: Global) -> Arg<'a> {
         .help("Do not report the warnings of this name")
 }
 
-static KINDS: [&str; 2] = ["requirements", "metadata"];
+fn group_argument<'a>(alloc: Global) -> Arg<'a> {
+    Arg::new(alloc, "group")
+        .long("group")
+        .value_name("NAME")
+        .help("List only this dependency group of a project, with the groups that it includes")
+}
+
+static KINDS: [&str; 3] = ["requirements", "metadata", "project"];
 
 static FORMATS: [&str; 2] = ["text", "json"];
 
 static COLORINGS: [&str; 3] = ["auto", "always", "never"];
 
-// Adds the options of all commands that read files.
-fn with_common(alloc: Global, command: Command<'_>) -> Result<Command<'_>, AllocError> {
+/// Adds the options of all commands that read files, with this option `--format`.
+pub fn with_files<'a>(
+    alloc: Global,
+    command: Command<'a>,
+    format: Arg<'a>,
+) -> Result<Command<'a>, AllocError> {
     command
         .arg(files_argument(alloc))?
         .arg(kind_argument(alloc))?
         .arg(recursive_argument(alloc))?
-        .arg(format_argument(alloc))?
+        .arg(format)?
         .arg(color_argument(alloc))?
         .arg(variable_argument(alloc))?
         .arg(limit_argument(alloc))
@@ -159,9 +173,9 @@ fn check_command<'a>(alloc: Global) -> Result<Command<'a>, AllocError> {
         .action(ArgAction::SetTrue)
         .help("Fail on warnings too");
     let check = Command::new(alloc, "check")
-        .about("Reports the errors and warnings of requirements files and metadata")
+        .about("Reports the errors and warnings of requirements files, metadata and projects")
         .after_help("Example: pep508 check --strict requirements.txt");
-    with_common(alloc, check)?
+    with_files(alloc, check, format_argument(alloc))?
         .arg(strict)?
         .arg(ignore_argument(alloc))
 }
@@ -172,9 +186,11 @@ fn list_command<'a>(alloc: Global) -> Result<Command<'a>, AllocError> {
         .action(ArgAction::SetTrue)
         .help("Show what the values of variables went into");
     let list = Command::new(alloc, "list")
-        .about("Lists the requirements of requirements files and metadata")
+        .about("Lists the requirements of requirements files, metadata and projects")
         .after_help("Example: pep508 list --format json requirements.txt");
-    with_common(alloc, list)?.arg(shows_values)
+    with_files(alloc, list, format_argument(alloc))?
+        .arg(shows_values)?
+        .arg(group_argument(alloc))
 }
 
 /// Returns the command line of the program.
@@ -207,6 +223,7 @@ fn format_of(word: Option<&str>) -> Format {
 fn file_kind_of(word: &str) -> FileKind {
     match word {
         "metadata" => FileKind::Metadata,
+        "project" => FileKind::Project,
         _ => FileKind::Requirements,
     }
 }
@@ -225,14 +242,16 @@ pub fn request_of<'m, 'w>(task: Task, given: &'m ArgMatches<'w>) -> Request<'m> 
         variables: given.get_strs("var").unwrap_or(&[]),
         limit: given.get_one::<u64>("limit").unwrap_or(u64::MAX),
         shows_values: given.get_flag("show-values"),
+        group: given.get_str("group"),
     }
 }
 
-/// Returns the command of this name.
+/// Returns what the command of this name does with files: `select` and `matrix` read them as `list`
+/// does.
 pub fn task_of(name: &str) -> Option<Task> {
     match name {
         "check" => Some(Task::Check),
-        "list" => Some(Task::List),
+        "list" | "select" | "matrix" => Some(Task::List),
         _ => None,
     }
 }

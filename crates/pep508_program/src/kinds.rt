@@ -10,6 +10,8 @@ pub enum FileKind {
     Requirements,
     /// As metadata of a package.
     Metadata,
+    /// As a `pyproject.toml`.
+    Project,
 }
 
 /// Returns the part of a path after its last `/`.
@@ -26,6 +28,7 @@ pub fn kind_of_name(name: &str) -> FileKind
 {
     match name {
         "METADATA" | "PKG-INFO" => FileKind::Metadata,
+        "pyproject.toml" => FileKind::Project,
         _ => FileKind::Requirements,
     }
 }

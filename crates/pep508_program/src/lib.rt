@@ -12,6 +12,7 @@ mod marks;
 mod notices;
 mod opened;
 mod progress;
+mod projects;
 mod reports;
 mod secrets;
 mod sheets;
@@ -21,8 +22,8 @@ mod variables;
 mod walks;
 
 pub use crate::arguments::{
-    Coloring, Request, Task, WARNINGS, color_argument, coloring_of, command_line, request_of,
-    task_of,
+    Coloring, Request, Task, WARNINGS, color_argument, coloring_of, command_line, format_argument,
+    request_of, task_of, with_files,
 };
 pub use crate::commands::{
     execute, has_colors, out_of_memory, read_request, read_words, report_failure, wrong_use,

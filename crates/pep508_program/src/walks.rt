@@ -4,6 +4,7 @@ ghost use Rattle.pep508_program.specs.Reporting.{Grows};
 
 mod fields;
 mod folders;
+mod project;
 
 use crate::arguments::{Request, Task};
 use crate::excerpts::visible;
@@ -332,7 +333,7 @@ impl<'s, H: Host, C: CheckLines> Walk<'s, H, C> {
         sheet: &Sheet,
         line: &[Piece<'_>],
         span: Span,
-        listed: Option<Listed>,
+        listed: Option<&Listed>,
     ) -> Result<(), AllocError>
         ensures { Grows self.old.report.tally self.new.report.tally }
     {
@@ -350,7 +351,7 @@ impl<'s, H: Host, C: CheckLines> Walk<'s, H, C> {
             sheet.shown.as_str(),
             span,
             line,
-            &listed,
+            listed,
         )?;
         self.report.print(text.as_str())
     }
@@ -380,7 +381,7 @@ impl<'s, H: Host, C: CheckLines> Walk<'s, H, C> {
         let marks = marks_of(self.alloc, sheet.text(), findings, path, positions)?;
         self.report_marks(&sheet.page(), marks.as_slice(), false)?;
         self.report_marks(&sheet.page(), marks.as_slice(), true)?;
-        self.list_line(sheet, line, span, listed)?;
+        self.list_line(sheet, line, span, listed.as_ref())?;
         include_of(self.alloc, &content, marks.as_slice())
     }
 
@@ -598,9 +599,12 @@ impl<'s, H: Host, C: CheckLines> Walk<'s, H, C> {
     ) -> Result<(), Failure>
         ensures { Grows self.old.report.tally self.new.report.tally }
     {
-        match kind {
-            FileKind::Metadata => self.walk_metadata(sheet),
-            FileKind::Requirements => self.walk_file(sheet, variables, DEEPEST),
+        match (kind, self.request.group) {
+            (FileKind::Project, None) => self.walk_project(sheet),
+            (FileKind::Project, Some(group)) => self.walk_group(sheet, group),
+            (_, Some(_)) => self.refuse_kind(sheet),
+            (FileKind::Metadata, None) => self.walk_metadata(sheet),
+            (FileKind::Requirements, None) => self.walk_file(sheet, variables, DEEPEST),
         }
     }
 
@@ -700,6 +704,15 @@ impl<'s, H: Host, C: CheckLines> Walk<'s, H, C> {
         write!(text, "{count} requirement{} of ", plural(count))?;
         writeln!(text, "{files} file{}", plural(files))?;
         self.report.tell(text.as_str())
+    }
+
+    /// Reports the findings of a file that was read, and of the files that it includes.
+    pub fn report_file(&mut self, sheet: &Sheet) -> Result<(), Failure>
+        ensures { Grows self.old.report.tally self.new.report.tally }
+    {
+        let mut variables = BTreeMap::new(self.alloc);
+        self.walk_file(sheet, &mut variables, DEEPEST)?;
+        self.flush()
     }
 
     /// Reads all files of the command line, or standard input if there are none.

@@ -3,13 +3,15 @@ use Rattle.std.specs.Prelude.{ℕ, Bool, List, [], ◌∷◌, codes, bytes_eq}
 use Rattle.requirement_findings.specs.declared.name.Severity.{Severity}
 use Rattle.requirement_findings.specs.declared.name.Severity.TheVariants.{Error, Warning, Hint}
 use Rattle.requirement_findings.specs.declared.name.FindingName.{FindingName}
-use Rattle.requirement_findings.specs.declared.name.FindingName.TheVariants.{InvalidRequirement, NumberTooLarge, TooComplex, UnclosedQuotes, UnknownOption, AmbiguousOption, MissingArgument, UnwantedArgument, UnknownFeature, InvalidHash, InvalidSetting, IgnoredOption, LostText, InvalidHeader, RepeatedField, InvalidName, InvalidSpecifiers, DeprecatedMarkerName, InvalidExtraComparison, LexicographicComparison, MarkerMarkerComparison, InvalidVersionComparison, StringStringComparison, ControlCharacter, MarkerInUrl, VersionList, VersionAsText, NeverTrue, AlwaysTrue, RepeatedRequirement, ThreeNumbers, UnprovidedExtra, RepeatedExtra, UrlRequirement}
+use Rattle.requirement_findings.specs.declared.name.FindingName.TheVariants.{InvalidRequirement, NumberTooLarge, TooComplex, UnclosedQuotes, UnknownOption, AmbiguousOption, MissingArgument, UnwantedArgument, UnknownFeature, InvalidHash, InvalidSetting, IgnoredOption, LostText, InvalidHeader, RepeatedField, InvalidName, InvalidSpecifiers, InvalidToml, InvalidValue, MissingKey, DynamicValue, RepeatedName, UnknownGroup, EndlessGroup, UnknownValue, DeprecatedMarkerName, InvalidExtraComparison, LexicographicComparison, MarkerMarkerComparison, InvalidVersionComparison, StringStringComparison, ControlCharacter, MarkerInUrl, VersionList, VersionAsText, NeverTrue, AlwaysTrue, RepeatedRequirement, ThreeNumbers, UnprovidedExtra, RepeatedExtra, UrlRequirement}
 
 abbrev pub names : List FindingName
 names = InvalidRequirement ∷ NumberTooLarge ∷ TooComplex ∷ UnclosedQuotes ∷ UnknownOption
     ∷ AmbiguousOption ∷ MissingArgument ∷ UnwantedArgument ∷ UnknownFeature ∷ InvalidHash
     ∷ InvalidSetting ∷ IgnoredOption ∷ LostText ∷ InvalidHeader
-    ∷ RepeatedField ∷ InvalidName ∷ InvalidSpecifiers ∷ DeprecatedMarkerName
+    ∷ RepeatedField ∷ InvalidName ∷ InvalidSpecifiers ∷ InvalidToml ∷ InvalidValue
+    ∷ MissingKey ∷ DynamicValue ∷ RepeatedName ∷ UnknownGroup ∷ EndlessGroup
+    ∷ UnknownValue ∷ DeprecatedMarkerName
     ∷ InvalidExtraComparison ∷ LexicographicComparison ∷ MarkerMarkerComparison
     ∷ InvalidVersionComparison ∷ StringStringComparison ∷ ControlCharacter ∷ MarkerInUrl
     ∷ VersionList ∷ VersionAsText ∷ NeverTrue ∷ AlwaysTrue ∷ RepeatedRequirement
@@ -33,6 +35,14 @@ name_of InvalidHeader = codes "invalid-header"
 name_of RepeatedField = codes "repeated-field"
 name_of InvalidName = codes "invalid-name"
 name_of InvalidSpecifiers = codes "invalid-specifiers"
+name_of InvalidToml = codes "invalid-toml"
+name_of InvalidValue = codes "invalid-value"
+name_of MissingKey = codes "missing-key"
+name_of DynamicValue = codes "dynamic-value"
+name_of RepeatedName = codes "repeated-name"
+name_of UnknownGroup = codes "unknown-group"
+name_of EndlessGroup = codes "endless-group"
+name_of UnknownValue = codes "unknown-value"
 name_of DeprecatedMarkerName = codes "deprecated-marker-name"
 name_of InvalidExtraComparison = codes "invalid-extra-comparison"
 name_of LexicographicComparison = codes "lexicographic-comparison"

@@ -1,4 +1,4 @@
-//! Findings in the lines of requirements files and the fields of metadata, by name.
+//! Findings in the lines of requirements files, fields of metadata and values of projects, by name.
 #![tactic(auto)]
 
 mod file;

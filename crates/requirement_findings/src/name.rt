@@ -1,4 +1,4 @@
-//! Names of findings in requirements files and metadata.
+//! Names of findings in requirements files, metadata and projects.
 
 ghost use Rattle.std.specs.Prelude.{◌≡◌, find, bytes_eq};
 ghost use Rattle.requirement_findings.specs.Names as spec;
@@ -8,7 +8,7 @@ use std::fmt;
 /// How severe a finding is.
 #[derive(Clone, Copy, Debug, PartialEq, Eq)]
 pub enum Severity {
-    /// The line or field is invalid, or a part of it is lost.
+    /// The line, field or value is invalid, or a part of it is lost.
     Error,
     /// A comparison of the marker is dropped, or is written as in PEP 345.
     Warning,
@@ -49,10 +49,26 @@ pub enum FindingName {
     InvalidHeader,
     /// Metadata has a second field of a kind that may be there once.
     RepeatedField,
-    /// The name of a package or an extra is invalid.
+    /// The name of a package, an extra or a group is invalid.
     InvalidName,
     /// A list of version specifiers is invalid.
     InvalidSpecifiers,
+    /// The text of a project file is invalid TOML.
+    InvalidToml,
+    /// A value of a project file has the wrong type.
+    InvalidValue,
+    /// A table of a project file lacks a key that it must have.
+    MissingKey,
+    /// A key of `project.dynamic` has a value in the file.
+    DynamicValue,
+    /// An earlier extra or group of the project has the same normal name.
+    RepeatedName,
+    /// There is no group of this name.
+    UnknownGroup,
+    /// A group includes itself, directly or through others.
+    EndlessGroup,
+    /// A marker depends on values that are not given.
+    UnknownValue,
     /// A name of PEP 345 is used, such as `os.name`.
     DeprecatedMarkerName,
     /// `extra` is compared with an invalid name, or by an operator other than `==` and `!=`.
@@ -115,6 +131,14 @@ impl FindingName {
             FindingName::RepeatedField => "repeated-field",
             FindingName::InvalidName => "invalid-name",
             FindingName::InvalidSpecifiers => "invalid-specifiers",
+            FindingName::InvalidToml => "invalid-toml",
+            FindingName::InvalidValue => "invalid-value",
+            FindingName::MissingKey => "missing-key",
+            FindingName::DynamicValue => "dynamic-value",
+            FindingName::RepeatedName => "repeated-name",
+            FindingName::UnknownGroup => "unknown-group",
+            FindingName::EndlessGroup => "endless-group",
+            FindingName::UnknownValue => "unknown-value",
             FindingName::DeprecatedMarkerName => "deprecated-marker-name",
             FindingName::InvalidExtraComparison => "invalid-extra-comparison",
             FindingName::LexicographicComparison => "lexicographic-comparison",
@@ -162,7 +186,7 @@ impl FindingName {
     }
 }
 
-const NAMES: [FindingName; 34] = [
+const NAMES: [FindingName; 42] = [
     FindingName::InvalidRequirement,
     FindingName::NumberTooLarge,
     FindingName::TooComplex,
@@ -180,6 +204,14 @@ const NAMES: [FindingName; 34] = [
     FindingName::RepeatedField,
     FindingName::InvalidName,
     FindingName::InvalidSpecifiers,
+    FindingName::InvalidToml,
+    FindingName::InvalidValue,
+    FindingName::MissingKey,
+    FindingName::DynamicValue,
+    FindingName::RepeatedName,
+    FindingName::UnknownGroup,
+    FindingName::EndlessGroup,
+    FindingName::UnknownValue,
     FindingName::DeprecatedMarkerName,
     FindingName::InvalidExtraComparison,
     FindingName::LexicographicComparison,

@@ -8,7 +8,7 @@ use crate::hosts::Host;
 use crate::marks::marks_of;
 use crate::notices::Span;
 use crate::sheets::Sheet;
-use metadata_files::FieldKind;
+use metadata_files::{Field, FieldKind};
 use requirement_findings::{
     CheckLines, CheckedField, CheckedText, Finding, Listed, check_metadata,
 };
@@ -22,7 +22,7 @@ impl<H: Host, C: CheckLines> Walk<'_, H, C> {
         reading: &mut Reading<'_>,
         part: Piece<'_>,
         findings: Vec<Finding>,
-        listed: Option<Listed>,
+        listed: Option<&Listed>,
     ) -> Result<(), AllocError>
         ensures { Grows self.old.report.tally self.new.report.tally }
     {
@@ -40,6 +40,25 @@ impl<H: Host, C: CheckLines> Walk<'_, H, C> {
         self.list_line(sheet, &[part], span, listed)
     }
 
+    // Reports the findings of a field, and lists its requirement, unless a byte of it is not UTF-8.
+    fn report_field(
+        &mut self,
+        reading: &mut Reading<'_>,
+        field: &Field<'_>,
+        checked: CheckedText,
+    ) -> Result<(), AllocError>
+        ensures { Grows self.old.report.tally self.new.report.tally }
+    {
+        if is_spoiled(reading.sheet, &[field.value]) {
+            return Ok(());
+        }
+        if field.kind == FieldKind::RequiresDist {
+            self.requirements = self.requirements.saturating_add(1);
+        }
+        let CheckedText { findings, listed } = checked;
+        self.report_part(reading, field.value, findings, listed.as_ref())
+    }
+
     // Processes a field of metadata, and the bytes before it from one on. Returns the byte after
     // it.
     fn take_field(
@@ -51,18 +70,12 @@ impl<H: Host, C: CheckLines> Walk<'_, H, C> {
         ensures { Grows self.old.report.tally self.new.report.tally }
     {
         let CheckedField { field, checked } = checked;
-        let CheckedText { findings, listed } = checked;
         let sheet = reading.sheet;
         let value = field.value;
         let start = offset_of(sheet, field.name.place.to_end);
         let end = offset_of(sheet, value.place.to_end).saturating_add(value.text.len());
         self.report_invalid(reading, from, start)?;
-        if !is_spoiled(sheet, &[value]) {
-            if field.kind == FieldKind::RequiresDist {
-                self.requirements = self.requirements.saturating_add(1);
-            }
-            self.report_part(reading, value, findings, listed)?;
-        }
+        self.report_field(reading, &field, checked)?;
         self.report_invalid(reading, start, end)?;
         self.progress.step(self.alloc, self.host)?;
         if self.report.is_full() {

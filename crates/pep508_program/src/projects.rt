@@ -1,0 +1,73 @@
+//! The entries of a project as they are reported.
+
+use project_files::{Content, ProjectEntry, Section};
+use project_findings::{CheckedProject, fault_finding, place_findings};
+use requirement_findings::{CheckedText, Finding, Listed};
+use std::alloc::{AllocError, Global};
+
+// An entry of a project.
+#[derive(Debug, Drop)]
+pub(crate) struct EntryReport {
+    // Its first byte in the file.
+    pub(crate) start: usize,
+    // Its fault, and the findings in its string, at their places in the file.
+    pub(crate) findings: Vec<Finding>,
+    // The list entry of its requirement.
+    pub(crate) listed: Option<Listed>,
+    pub(crate) is_requirement: bool,
+}
+
+// Whether the entry is a requirement, valid or not.
+fn is_requirement(entry: &ProjectEntry) -> bool {
+    let is_text = matches!(entry.content, Content::Text(_));
+    is_text && entry.key.section != Section::RequiresPython
+}
+
+// The reports of the entries of a project, in their order.
+pub(crate) fn reports_of(
+    alloc: Global,
+    text: &str,
+    project: CheckedProject,
+) -> Result<Vec<EntryReport>, AllocError> {
+    let CheckedProject {
+        file,
+        places,
+        checked,
+    } = project;
+    let mut reports = Vec::new(alloc);
+    for CheckedText { findings, listed } in checked {
+        let number = reports.len();
+        if let (Some(entry), Some(place)) = (file.entries.get(number), places.get(number)) {
+            reports.push(EntryReport {
+                start: place.part(entry).start,
+                findings: place_findings(alloc, text, entry, *place, findings)?,
+                listed,
+                is_requirement: is_requirement(entry),
+            })?;
+        }
+    }
+    for fault in file.faults {
+        let number = fault.entry;
+        if let (Some(entry), Some(place)) = (file.entries.get(number), places.get(number)) {
+            let finding = fault_finding(alloc, text, entry, *place, fault.kind)?;
+            if let Some(report) = reports.get_mut(number) {
+                report.findings.push(finding)?;
+            }
+        }
+    }
+    Ok(reports)
+}
+
+// The numbers of the reports in the order of their places.
+pub(crate) fn order_of(alloc: Global, reports: &[EntryReport]) -> Result<Vec<usize>, AllocError> {
+    let mut order = Vec::new(alloc);
+    for index in 0..reports.len() {
+        order.push((reports[index].start, index))?;
+    }
+    order.sort()?;
+    let mut indices = Vec::new(alloc);
+    for (_, index) in order {
+        indices.push(index)?;
+    }
+    Ok(indices)
+}
