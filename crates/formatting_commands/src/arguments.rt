@@ -1,0 +1,94 @@
+//! The command line of the command `fmt`.
+
+use clap::{Arg, ArgAction, ArgMatches, Command, value_parser};
+use pep508_program::{Coloring, color_argument, coloring_of};
+use std::alloc::{AllocError, Global};
+
+/// What becomes of the formatted files.
+#[derive(Clone, Copy, Debug, PartialEq, Eq)]
+pub enum FormatMode {
+    /// The new text goes to standard output.
+    Print,
+    /// The lines that would change are named.
+    Check,
+    /// Each file that changes is replaced.
+    Write,
+}
+
+/// The command `fmt`.
+#[derive(Clone, Copy, Debug)]
+pub struct FormatCommand<'m> {
+    /// The files; none means standard input, and so does `-`.
+    pub files: &'m [&'m str],
+    pub mode: FormatMode,
+    pub coloring: Coloring,
+    /// The room of each requirement.
+    pub limit: u64,
+}
+
+fn flag<'a>(alloc: Global, name: &'a str, help: &'a str) -> Arg<'a> {
+    Arg::new(alloc, name)
+        .long(name)
+        .action(ArgAction::SetTrue)
+        .help(help)
+}
+
+// The command line of the command.
+fn command_line<'a>(alloc: Global) -> Result<Command<'a>, AllocError> {
+    let files = Arg::new(alloc, "file")
+        .value_name("FILE")
+        .num_args(0..)
+        .help("The requirements files to format; `-`, or none, is standard input");
+    let check = flag(
+        alloc,
+        "check",
+        "Name the lines that would change, and fail if there are some",
+    );
+    let write = flag(
+        alloc,
+        "write",
+        "Replace each file that changes by its new text",
+    );
+    let limit = Arg::new(alloc, "limit")
+        .long("limit")
+        .value_name("N")
+        .value_parser(value_parser!(u64).range(1..))
+        .default_value("1000000")
+        .help("The room of each requirement; one that needs more is too complex, and stays");
+    Command::new(alloc, "fmt")
+        .about("Writes each requirement of a requirements file in its normal text")
+        .after_help("Example: pep508 fmt --check requirements.txt")
+        .arg(files)?
+        .arg(check.conflicts_with("write")?)?
+        .arg(write)?
+        .arg(color_argument(alloc))?
+        .arg(limit)
+}
+
+/// Adds the command `fmt` to a command line.
+pub fn with_format_command(alloc: Global, command: Command<'_>) -> Result<Command<'_>, AllocError> {
+    command.subcommand(command_line(alloc)?)
+}
+
+fn mode_of(checks: bool, writes: bool) -> FormatMode {
+    if checks {
+        FormatMode::Check
+    } else if writes {
+        FormatMode::Write
+    } else {
+        FormatMode::Print
+    }
+}
+
+/// Returns the command of the matches, or `None` if it is not `fmt`.
+pub fn format_command<'m>(matches: &'m ArgMatches<'_>) -> Option<FormatCommand<'m>> {
+    match matches.subcommand() {
+        Some(("fmt", given)) => Some(FormatCommand {
+            files: given.get_strs("file").unwrap_or(&[]),
+            mode: mode_of(given.get_flag("check"), given.get_flag("write")),
+            coloring: coloring_of(given.get_str("color")),
+            limit: given.get_one::<u64>("limit").unwrap_or(u64::MAX),
+        }),
+        _ => None,
+    }
+}
