@@ -1,0 +1,4 @@
+pub mod TargetLaws
+pub mod ReachedLaws
+pub mod TruthLaws
+pub mod ProductLaws
