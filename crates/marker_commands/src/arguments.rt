@@ -4,6 +4,15 @@ use clap::{Arg, ArgAction, ArgMatches, Command, value_parser};
 use pep508_program::{Coloring, color_argument, coloring_of};
 use std::alloc::{AllocError, Global};
 
+/// The words of `compare`.
+#[derive(Clone, Copy, Debug)]
+pub struct CompareWords<'m> {
+    pub first: &'m str,
+    pub second: &'m str,
+    /// Whether environments are written that show how the markers relate.
+    pub shows_witness: bool,
+}
+
 /// The words of `simplify`.
 #[derive(Clone, Copy, Debug)]
 pub struct SimplifyWords<'m> {
@@ -40,7 +49,7 @@ pub struct EvalWords<'m> {
 /// What a command about markers is to do.
 #[derive(Clone, Copy, Debug)]
 pub enum MarkerTask<'m> {
-    Compare { first: &'m str, second: &'m str },
+    Compare(CompareWords<'m>),
     Simplify(SimplifyWords<'m>),
     Eval(EvalWords<'m>),
 }
@@ -92,11 +101,16 @@ pub fn with_common(alloc: Global, command: Command<'_>) -> Result<Command<'_>, A
 }
 
 fn compare_command<'a>(alloc: Global) -> Result<Command<'a>, AllocError> {
+    let witness = Arg::new(alloc, "witness")
+        .long("witness")
+        .action(ArgAction::SetTrue)
+        .help("Write environments that show it; keys without a value are free");
     let compare = Command::new(alloc, "compare")
         .about("Tells how the environments of two markers relate")
         .after_help("Example: pep508 compare \"os_name == 'nt'\" \"os_name != 'posix'\"")
         .arg(marker_argument(alloc, "first", "FIRST"))?
-        .arg(marker_argument(alloc, "second", "SECOND"))?;
+        .arg(marker_argument(alloc, "second", "SECOND"))?
+        .arg(witness)?;
     with_common(alloc, compare)
 }
 
@@ -223,10 +237,11 @@ fn eval_words<'m>(given: &'m ArgMatches<'_>) -> EvalWords<'m> {
 // What the command of this name is to do, if it is one about markers.
 fn task_of<'m>(name: &str, given: &'m ArgMatches<'_>) -> Option<MarkerTask<'m>> {
     match name {
-        "compare" => Some(MarkerTask::Compare {
+        "compare" => Some(MarkerTask::Compare(CompareWords {
             first: text_of(given, "first"),
             second: text_of(given, "second"),
-        }),
+            shows_witness: given.get_flag("witness"),
+        })),
         "simplify" => Some(MarkerTask::Simplify(simplify_words(given))),
         "eval" => Some(MarkerTask::Eval(eval_words(given))),
         _ => None,

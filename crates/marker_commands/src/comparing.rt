@@ -7,11 +7,12 @@ ghost use Rattle.marker_commands.specs.Outcome.{IsRefusalOf};
 
 use crate::messages::GivenMarker;
 use crate::outcome::{Outcome, Reply};
-use crate::parsing::{refuse, told};
+use crate::parsing::{out_of_memory, parse_marker, refuse, told};
 use crate::settings::Settings;
 use marker_answers::{Comparison, ComparisonFault, compare};
 use marker_graph::Interner;
 use marker_relation::MarkerRelation;
+use marker_witnesses::{ShownWitness, witness_lines, witnesses};
 use std::alloc::{AllocError, Global};
 use url::Url;
 
@@ -107,5 +108,77 @@ pub fn compare_markers(alloc: Global, settings: Settings, first: &str, second: &
     match relation_of(&pair, settings.looks(), &mut interner, &mut messages) {
         Ok(relation) => Reply::with_line(alloc, Outcome::Answered, word(relation), messages),
         Err(outcome) => Reply::without_answer(alloc, outcome, messages),
+    }
+}
+
+/// How two markers relate, and what shows it.
+#[derive(Debug, Drop)]
+pub struct Witnessed {
+    pub relation: MarkerRelation,
+    pub shown: Vec<ShownWitness>,
+}
+
+// How two markers relate, and what shows it. Appends their warnings, or why there is no answer.
+fn witnessed_relation(
+    pair: &Pair<'_>,
+    looks: usize,
+    interner: &mut Interner,
+    messages: &mut String,
+) -> Result<Witnessed, Outcome> {
+    let first = parse_marker(&pair.first, interner, messages)?;
+    let second = parse_marker(&pair.second, interner, messages)?;
+    let Some(relation) = MarkerRelation::of(interner, first, second, looks) else {
+        let added = pair.first.add_too_complex(interner.allocator(), messages);
+        return Err(told(Outcome::TooComplex, added));
+    };
+    match witnesses(interner, first, second, relation) {
+        Ok(shown) => Ok(Witnessed { relation, shown }),
+        Err(AllocError) => Err(out_of_memory(interner, &pair.first, messages)),
+    }
+}
+
+// The word for the relation, and the lines of what shows it.
+fn witnessed_text(alloc: Global, witnessed: &Witnessed) -> Result<String, AllocError> {
+    let mut text = String::from_str(alloc, word(witnessed.relation))?;
+    text.push_str("\n")?;
+    let lines = witness_lines(alloc, &witnessed.shown)?;
+    text.push_str(lines.as_str())?;
+    Ok(text)
+}
+
+/// Returns what `compare --witness` writes: the word for how the markers of two texts relate, and
+/// environments that show it.
+pub fn compare_with_witness(alloc: Global, settings: Settings, first: &str, second: &str) -> Reply {
+    let mut interner = settings.interner(alloc);
+    let mut messages = String::new(alloc);
+    let has_colors = settings.has_colors;
+    let pair = Pair {
+        first: GivenMarker {
+            name: "<first>",
+            text: first,
+            has_colors,
+        },
+        second: GivenMarker {
+            name: "<second>",
+            text: second,
+            has_colors,
+        },
+    };
+    let witnessed = match witnessed_relation(
+        &pair,
+        settings.looks(),
+        &mut interner,
+        &mut messages,
+    ) {
+        Ok(witnessed) => witnessed,
+        Err(refused) => return Reply::without_answer(alloc, refused, messages),
+    };
+    match witnessed_text(alloc, &witnessed) {
+        Ok(output) => Reply {
+            outcome: Outcome::Answered,
+            output,
+            messages,
+        },
+        Err(AllocError) => Reply::without_answer(alloc, Outcome::OutOfMemory, messages),
     }
 }

@@ -1,7 +1,7 @@
 //! The commands about markers, from their words to their status.
 
-use crate::arguments::{EvalWords, MarkerCommand, MarkerTask, SimplifyWords};
-use crate::comparing::compare_markers;
+use crate::arguments::{CompareWords, EvalWords, MarkerCommand, MarkerTask, SimplifyWords};
+use crate::comparing::{compare_markers, compare_with_witness};
 use crate::environments::{SHORT, assignments_of, extras_of, is_short, known_of};
 use crate::evaluating::{Situation, evaluate_marker};
 use crate::outcome::{Outcome, Reply};
@@ -11,6 +11,14 @@ use crate::simplifying::{Simplification, simplify_marker};
 use crate::stops::{Stop, refused_value};
 use pep508_program::{Failure, Host, Tally, has_colors, out_of_memory, report_failure};
 use std::alloc::Global;
+
+fn compare(alloc: Global, settings: Settings, words: &CompareWords<'_>) -> Reply {
+    if words.shows_witness {
+        compare_with_witness(alloc, settings, words.first, words.second)
+    } else {
+        compare_markers(alloc, settings, words.first, words.second)
+    }
+}
 
 fn range_of(alloc: Global, word: Option<&str>) -> Result<PythonRange, Stop> {
     let Some(text) = word else {
@@ -62,9 +70,7 @@ fn reply_to<H: Host>(
     task: MarkerTask<'_>,
 ) -> Reply {
     let reply = match task {
-        MarkerTask::Compare { first, second } => {
-            Ok(compare_markers(alloc, settings, first, second))
-        }
+        MarkerTask::Compare(words) => Ok(compare(alloc, settings, &words)),
         MarkerTask::Simplify(words) => simplify(alloc, settings, &words),
         MarkerTask::Eval(words) => evaluate(alloc, host, settings, &words),
     };

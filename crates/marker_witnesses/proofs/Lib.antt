@@ -1,0 +1,4 @@
+mod ChoiceLaws
+mod EdgeLaws
+mod TextLaws
+mod SideLaws
