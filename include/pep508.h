@@ -22,10 +22,11 @@
 
    Pointers to other parameters are not NULL, and what a call writes does not
    overlap what it reads or other results. A call reads and writes nothing else,
-   keeps no pointer, and does not print, read the environment or end the process
+   keeps no pointer to its parameters, and does not print, read the environment or end the process
    (a build by `build_library --now` stops at an overflow or a bad access).
    Memory comes from malloc, and each refusal is answered by
-   PEP508_OUT_OF_MEMORY. Calls may run in any number of threads at a time. */
+   PEP508_OUT_OF_MEMORY. Calls may run in any number of threads at a time, but
+   only one at a time with the same struct pep508_interner. */
 #ifndef PEP508_H
 #define PEP508_H
 
@@ -50,8 +51,8 @@ enum pep508_answer {
                                     is no name, or the options are not one
                                     struct of this size */
     PEP508_TOO_COMPLEX = 7,      /* more nodes or looks than the options allow */
-    PEP508_NO_SUCH_MARKER = 8,   /* no call returns it yet */
-    PEP508_SHUT = 9              /* no call returns it yet */
+    PEP508_NO_SUCH_MARKER = 8,   /* no marker of the interner has this number */
+    PEP508_SHUT = 9              /* the interner is shut */
 };
 
 /* How two markers relate: the first of the list that is true. */
@@ -105,6 +106,14 @@ struct pep508_bound {
     struct pep508_text version;
 };
 #define PEP508_UNBOUNDED {0, PEP508_TEXT("")}
+
+/* Markers that are kept from call to call, each with a number. Begin with
+   PEP508_INTERNER, and change no field. */
+struct pep508_interner {
+    bool is_open;
+    void *at;
+};
+#define PEP508_INTERNER {false, NULL}
 
 /* The version of the library, such as 0.9.2. */
 int32_t pep508_version(char *buffer, size_t buffer_length, size_t *needed);
@@ -184,6 +193,72 @@ int32_t pep508_marker_simplify(const char *text, size_t length,
 int32_t pep508_serve(const char *script, size_t length,
                      const struct pep508_options *options, size_t options_count,
                      char *buffer, size_t buffer_length, size_t *needed);
+
+/* The calls below keep markers in an interner: each is parsed once and then has
+   a number, which costs less than to give its text to each call.
+
+   The numbers start at 0, and each new marker has the next one. A number means the
+   same marker until pep508_interner_release or pep508_interner_free, whatever
+   other calls answer. Two numbers may have the same marker. A number that no
+   marker has is answered by PEP508_NO_SUCH_MARKER, and an interner that is shut
+   by PEP508_SHUT. With an answer other than PEP508_DONE the markers are as
+   before.
+
+   `pieces` of the options limits the nodes of all markers of an interner together.
+   Once that has made it answer PEP508_TOO_COMPLEX, it answers so too when malloc
+   returns NULL for a node. */
+
+/* Opens an interner without markers. One that is open is freed before, if the call
+   answers PEP508_DONE. */
+int32_t pep508_interner_new(struct pep508_interner *handle,
+                            const struct pep508_options *options,
+                            size_t options_count);
+
+/* Frees all memory of an interner and shuts it. One that is shut stays so. */
+void pep508_interner_free(struct pep508_interner *handle);
+
+/* Writes how many markers have a number, for pep508_interner_release. */
+int32_t pep508_interner_mark(struct pep508_interner *handle, size_t *count);
+
+/* Removes all markers but the first `count`, with their nodes. Their numbers are
+   given to new markers again. If there are no more than `count`, nothing
+   changes. */
+int32_t pep508_interner_release(struct pep508_interner *handle, size_t count);
+
+/* Parses a marker and writes its number. */
+int32_t pep508_marker_parse(struct pep508_interner *handle, const char *text,
+                            size_t length, size_t *number);
+
+/* Writes the number of a new marker that is true where both are. */
+int32_t pep508_marker_and(struct pep508_interner *handle, size_t a, size_t b,
+                          size_t *number);
+
+/* Writes the number of a new marker that is true where at least one is. */
+int32_t pep508_marker_or(struct pep508_interner *handle, size_t a, size_t b,
+                         size_t *number);
+
+/* Writes the number of a new marker that is true where the given one is not. */
+int32_t pep508_marker_not(struct pep508_interner *handle, size_t a,
+                          size_t *number);
+
+/* Writes whether two markers are true in the same environments. */
+int32_t pep508_marker_equal(struct pep508_interner *handle, size_t a, size_t b,
+                            bool *value);
+
+/* Writes whether two markers are never true together. */
+int32_t pep508_marker_disjoint(struct pep508_interner *handle, size_t a, size_t b,
+                               bool *value);
+
+/* Writes whether a marker is true in an environment with these extras. */
+int32_t pep508_marker_evaluate_number(struct pep508_interner *handle, size_t number,
+                                      const struct pep508_environment *environment,
+                                      const struct pep508_text *extras,
+                                      size_t extras_count, bool *value);
+
+/* Writes the normal text of a marker, which is empty if the marker is true in
+   every environment. */
+int32_t pep508_marker_text(struct pep508_interner *handle, size_t number,
+                           char *buffer, size_t buffer_length, size_t *needed);
 
 #ifdef __cplusplus
 }

@@ -1,0 +1,4 @@
+pub mod Values
+pub mod HandleSteps
+pub mod HandleLaws
+pub mod NumberLaws

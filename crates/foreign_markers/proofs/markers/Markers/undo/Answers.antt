@@ -1,0 +1,8 @@
+use Rattle.std.proofs.Common.{refl}
+use Rattle.foreign_markers.proofs.NumberLaws.{truths_back}
+use Rattle.foreign_markers.proofs.markers.Markers.undo.Goals as goal
+
+pub returns-clause-kept : goal.returns-clause-kept
+returns-clause-kept c =
+    let self = c.args.self.now in
+    truths_back self.interner c.release.new.self self.entries.items c.args.before refl c.release.ensures.held c.release.ensures.kept self.held c.requires

@@ -1,0 +1,5 @@
+pub mod Entries
+pub mod Numbers
+pub mod Handle
+pub mod Interner
+pub mod Made

@@ -1,0 +1,309 @@
+//! The calls on a handle.
+
+ghost use Rattle.std.specs.Prelude.{◌≡◌, ◌≢◌, ◌∷◌, [], Some, None, length, take};
+ghost use Rattle.marker_grammar.specs.Refused.{IsNoMarker};
+ghost use Rattle.pep508_markers.specs.Machine as machine;
+ghost use Rattle.pep508_markers.specs.Machine.{IsMissing, Tells};
+ghost use Rattle.pep508_markers.specs.Text.{TextOverflows};
+ghost use Rattle.foreign_calls.specs.Buffer.{WouldWrite, Writes};
+ghost use Rattle.foreign_calls.specs.Environment.{bytes_of};
+ghost use Rattle.foreign_calls.specs.Marker.{Says};
+ghost use Rattle.foreign_markers.specs.Interner.{Becomes, Has, HasValueAt, truths};
+ghost use Rattle.foreign_markers.specs.Made.{HasOneMore};
+ghost use Rattle.foreign_markers.specs.Numbers.{Adds, HasText};
+
+use crate::handle::Handle;
+use crate::markers::Markers;
+use foreign_calls::{Answer, Environment, Options, Settings, hand_over};
+use std::alloc::Global;
+
+// Beginning and ending.
+impl Handle {
+    /// Opens the handle with an interner without markers. An open handle loses the markers it had.
+    pub fn begin(&mut self, alloc: Global, options: &[Options<'_>]) -> Answer
+        ensures done { result ≡ Answer.Done → truths self.new.value ≡ Some [] }
+        ensures kept { result ≢ Answer.Done → truths self.new.value ≡ truths self.old.value }
+    {
+        let settings = match Settings::of(options) {
+            Ok(settings) => settings,
+            Err(answer) => return answer,
+        };
+        match Box::new(alloc, Markers::new(alloc, &settings)) {
+            Ok(markers) => {
+                self.put(alloc, Handle::of(markers));
+                Answer::Done
+            }
+            Err(_) => Answer::OutOfMemory,
+        }
+    }
+
+    /// Frees the interner with its markers, and shuts the handle. A shut handle stays shut.
+    pub fn end(&mut self, alloc: Global)
+        ensures { self.new.value ≡ None }
+    {
+        self.put(alloc, Handle::shut());
+    }
+
+    /// Writes how many markers have a number.
+    #[tactic(auto, using(crate::proofs::HandleLaws::laws))]
+    pub fn mark(&mut self, alloc: Global, count: &mut usize) -> Answer
+        ensures done { result ≡ Answer.Done
+            → Has (λ cells. count.new ≡ length cells) self.old.value }
+        ensures same { truths self.new.value ≡ truths self.old.value }
+        ensures shut { self.old.value ≡ None → result ≡ Answer.Shut }
+        ensures kept { result ≢ Answer.Done → count.new ≡ count.old }
+    {
+        let Some(markers) = self.take(alloc) else {
+            return Answer::Shut;
+        };
+        *count = markers.count();
+        self.put(alloc, Handle::of(markers));
+        Answer::Done
+    }
+
+    /// Removes the markers from this number on, with their nodes.
+    #[tactic(auto, using(crate::proofs::HandleLaws::laws))]
+    pub fn release(&mut self, alloc: Global, count: usize) -> Answer
+        ensures done { result ≡ Answer.Done
+            → Becomes (λ before after. after ≡ take count before) self.old.value self.new.value }
+        ensures kept { result ≢ Answer.Done → self.new.value ≡ None }
+        ensures shut { self.old.value ≡ None → result ≡ Answer.Shut }
+    {
+        let Some(mut markers) = self.take(alloc) else {
+            return Answer::Shut;
+        };
+        markers.release(count);
+        self.put(alloc, Handle::of(markers));
+        Answer::Done
+    }
+}
+
+// Calls that make a marker.
+impl Handle {
+    /// Parses a marker, and writes its number.
+    #[tactic(auto, using(crate::proofs::HandleLaws::laws))]
+    pub fn parse(&mut self, alloc: Global, text: &[u8], number: &mut usize) -> Answer
+        ensures done { result ≡ Answer.Done
+            → Becomes (λ before after. Adds (Says text.now) before after number.new)
+            self.old.value self.new.value }
+        ensures kept { result ≢ Answer.Done → (number.new ≡ number.old)
+            × (truths self.new.value ≡ truths self.old.value) }
+
+        ensures invalid { result ≡ Answer.Invalid → IsNoMarker text.now }
+        ensures too_large { result ≡ Answer.NumberTooLarge → TextOverflows text.now }
+        ensures shut { self.old.value ≡ None → result ≡ Answer.Shut }
+    {
+        let Some(mut markers) = self.take(alloc) else {
+            return Answer::Shut;
+        };
+        let found = markers.parse(text);
+        self.put(alloc, Handle::of(markers));
+        match found {
+            Ok(parsed) => {
+                *number = parsed;
+                Answer::Done
+            }
+            Err(answer) => answer,
+        }
+    }
+
+    /// Writes the number of a new marker that is true where both are.
+    #[tactic(auto, using(crate::proofs::HandleLaws::laws))]
+    pub fn and(&mut self, alloc: Global, a: usize, b: usize, number: &mut usize) -> Answer
+        ensures done { result ≡ Answer.Done
+            → HasOneMore (machine.conjunction a b) number.new self.old.value self.new.value }
+        ensures kept { result ≢ Answer.Done → (number.new ≡ number.old)
+            × (truths self.new.value ≡ truths self.old.value) }
+
+        ensures missing { result ≡ Answer.NoSuchMarker
+            → Has (λ cells. IsMissing cells (a ∷ b ∷ [])) self.old.value }
+        ensures shut { self.old.value ≡ None → result ≡ Answer.Shut }
+    {
+        let Some(mut markers) = self.take(alloc) else {
+            return Answer::Shut;
+        };
+        let found = markers.and(a, b);
+        self.put(alloc, Handle::of(markers));
+        match found {
+            Ok(both) => {
+                *number = both;
+                Answer::Done
+            }
+            Err(answer) => answer,
+        }
+    }
+
+    /// Writes the number of a new marker that is true where one of two is.
+    #[tactic(auto, using(crate::proofs::HandleLaws::laws))]
+    pub fn or(&mut self, alloc: Global, a: usize, b: usize, number: &mut usize) -> Answer
+        ensures done { result ≡ Answer.Done
+            → HasOneMore (machine.disjunction a b) number.new self.old.value self.new.value }
+        ensures kept { result ≢ Answer.Done → (number.new ≡ number.old)
+            × (truths self.new.value ≡ truths self.old.value) }
+
+        ensures missing { result ≡ Answer.NoSuchMarker
+            → Has (λ cells. IsMissing cells (a ∷ b ∷ [])) self.old.value }
+        ensures shut { self.old.value ≡ None → result ≡ Answer.Shut }
+    {
+        let Some(mut markers) = self.take(alloc) else {
+            return Answer::Shut;
+        };
+        let found = markers.or(a, b);
+        self.put(alloc, Handle::of(markers));
+        match found {
+            Ok(either) => {
+                *number = either;
+                Answer::Done
+            }
+            Err(answer) => answer,
+        }
+    }
+
+    /// Writes the number of a new marker that is true where the given one is not.
+    #[tactic(auto, using(crate::proofs::HandleLaws::laws))]
+    pub fn not(&mut self, alloc: Global, a: usize, number: &mut usize) -> Answer
+        ensures done { result ≡ Answer.Done
+            → HasOneMore (machine.negation a) number.new self.old.value self.new.value }
+        ensures kept { result ≢ Answer.Done → (number.new ≡ number.old)
+            × (truths self.new.value ≡ truths self.old.value) }
+
+        ensures missing { result ≡ Answer.NoSuchMarker
+            → Has (λ cells. IsMissing cells (a ∷ [])) self.old.value }
+        ensures shut { self.old.value ≡ None → result ≡ Answer.Shut }
+    {
+        let Some(mut markers) = self.take(alloc) else {
+            return Answer::Shut;
+        };
+        let found = markers.not(a);
+        self.put(alloc, Handle::of(markers));
+        match found {
+            Ok(negation) => {
+                *number = negation;
+                Answer::Done
+            }
+            Err(answer) => answer,
+        }
+    }
+}
+
+// Questions about markers.
+impl Handle {
+    /// Writes whether two markers are true in the same environments.
+    #[tactic(auto, using(crate::proofs::HandleLaws::laws))]
+    pub fn equal(&mut self, alloc: Global, a: usize, b: usize, value: &mut bool) -> Answer
+        ensures done { result ≡ Answer.Done
+            → Has (λ cells. Tells cells (machine.equal a b) value.new) self.old.value }
+        ensures same { truths self.new.value ≡ truths self.old.value }
+        ensures kept { result ≢ Answer.Done → value.new ≡ value.old }
+
+        ensures missing { result ≡ Answer.NoSuchMarker
+            → Has (λ cells. IsMissing cells (a ∷ b ∷ [])) self.old.value }
+        ensures shut { self.old.value ≡ None → result ≡ Answer.Shut }
+    {
+        let Some(markers) = self.take(alloc) else {
+            return Answer::Shut;
+        };
+        let found = markers.equal(a, b);
+        self.put(alloc, Handle::of(markers));
+        match found {
+            Ok(equal) => {
+                *value = equal;
+                Answer::Done
+            }
+            Err(answer) => answer,
+        }
+    }
+
+    /// Writes whether two markers are never true together.
+    #[tactic(auto, using(crate::proofs::HandleLaws::laws))]
+    pub fn disjoint(&mut self, alloc: Global, a: usize, b: usize, value: &mut bool) -> Answer
+        ensures done { result ≡ Answer.Done
+            → Has (λ cells. Tells cells (machine.disjoint a b) value.new) self.old.value }
+        ensures same { truths self.new.value ≡ truths self.old.value }
+        ensures kept { result ≢ Answer.Done → value.new ≡ value.old }
+
+        ensures missing { result ≡ Answer.NoSuchMarker
+            → Has (λ cells. IsMissing cells (a ∷ b ∷ [])) self.old.value }
+        ensures shut { self.old.value ≡ None → result ≡ Answer.Shut }
+    {
+        let Some(markers) = self.take(alloc) else {
+            return Answer::Shut;
+        };
+        let found = markers.disjoint(a, b);
+        self.put(alloc, Handle::of(markers));
+        match found {
+            Ok(disjoint) => {
+                *value = disjoint;
+                Answer::Done
+            }
+            Err(answer) => answer,
+        }
+    }
+
+    /// Writes whether a marker is true in an environment with these extras.
+    #[tactic(auto, using(crate::proofs::HandleLaws::laws))]
+    pub fn evaluate(
+        &mut self,
+        alloc: Global,
+        number: usize,
+        environment: &Environment<'_>,
+        extras: &[&[u8]],
+        value: &mut bool,
+    ) -> Answer
+        ensures done { result ≡ Answer.Done
+            → Has (HasValueAt number environment.now (bytes_of extras.now) value.new)
+            self.old.value }
+        ensures same { truths self.new.value ≡ truths self.old.value }
+        ensures kept { result ≢ Answer.Done → value.new ≡ value.old }
+
+        ensures missing { result ≡ Answer.NoSuchMarker
+            → Has (λ cells. IsMissing cells (number ∷ [])) self.old.value }
+        ensures shut { self.old.value ≡ None → result ≡ Answer.Shut }
+    {
+        let Some(markers) = self.take(alloc) else {
+            return Answer::Shut;
+        };
+        let found = markers.evaluate(alloc, number, environment, extras);
+        self.put(alloc, Handle::of(markers));
+        match found {
+            Ok(holds) => {
+                *value = holds;
+                Answer::Done
+            }
+            Err(answer) => answer,
+        }
+    }
+
+    /// Writes the text of a marker, which is empty if it is true everywhere.
+    #[tactic(auto, using(crate::proofs::HandleLaws::laws))]
+    pub fn text(
+        &mut self,
+        alloc: Global,
+        number: usize,
+        buffer: &mut [u8],
+        needed: &mut usize,
+    ) -> Answer
+        ensures done { result ≡ Answer.Done → Has (λ cells. Writes (HasText cells number)
+            buffer.old buffer.new needed.new) self.old.value }
+        ensures too_small { result ≡ Answer.BufferTooSmall → Has (λ cells. WouldWrite
+            (HasText cells number) buffer.old buffer.new needed.new) self.old.value }
+        ensures same { truths self.new.value ≡ truths self.old.value }
+        ensures kept { result ≢ Answer.Done → buffer.new ≡ buffer.old }
+
+        ensures none { result ≢ Answer.Done → result ≢ Answer.BufferTooSmall → needed.new ≡ 0 }
+        ensures missing { result ≡ Answer.NoSuchMarker
+            → Has (λ cells. IsMissing cells (number ∷ [])) self.old.value }
+        ensures shut { self.old.value ≡ None → result ≡ Answer.Shut }
+    {
+        *needed = 0;
+        let Some(markers) = self.take(alloc) else {
+            return Answer::Shut;
+        };
+        let found = markers.text(number);
+        self.put(alloc, Handle::of(markers));
+        match found {
+            Ok(text) => hand_over(text.as_bytes(), buffer, needed),
+            Err(answer) => answer,
+        }
+    }
+}

@@ -1,0 +1,15 @@
+//! Markers that another language keeps from call to call: it has a handle, and names each marker by
+//! a number.
+//!
+//! A call that returns another answer than `Done` changes no marker and no number. Numbers start at
+//! 0, and each new marker has the next one.
+#![tactic(auto)]
+
+mod calls;
+mod handle;
+mod loose;
+mod markers;
+mod questions;
+
+pub use handle::Handle;
+pub use markers::Markers;

@@ -1,0 +1,76 @@
+//! Questions about markers by number, which change nothing.
+
+ghost use Rattle.std.specs.Prelude.{◌≡◌, ◌∷◌, [], IfErr, IfOk, string_bytes};
+ghost use Rattle.pep508_markers.specs.Machine as machine;
+ghost use Rattle.pep508_markers.specs.Machine.{Tells};
+ghost use Rattle.foreign_calls.specs.Environment.{bytes_of};
+ghost use Rattle.foreign_markers.specs.Interner.{HasValueAt};
+ghost use Rattle.foreign_markers.specs.Numbers.{HasText, IsRefused, truths_of};
+
+use crate::markers::Markers;
+use foreign_calls::{Answer, Environment, marker_text, read_environment, read_names};
+use std::alloc::Global;
+
+impl Markers {
+    /// Returns whether two markers are true in the same environments.
+    #[tactic(auto, using(crate::proofs::NumberLaws::missing_two))]
+    pub fn equal(&self, a: usize, b: usize) -> Result<bool, Answer>
+        ensures told { IfOk result (Tells (truths_of self.now) (machine.equal a b)) }
+        ensures refused { IfErr result (IsRefused (truths_of self.now) (a ∷ b ∷ [])) }
+    {
+        let Some((left, right)) = self.two_trees(a, b) else {
+            return Err(Answer::NoSuchMarker);
+        };
+        Ok(self.interner.equivalent(left, right))
+    }
+
+    /// Returns whether two markers are never true together, or `TooComplex` if that takes more
+    /// looks than the settings allow.
+    #[tactic(auto, using(crate::proofs::NumberLaws::separating))]
+    pub fn disjoint(&self, a: usize, b: usize) -> Result<bool, Answer>
+        ensures told { IfOk result (Tells (truths_of self.now) (machine.disjoint a b)) }
+        ensures refused { IfErr result (IsRefused (truths_of self.now) (a ∷ b ∷ [])) }
+    {
+        let Some((left, right)) = self.two_trees(a, b) else {
+            return Err(Answer::NoSuchMarker);
+        };
+        match left.is_disjoint_within(&self.interner, right, self.looks) {
+            Some(disjoint) => Ok(disjoint),
+            None => Err(Answer::TooComplex),
+        }
+    }
+
+    /// Returns whether a marker is true in an environment with these extras.
+    #[tactic(auto, using(crate::proofs::NumberLaws::evaluating))]
+    pub fn evaluate(
+        &self,
+        alloc: Global,
+        number: usize,
+        values: &Environment<'_>,
+        extras: &[&[u8]],
+    ) -> Result<bool, Answer>
+        ensures told { IfOk result (λ value. HasValueAt number values.now (bytes_of extras.now)
+            value (truths_of self.now)) }
+        ensures refused { IfErr result (IsRefused (truths_of self.now) (number ∷ [])) }
+    {
+        let Some(tree) = self.tree(number) else {
+            return Err(Answer::NoSuchMarker);
+        };
+        let environment = read_environment(alloc, values)?;
+        let names = read_names(alloc, extras)?;
+        Ok(tree.evaluate(&self.interner, &environment, &names))
+    }
+
+    /// Returns the text of a marker, which is empty if it is true everywhere.
+    #[tactic(auto, using(crate::proofs::NumberLaws::printing))]
+    pub fn text(&self, number: usize) -> Result<String, Answer>
+        ensures written { IfOk result
+            (λ text. HasText (truths_of self.now) number (string_bytes text)) }
+        ensures refused { IfErr result (IsRefused (truths_of self.now) (number ∷ [])) }
+    {
+        let Some(tree) = self.tree(number) else {
+            return Err(Answer::NoSuchMarker);
+        };
+        marker_text(tree, &self.interner)
+    }
+}

@@ -1,0 +1,236 @@
+//! Calls on a handle with markers by number.
+
+ghost use Rattle.std.specs.Prelude.{◌≡◌, ◌≢◌, ◌∷◌, [], Some, None, length, take};
+ghost use Rattle.marker_grammar.specs.Refused.{IsNoMarker};
+ghost use Rattle.pep508_markers.specs.Machine as machine;
+ghost use Rattle.pep508_markers.specs.Machine.{IsMissing, Tells};
+ghost use Rattle.pep508_markers.specs.Text.{TextOverflows};
+ghost use Rattle.foreign_calls.specs.Answer.{done, invalid, shut, too_large, too_small};
+ghost use Rattle.foreign_calls.specs.Buffer.{WouldWrite, Writes};
+ghost use Rattle.foreign_calls.specs.Environment.{bytes_of};
+ghost use Rattle.foreign_calls.specs.Marker.{Says};
+ghost use Rattle.foreign_markers.specs.Interner.{Becomes, Has, HasValueAt, no_such_marker, truths};
+ghost use Rattle.foreign_markers.specs.Made.{HasOneMore};
+ghost use Rattle.foreign_markers.specs.Numbers.{Adds, HasText};
+
+use foreign_calls::{Environment, Options};
+use foreign_markers::Handle;
+use std::alloc::Global;
+
+/// Opens the handle with an interner without markers. An open handle loses the markers it had.
+#[unsafe(no_mangle)]
+pub extern "C" fn pep508_interner_new(
+    alloc: Global,
+    handle: &mut Handle,
+    options: &[Options<'_>],
+) -> i32
+    ensures done { result ≡ done → truths handle.new.value ≡ Some [] }
+    ensures kept { result ≢ done → truths handle.new.value ≡ truths handle.old.value }
+{
+    handle.begin(alloc, options).code()
+}
+
+/// Frees the interner with its markers, and shuts the handle. A shut handle stays shut.
+#[unsafe(no_mangle)]
+pub extern "C" fn pep508_interner_free(alloc: Global, handle: &mut Handle)
+    ensures { handle.new.value ≡ None }
+{
+    handle.end(alloc);
+}
+
+/// Writes how many markers have a number.
+#[unsafe(no_mangle)]
+pub extern "C" fn pep508_interner_mark(alloc: Global, handle: &mut Handle, count: &mut usize) -> i32
+    ensures done { result ≡ done
+        → Has (λ cells. count.new ≡ length cells) handle.old.value }
+    ensures same { truths handle.new.value ≡ truths handle.old.value }
+    ensures shut { handle.old.value ≡ None → result ≡ shut }
+    ensures kept { result ≢ done → count.new ≡ count.old }
+{
+    handle.mark(alloc, count).code()
+}
+
+/// Removes the markers from this number on, with their nodes.
+#[unsafe(no_mangle)]
+pub extern "C" fn pep508_interner_release(alloc: Global, handle: &mut Handle, count: usize) -> i32
+    ensures done { result ≡ done
+        → Becomes (λ before after. after ≡ take count before) handle.old.value handle.new.value }
+    ensures kept { result ≢ done → handle.new.value ≡ None }
+    ensures shut { handle.old.value ≡ None → result ≡ shut }
+{
+    handle.release(alloc, count).code()
+}
+
+/// Parses a marker, and writes its number.
+#[unsafe(no_mangle)]
+pub extern "C" fn pep508_marker_parse(
+    alloc: Global,
+    handle: &mut Handle,
+    text: &[u8],
+    number: &mut usize,
+) -> i32
+    ensures done { result ≡ done
+        → Becomes (λ before after. Adds (Says text.now) before after number.new)
+        handle.old.value handle.new.value }
+    ensures kept { result ≢ done → (number.new ≡ number.old)
+        × (truths handle.new.value ≡ truths handle.old.value) }
+
+    ensures invalid { result ≡ invalid → IsNoMarker text.now }
+    ensures too_large { result ≡ too_large → TextOverflows text.now }
+    ensures shut { handle.old.value ≡ None → result ≡ shut }
+{
+    handle.parse(alloc, text, number).code()
+}
+
+/// Writes the number of a new marker that is true where both are.
+#[unsafe(no_mangle)]
+pub extern "C" fn pep508_marker_and(
+    alloc: Global,
+    handle: &mut Handle,
+    a: usize,
+    b: usize,
+    number: &mut usize,
+) -> i32
+    ensures done { result ≡ done
+        → HasOneMore (machine.conjunction a b) number.new handle.old.value handle.new.value }
+    ensures kept { result ≢ done → (number.new ≡ number.old)
+        × (truths handle.new.value ≡ truths handle.old.value) }
+
+    ensures missing { result ≡ no_such_marker
+        → Has (λ cells. IsMissing cells (a ∷ b ∷ [])) handle.old.value }
+    ensures shut { handle.old.value ≡ None → result ≡ shut }
+{
+    handle.and(alloc, a, b, number).code()
+}
+
+/// Writes the number of a new marker that is true where one of two is.
+#[unsafe(no_mangle)]
+pub extern "C" fn pep508_marker_or(
+    alloc: Global,
+    handle: &mut Handle,
+    a: usize,
+    b: usize,
+    number: &mut usize,
+) -> i32
+    ensures done { result ≡ done
+        → HasOneMore (machine.disjunction a b) number.new handle.old.value handle.new.value }
+    ensures kept { result ≢ done → (number.new ≡ number.old)
+        × (truths handle.new.value ≡ truths handle.old.value) }
+
+    ensures missing { result ≡ no_such_marker
+        → Has (λ cells. IsMissing cells (a ∷ b ∷ [])) handle.old.value }
+    ensures shut { handle.old.value ≡ None → result ≡ shut }
+{
+    handle.or(alloc, a, b, number).code()
+}
+
+/// Writes the number of a new marker that is true where the given one is not.
+#[unsafe(no_mangle)]
+pub extern "C" fn pep508_marker_not(
+    alloc: Global,
+    handle: &mut Handle,
+    a: usize,
+    number: &mut usize,
+) -> i32
+    ensures done { result ≡ done
+        → HasOneMore (machine.negation a) number.new handle.old.value handle.new.value }
+    ensures kept { result ≢ done → (number.new ≡ number.old)
+        × (truths handle.new.value ≡ truths handle.old.value) }
+
+    ensures missing { result ≡ no_such_marker
+        → Has (λ cells. IsMissing cells (a ∷ [])) handle.old.value }
+    ensures shut { handle.old.value ≡ None → result ≡ shut }
+{
+    handle.not(alloc, a, number).code()
+}
+
+/// Writes whether two markers are true in the same environments.
+#[unsafe(no_mangle)]
+pub extern "C" fn pep508_marker_equal(
+    alloc: Global,
+    handle: &mut Handle,
+    a: usize,
+    b: usize,
+    value: &mut bool,
+) -> i32
+    ensures done { result ≡ done
+        → Has (λ cells. Tells cells (machine.equal a b) value.new) handle.old.value }
+    ensures same { truths handle.new.value ≡ truths handle.old.value }
+    ensures kept { result ≢ done → value.new ≡ value.old }
+
+    ensures missing { result ≡ no_such_marker
+        → Has (λ cells. IsMissing cells (a ∷ b ∷ [])) handle.old.value }
+    ensures shut { handle.old.value ≡ None → result ≡ shut }
+{
+    handle.equal(alloc, a, b, value).code()
+}
+
+/// Writes whether two markers are never true together.
+#[unsafe(no_mangle)]
+pub extern "C" fn pep508_marker_disjoint(
+    alloc: Global,
+    handle: &mut Handle,
+    a: usize,
+    b: usize,
+    value: &mut bool,
+) -> i32
+    ensures done { result ≡ done
+        → Has (λ cells. Tells cells (machine.disjoint a b) value.new) handle.old.value }
+    ensures same { truths handle.new.value ≡ truths handle.old.value }
+    ensures kept { result ≢ done → value.new ≡ value.old }
+
+    ensures missing { result ≡ no_such_marker
+        → Has (λ cells. IsMissing cells (a ∷ b ∷ [])) handle.old.value }
+    ensures shut { handle.old.value ≡ None → result ≡ shut }
+{
+    handle.disjoint(alloc, a, b, value).code()
+}
+
+/// Writes whether a marker is true in an environment with these extras.
+#[unsafe(no_mangle)]
+pub extern "C" fn pep508_marker_evaluate_number(
+    alloc: Global,
+    handle: &mut Handle,
+    number: usize,
+    environment: &Environment<'_>,
+    extras: &[&[u8]],
+    value: &mut bool,
+) -> i32
+    ensures done { result ≡ done
+        → Has (HasValueAt number environment.now (bytes_of extras.now) value.new)
+        handle.old.value }
+    ensures same { truths handle.new.value ≡ truths handle.old.value }
+    ensures kept { result ≢ done → value.new ≡ value.old }
+
+    ensures missing { result ≡ no_such_marker
+        → Has (λ cells. IsMissing cells (number ∷ [])) handle.old.value }
+    ensures shut { handle.old.value ≡ None → result ≡ shut }
+{
+    handle
+        .evaluate(alloc, number, environment, extras, value)
+        .code()
+}
+
+/// Writes the text of a marker, which is empty if it is true everywhere.
+#[unsafe(no_mangle)]
+pub extern "C" fn pep508_marker_text(
+    alloc: Global,
+    handle: &mut Handle,
+    number: usize,
+    buffer: &mut [u8],
+    needed: &mut usize,
+) -> i32
+    ensures done { result ≡ done → Has (λ cells. Writes (HasText cells number)
+        buffer.old buffer.new needed.new) handle.old.value }
+    ensures too_small { result ≡ too_small → Has (λ cells. WouldWrite
+        (HasText cells number) buffer.old buffer.new needed.new) handle.old.value }
+    ensures same { truths handle.new.value ≡ truths handle.old.value }
+    ensures kept { result ≢ done → buffer.new ≡ buffer.old }
+
+    ensures none { result ≢ done → result ≢ too_small → needed.new ≡ 0 }
+    ensures missing { result ≡ no_such_marker
+        → Has (λ cells. IsMissing cells (number ∷ [])) handle.old.value }
+    ensures shut { handle.old.value ≡ None → result ≡ shut }
+{
+    handle.text(alloc, number, buffer, needed).code()
+}
