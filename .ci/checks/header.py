@@ -18,6 +18,7 @@ HEADER = Path("include/pep508.h")
 EXPORTS = Path("crates/pep508_c/src")
 CALLS = Path("crates/foreign_calls/src")
 REQUIREMENTS = Path("crates/foreign_requirements/src")
+MARKERS = Path("crates/foreign_markers/src")
 
 # The parameters of C for a type of an exported function.
 CROSSES = {
@@ -30,6 +31,7 @@ CROSSES = {
     "&mut i32": ["int32_t *"],
     "&Environment<'_>": ["const struct pep508_environment *"],
     "&mut Span": ["struct pep508_span *"],
+    "&mut Handle": ["struct pep508_interner *"],
     "&BoundText<'_>": ["const struct pep508_bound *"],
     "&[Options<'_>]": ["const struct pep508_options *", "size_t"],
     "&[&[u8]]": ["const struct pep508_text *", "size_t"],
@@ -48,6 +50,7 @@ STRUCTS = {
     "pep508_environment": (CALLS / "environment.rt", "Environment"),
     "pep508_bound": (CALLS / "simplification.rt", "BoundText"),
     "pep508_span": (REQUIREMENTS / "check.rt", "Span"),
+    "pep508_interner": (MARKERS / "handle.rt", "Handle"),
 }
 ENUMS = {
     "pep508_answer": (CALLS / "answer.rt", "Answer"),

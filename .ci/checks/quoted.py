@@ -25,12 +25,16 @@ DRAWN = ("docs/ARCHITECTURE.md",)
 STATED = (
     "tests/test_pep508/outputs.rt.txt",
     "tests/test_pep508/metadata.rt.txt",
+    "tests/test_pep508/projects.rt.txt",
     "tests/test_marker_commands/outputs.rt.txt",
     "tests/test_marker_drawings/outputs.rt.txt",
+    "tests/test_selection_commands/outputs.rt.txt",
+    "tests/test_formatting_commands/outputs.rt.txt",
+    "library_for_c/handle.stdout",
     "library_for_c/use.stdout",
 )
 # The programs of other languages that are quoted.
-FOREIGN = ("library_for_c/use.c",)
+FOREIGN = ("library_for_c/handle.c", "library_for_c/use.c")
 FENCED = re.compile(r"^```(?P<kind>[^`\n]*)\n(?P<block>.*?)^```$", re.MULTILINE | re.DOTALL)
 COMMENTS = re.compile(r"(?:^[ \t]*//[/!].*\n)+", re.MULTILINE)
 IN_COMMENT = re.compile(r"^```\n(?P<block>.*?)^```$", re.MULTILINE | re.DOTALL)

@@ -30,6 +30,8 @@ HANDED_ON = {
     "crates/foreign_calls/src/environment.rt": 3,
     "crates/foreign_calls/src/marker.rt": 2,
     "crates/foreign_calls/src/simplification.rt": 1,
+    "crates/foreign_markers/src/calls.rt": 1,
+    "crates/foreign_markers/src/markers.rt": 1,
     "crates/foreign_scripts/src/script.rt": 1,
     "crates/line_server/src/serving.rt": 2,
     "crates/marker_commands/src/environments.rt": 2,
@@ -54,6 +56,7 @@ HANDED_ON = {
     "crates/pep508_program/src/commands.rt": 3,
     "crates/pep508_program/src/failures.rt": 2,
     "crates/pep508_program/src/walks.rt": 1,
+    "crates/pep508_program/src/walks/project.rt": 2,
     "crates/pep508_requirements/src/error.rt": 1,
     "crates/pep508_requirements/src/extras.rt": 1,
     "crates/pep508_requirements/src/head.rt": 2,
@@ -65,6 +68,7 @@ HANDED_ON = {
     "crates/requirement_words/src/extras.rt": 1,
     "crates/requirement_words/src/head.rt": 4,
     "crates/requirement_words/src/specifiers.rt": 1,
+    "crates/selection_commands/src/tables.rt": 4,
     "crates/version_ranges/src/gather.rt": 1,
 }
 # How often one is made up: a clone that is not equal to its source, since `Clone` has no law that
