@@ -88,13 +88,17 @@ fn compares_text(
     let variable = key.variable();
     match operator {
         MarkerOperator::Equal
-        | MarkerOperator::NotEqual
         | MarkerOperator::GreaterThan
         | MarkerOperator::GreaterEqual
         | MarkerOperator::LessThan
         | MarkerOperator::LessEqual => {
             let range = range_beside(nodes.allocator(), operator, value)?;
             Ok(asks_text(nodes, variable, range)?)
+        }
+        // To negate an id costs nothing; a complement would copy the value.
+        MarkerOperator::NotEqual => {
+            let range = range_beside(nodes.allocator(), MarkerOperator::Equal, value)?;
+            Ok(asks_text(nodes, variable, range)?.not())
         }
         MarkerOperator::TildeEqual => Err(Refusal::Fault(InvalidExpression)),
         MarkerOperator::In => Ok(asks(nodes, TruthVariable::In(variable, value))?),

@@ -13,6 +13,7 @@ use marker_nodes::{Branches, NodeId, NodeTable, TruthVariable};
 use marker_words::{TextVariable, VersionVariable};
 use pep440_version::Version;
 use std::alloc::AllocError;
+use std::ops::Bound;
 use version_ranges::{Cuts, Ranges};
 
 /// Returns the id of a substring test or an extra.
@@ -21,7 +22,7 @@ pub fn asks(nodes: &mut NodeTable, variable: TruthVariable) -> Result<NodeId, Al
     ensures rules { IsStore markers nodes.old → IsStore markers nodes.new }
     ensures asks { IfOk result (IsTruthOf nodes.new (answer variable)) }
 {
-    nodes.place_node(Branches::Truth(variable, NodeId::TRUE, NodeId::FALSE))
+    nodes.place_joined(Branches::Truth(variable, NodeId::TRUE, NodeId::FALSE))
 }
 
 /// Returns the id that is true if the variable's version is in the set.
@@ -35,8 +36,14 @@ pub fn asks_version(
     ensures asks { IfOk result
         (IsTruthOf nodes.new (λ v. contains_point version_cmp range (v.version variable))) }
 {
-    let edges = Cuts::from_ranges(range, NodeId::TRUE, NodeId::FALSE)?;
-    nodes.place_node(Branches::Version(variable, edges))
+    if let Some((Bound::Unbounded, _)) = range.bounding_range() {
+        let edges = Cuts::from_ranges(range, NodeId::TRUE, NodeId::FALSE)?;
+        return nodes.place_joined(Branches::Version(variable, edges));
+    }
+    // The negation has `TRUE` as its first child, so that its node is inserted as it is.
+    let edges = Cuts::from_ranges(range, NodeId::FALSE, NodeId::TRUE)?;
+    let negation = nodes.place_joined(Branches::Version(variable, edges))?;
+    Ok(negation.not())
 }
 
 /// Returns the id that is true if the variable's text is in the set.
@@ -50,6 +57,8 @@ pub fn asks_text(
     ensures asks { IfOk result
         (IsTruthOf nodes.new (λ v. contains_by string_bytes text_cmp range (v.text variable))) }
 {
-    let edges = Cuts::from_ranges(range, NodeId::TRUE, NodeId::FALSE)?;
-    nodes.place_node(Branches::Text(variable, edges))
+    // As above: few sets of texts begin before all texts.
+    let edges = Cuts::from_ranges(range, NodeId::FALSE, NodeId::TRUE)?;
+    let negation = nodes.place_joined(Branches::Text(variable, edges))?;
+    Ok(negation.not())
 }

@@ -1,11 +1,11 @@
 //! A table of nodes.
 
-ghost use Rattle.std.specs.Prelude.{◌≡◌, ◌↔◌, ◌<◌, ◌≤◌, [], false, length, IfOk, IsTrue, OnErr};
+ghost use Rattle.std.specs.Prelude.{◌≡◌, ◌↔◌, ◌<◌, ◌≤◌, [], false, true, length, IfOk, IsTrue, OnErr};
 ghost use Rattle.std.specs.Option.{option_copied};
 ghost use Rattle.marker_diagrams.specs.Diagram.{node_of, IsHeld, truth, Separated, AreChildren, IsReady, IsStore, Keeps, IsChoice};
 ghost use Rattle.marker_nodes.specs.Branches.{count, value_at, variable};
 ghost use Rattle.marker_nodes.specs.Choice.{asked, chosen};
-ghost use Rattle.marker_nodes.specs.Node.{listed_child, markers};
+ghost use Rattle.marker_nodes.specs.Node.{is_joined, listed_child, lowest, markers};
 ghost use Rattle.marker_nodes.specs.Table.{oldest, pieces_of};
 
 use crate::choice::Choice;
@@ -222,6 +222,23 @@ impl NodeTable {
         self.place(node, children)
     }
 
+    /// Returns the id of a node whose neighboring children differ, as `place_node` does. It is
+    /// inserted as it is if its first child is not a negation.
+    pub fn place_joined(&mut self, node: Node) -> Result<NodeId, AllocError>
+        requires children { AreChildren markers self.old (variable node) (value_at node) }
+        requires joined { is_joined node ≡ true }
+        ensures id { IfOk result (IsChoice markers self.new (variable node) (value_at node)) }
+        ensures rules { IsStore markers self.old → IsStore markers self.new }
+        ensures added { IfOk result (λ id. IsHeld self.old id → self.new ≡ self.old) }
+        ensures refused { OnErr result (self.new ≡ self.old) }
+        ensures kept { Keeps markers self.old self.new }
+    {
+        if first_child(&node).is_complement() || node.is_constant() {
+            return self.place_node(node);
+        }
+        self.insert(node)
+    }
+
     /// Removes the newest nodes, so that at most `len` are left. Their pieces are free again, and
     /// the table no longer holds their ids. The other ids keep their meaning.
     pub fn truncate(&mut self, len: usize)
@@ -253,5 +270,16 @@ impl NodeTable {
         self.pieces += if is_new { pieces } else { 0 };
         let _len = self.nodes.len();
         Ok(NodeId::new(index, false))
+    }
+}
+
+// The child of the first piece of a node.
+fn first_child(node: &Node) -> NodeId
+    ensures { value_at node.now lowest ≡ result }
+{
+    match node {
+        Branches::Version(_, edges) => *edges.leftmost_value(),
+        Branches::Text(_, edges) => *edges.leftmost_value(),
+        Branches::Truth(_, high, _) => *high,
     }
 }

@@ -146,6 +146,17 @@ module _ (old : List Node) (store : IsStore markers old) (t : NodeId) (held : Is
       truth_child markers old t has.0 v (λ j m e. (store.node j m e).below) has.1 ∙ truth_signed markers old (is_negated t) (pick has.0 v) v ∙ ap (λ s. signed s (truth markers old (pick has.0 v) v)) plain
       ∙ ap (λ c. truth markers old c v) (has.3 v)
 
+  -- a node whose children stay the same with extras set true stays the same
+  pub granted_unchanged : (Answers : List ℕ → Bool → Type 0) → ((v : Valuation) → IsGranted old Answers (child v) (child v)) → ((granted : List ℕ → Bool) → AnswersBy Answers granted → (v : Valuation) → child (with_extras granted v) ≡ child v) →
+      IsGranted old Answers t t
+  granted_unchanged Answers each same = record {
+    held = held;
+    means = λ granted fixed v.
+        let u = with_extras granted v in
+        plain_means v ∙ (each v).means granted fixed v ∙ ap (λ c. truth markers old c u) (sym (same granted fixed v)) ∙ sym (plain_means u);
+    after = λ y p. p;
+  }
+
   module _ (Answers : List ℕ → Bool → Type 0) (new : List Node) (k : Keeps markers old new) where
     -- for an extra that is set to true, the result of the child for true
     pub granted_high : (high : NodeId) → ((granted : List ℕ → Bool) → AnswersBy Answers granted → (v : Valuation) → child (with_extras granted v) ≡ high) → (w : Valuation) → child w ≡ high →

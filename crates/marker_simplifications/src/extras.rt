@@ -1,6 +1,6 @@
 //! Ids simplified for extras that are active.
 
-ghost use Rattle.std.specs.Prelude.{◌≡◌, ℕ, [], All, IfNone, IfOk, IfSome, List, OnOk, false, length};
+ghost use Rattle.std.specs.Prelude.{◌≡◌, ℕ, [], All, IfNone, IfOk, IfSome, List, OnOk, false, length, true};
 ghost use Rattle.std.specs.Fn.{FnReturnsAt};
 ghost use Rattle.marker_diagrams.specs.Diagram as diagram;
 ghost use Rattle.marker_diagrams.specs.Diagram.{Keeps};
@@ -41,6 +41,9 @@ pub fn grant_extras<F: Fn(&ExtraName) -> bool>(
             None => id.negate(id),
         };
         let (lowest, made) = descend(nodes, &known, is_extra, &mut pending, first)?;
+        if lowest == id.negate(id) {
+            return Ok(made.negate(id));
+        }
         known.insert(lowest, made)?;
     }
 }
@@ -149,6 +152,9 @@ fn advance<F: Fn(&ExtraName) -> bool>(
     if let Some(last) = wanted.pop() {
         return Ok(Step::Waits(last, wanted));
     }
+    if are_unchanged(known, &ids) {
+        return Ok(Step::Made(id));
+    }
     let branches = node.clone()?;
     let values = branches.values(alloc)?;
     let children = look_up_all(alloc, known, &values)?;
@@ -174,6 +180,13 @@ fn unknown_ids(
         wanted.push(id.negate(*id))?;
     }
     Ok(wanted)
+}
+
+// Whether each id of a list is its own result.
+fn are_unchanged(known: &HashMap<NodeId, NodeId>, ids: &[NodeId]) -> bool
+    ensures { result ≡ true → AreFoundAs known.now.entries ids.now ids.now }
+{
+    ids.iter().all(|id| look_up(known, *id) == Some(*id))
 }
 
 // The results of the ids of a list, which all have one.

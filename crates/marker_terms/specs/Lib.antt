@@ -5,3 +5,5 @@ pub mod Numbered
 pub mod Endings
 pub mod Numbering
 pub mod Extra
+pub mod Exclusion
+pub mod Meanings

@@ -16,6 +16,6 @@ mod version_set;
 
 pub use extra::common_extra;
 pub use reduction::reduce;
-pub use term::one_clause;
-pub use text_set::{text_clauses, text_range_terms};
-pub use version_set::{version_clauses, version_range_terms};
+pub use term::{one_clause, push_large};
+pub use text_set::{text_clauses, text_exclusion, text_range_terms};
+pub use version_set::{version_clauses, version_exclusion, version_range_terms};

@@ -6,7 +6,7 @@ ghost use Rattle.marker_terms.specs.Numbering.{AreNumbered, Extends, IsNumbered,
 ghost use Rattle.marker_terms.specs.Numbered.{left_of};
 
 use crate::numbered::NumberedTerm;
-use crate::term::{is_before, is_negation, is_same};
+use crate::term::{is_before, is_negation, is_same, push_large};
 use marker_parts::MarkerExpression;
 use std::alloc::{AllocError, Global};
 
@@ -65,7 +65,7 @@ fn new_number(
     let pair = numbering.names.len();
     let name = term.clone()?;
     numbering.order.insert(place, pair)?;
-    numbering.names.push(name)?;
+    push_large(&mut numbering.names, name)?;
     Ok(2 * pair)
 }
 
@@ -94,7 +94,7 @@ fn numbered_clause(
     let mut terms = Vec::with_capacity(alloc, clause.len())?;
     for expression in clause {
         let number = number(numbering, &expression)?;
-        terms.push(NumberedTerm { number, expression })?;
+        push_large(&mut terms, NumberedTerm { number, expression })?;
     }
     Ok(terms)
 }
@@ -129,7 +129,7 @@ fn expressions(
 {
     let mut terms = Vec::with_capacity(alloc, clause.len())?;
     for term in clause {
-        terms.push(term.expression)?;
+        push_large(&mut terms, term.expression)?;
     }
     Ok(terms)
 }

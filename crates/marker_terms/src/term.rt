@@ -1,21 +1,20 @@
 //! Comparisons that are equal, or each other's negation.
 
-ghost use Rattle.std.specs.Prelude.{◌≡◌, ℕ, IfOk, IfSome, List, Some, length, not, true};
+ghost use Rattle.std.specs.Prelude.{◌≡◌, ◌++◌, ◌∷◌, [], IfOk, IfSome, OnOk, Some, length, not, true};
 ghost use Rattle.std.specs.Ordering.{eq_by_cmp};
 ghost use Rattle.version_ranges.specs.Point.{Point};
 ghost use Rattle.pep440_version.specs.Order.{version_cmp};
 ghost use Rattle.pep440_version.specs.Parts.{Parts};
 ghost use Rattle.pep440_specifier.specs.Operator.{is_star, negated};
-ghost use Rattle.marker_words.specs.declared.key.MarkerValueString.{MarkerValueString};
 ghost use Rattle.marker_words.specs.declared.key.MarkerValueVersion.{MarkerValueVersion};
 ghost use Rattle.marker_environment.specs.Valuation.{Valuation};
-ghost use Rattle.marker_parts.specs.Expression.{holds_text, holds_version};
+ghost use Rattle.marker_parts.specs.Expression.{holds_version};
 ghost use Rattle.marker_terms.specs.Clauses.{clause_holds, clauses_hold, clauses_of, term_holds};
+ghost use Rattle.marker_terms.specs.Meanings.{AreOpposite};
 ghost use Rattle.marker_terms.specs.Plain.{AllPrintable, HavePrintableTerms};
 
 use marker_parts::MarkerExpression;
 use marker_words::MarkerOperator;
-use pep440_rs::laws::{equal_specifiers_stand_for_one_set, negated_operator_is_complement};
 use pep440_rs::{Operator, VersionSpecifier};
 use pep440_version::laws::normal_text_reads_back;
 use std::alloc::{AllocError, Global};
@@ -192,7 +191,6 @@ fn is_same_specifier(specifier: &VersionSpecifier, other: &VersionSpecifier) -> 
     ensures { result ≡ true → (key : MarkerValueVersion) (p : Point Parts)
         → holds_version key specifier.now p ≡ holds_version key other.now p }
 {
-    equal_specifiers_stand_for_one_set();
     normal_text_reads_back(specifier.version());
     normal_text_reads_back(other.version());
     specifier == other
@@ -203,8 +201,6 @@ fn is_negated_specifier(specifier: &VersionSpecifier, other: &VersionSpecifier) 
     ensures { result ≡ true → (key : MarkerValueVersion) (p : Point Parts)
         → holds_version key specifier.now p ≡ not (holds_version key other.now p) }
 {
-    equal_specifiers_stand_for_one_set();
-    negated_operator_is_complement();
     normal_text_reads_back(specifier.version());
     normal_text_reads_back(other.version());
     if !has_negated_operator(specifier, other) {
@@ -241,16 +237,14 @@ fn has_equal_version(specifier: &VersionSpecifier, other: &VersionSpecifier) -> 
 }
 
 fn is_negated_operator(operator: MarkerOperator, other: MarkerOperator) -> bool
-    ensures { result ≡ true → (key : MarkerValueString) (value : List ℕ) (v : Valuation)
-        → holds_text operator key value v ≡ not (holds_text other key value v) }
+    ensures { result ≡ true → AreOpposite operator other }
 {
     opposite(operator) == Some(other)
 }
 
 // The operator that is true where this one is false. `None` for `~=`.
 fn opposite(operator: MarkerOperator) -> Option<MarkerOperator>
-    ensures { IfSome result (λ o. (key : MarkerValueString) (value : List ℕ) (v : Valuation)
-        → holds_text operator key value v ≡ not (holds_text o key value v)) }
+    ensures { IfSome result (AreOpposite operator) }
 {
     match operator {
         MarkerOperator::Equal => Some(MarkerOperator::NotEqual),
@@ -280,4 +274,15 @@ pub fn one_clause(
     let mut clauses = Vec::with_capacity(alloc, 1)?;
     clauses.push(terms)?;
     Ok(clauses)
+}
+
+/// Adds a large value to the end of a list, and drops it if there is no memory. (`Vec::push` would
+/// return it, and so copies each value four times.)
+#[inline(always)]
+pub fn push_large<T: Drop>(list: &mut Vec<T>, value: T) -> Result<(), AllocError>
+    ensures items { OnOk result (list.new.items ≡ list.old.items ++ (value ∷ [])) }
+{
+    list.reserve(1)?;
+    list.push_reserved(value);
+    Ok(())
 }

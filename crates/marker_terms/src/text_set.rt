@@ -1,19 +1,14 @@
 //! The clauses of a set of texts.
 
-ghost use Rattle.std.specs.Prelude.{◌≡◌, ℕ, IfOk, IfSome, List, not, string_bytes, true};
-ghost use Rattle.std.specs.Ordering.{is_eq};
-ghost use Rattle.version_ranges.specs.Bounds.{all_bounds, passes_at};
-ghost use Rattle.version_ranges.specs.Point.{Point, is_in_bounds};
-ghost use Rattle.version_ranges.specs.Ranges.{contains_by};
-ghost use Rattle.marker_words.specs.Compare.{beside, text_bound, text_cmp};
-ghost use Rattle.marker_words.specs.Key.{variable_of};
-ghost use Rattle.marker_environment.specs.Valuation.{Valuation};
+ghost use Rattle.std.specs.Prelude.{◌≡◌, IfOk, IfSome, not, string_bytes, true};
 ghost use Rattle.marker_parts.specs.Expression as asked;
 ghost use Rattle.marker_parts.specs.Expression.{test_of};
-ghost use Rattle.marker_terms.specs.Clauses.{clause_holds, clauses_hold, clauses_of};
-ghost use Rattle.marker_terms.specs.Plain.{AllPrintable, HavePrintableTerms, is_plain};
+ghost use Rattle.marker_terms.specs.Clauses.{clauses_of};
+ghost use Rattle.marker_terms.specs.Exclusion.{ExcludesTexts};
+ghost use Rattle.marker_terms.specs.Meanings.{ClausesMean, HasPlainTexts, IsOnlyText, IsPlainAt, TermsMean, in_text_range, in_texts};
+ghost use Rattle.marker_terms.specs.Plain.{AllPrintable, HavePrintableTerms, IsPrintable, is_plain};
 
-use crate::term::one_clause;
+use crate::term::{one_clause, push_large};
 use marker_parts::MarkerExpression;
 use marker_words::{MarkerOperator, MarkerValueString};
 use std::alloc::{AllocError, Global};
@@ -30,12 +25,10 @@ pub fn text_clauses(
     key: MarkerValueString,
     set: &Ranges<String>,
 ) -> Result<Vec<Vec<MarkerExpression>>, AllocError>
-    ensures means { IfOk result (λ clauses. (v : Valuation)
-        → clauses_hold (clauses_of clauses.items) v
-        ≡ contains_by string_bytes text_cmp set.now (v.text (variable_of key))) }
+    ensures means { IfOk result (λ clauses.
+        ClausesMean (in_texts key set.now) (clauses_of clauses.items)) }
     ensures printable { IfOk result (λ clauses.
-        all_bounds (λ t. is_plain (string_bytes t)) set.now ≡ true
-        → HavePrintableTerms (clauses_of clauses.items)) }
+        HasPlainTexts set.now → HavePrintableTerms (clauses_of clauses.items)) }
 {
     if !is_unbounded(set) {
         return interval_clauses(alloc, key, set);
@@ -61,12 +54,10 @@ fn interval_clauses(
     key: MarkerValueString,
     set: &Ranges<String>,
 ) -> Result<Vec<Vec<MarkerExpression>>, AllocError>
-    ensures means { IfOk result (λ clauses. (v : Valuation)
-        → clauses_hold (clauses_of clauses.items) v
-        ≡ contains_by string_bytes text_cmp set.now (v.text (variable_of key))) }
+    ensures means { IfOk result (λ clauses.
+        ClausesMean (in_texts key set.now) (clauses_of clauses.items)) }
     ensures printable { IfOk result (λ clauses.
-        all_bounds (λ t. is_plain (string_bytes t)) set.now ≡ true
-        → HavePrintableTerms (clauses_of clauses.items)) }
+        HasPlainTexts set.now → HavePrintableTerms (clauses_of clauses.items)) }
 {
     let mut clauses = Vec::new(alloc);
     for bounds in set.iter() {
@@ -82,29 +73,44 @@ fn exclusions(
     key: MarkerValueString,
     outside: &Ranges<String>,
 ) -> Result<Option<Vec<MarkerExpression>>, AllocError>
-    ensures means { IfOk result (λ found. IfSome found (λ terms. (v : Valuation)
-        → clause_holds terms.items v
-        ≡ not (contains_by string_bytes text_cmp outside.now (v.text (variable_of key))))) }
+    ensures means { IfOk result (λ found. IfSome found (λ terms.
+        TermsMean (λ v. not (in_texts key outside.now v)) terms.items)) }
     ensures printable { IfOk result (λ found. IfSome found (λ terms.
-        all_bounds (λ t. is_plain (string_bytes t)) outside.now ≡ true
-        → AllPrintable terms.items)) }
+        HasPlainTexts outside.now → AllPrintable terms.items)) }
 {
     let mut terms = Vec::new(alloc);
     for bounds in outside.iter() {
         let Some(text) = single_text(bounds) else {
             return Ok(None);
         };
-        terms.push(comparison(key, MarkerOperator::NotEqual, text)?)?;
+        push_large(&mut terms, comparison(key, MarkerOperator::NotEqual, text)?)?;
     }
     Ok(Some(terms))
 }
 
+/// Returns the comparison that is true outside of a range of a single text, or nothing for another
+/// range. It parses back from its text if the text does not have both quotes.
+pub fn text_exclusion(
+    alloc: Global,
+    key: MarkerValueString,
+    bounds: (Bound<&String>, Bound<&String>),
+) -> Result<Option<MarkerExpression>, AllocError>
+    ensures means { IfOk result (λ found. IfSome found
+        (ExcludesTexts key bounds.entry.0 bounds.entry.1)) }
+    ensures printable { IfOk result (λ found. IfSome found (λ term.
+        IsPlainAt bounds.entry.0 → IsPrintable term)) }
+{
+    match single_text(bounds) {
+        Some(text) => Ok(Some(comparison(key, MarkerOperator::NotEqual, text)?)),
+        None => Ok(None),
+    }
+}
+
 // The text of a range of one text.
 fn single_text<'a>(bounds: (Bound<&'a String>, Bound<&'a String>)) -> Option<&'a String>
-    ensures single { IfSome result (λ text. (q : Point (List ℕ))
-        → is_in_bounds text_cmp (text_bound bounds.entry.0) (text_bound bounds.entry.1) q
-        ≡ is_eq (beside text_cmp q (string_bytes text.now))) }
-    ensures plain { IfSome result (λ text. passes_at is_plain (text_bound bounds.entry.0) ≡ true
+    ensures single { IfSome result (λ text.
+        IsOnlyText bounds.entry.0 bounds.entry.1 (string_bytes text.now)) }
+    ensures plain { IfSome result (λ text. IsPlainAt bounds.entry.0
         → is_plain (string_bytes text.now) ≡ true) }
 {
     let mut pairs = MarkerOperator::from_bounds(bounds);
@@ -123,16 +129,14 @@ pub fn text_range_terms(
     key: MarkerValueString,
     bounds: (Bound<&String>, Bound<&String>),
 ) -> Result<Vec<MarkerExpression>, AllocError>
-    ensures means { IfOk result (λ terms. (v : Valuation) → clause_holds terms.items v
-        ≡ is_in_bounds text_cmp (text_bound bounds.entry.0) (text_bound bounds.entry.1)
-        (v.text (variable_of key))) }
-    ensures printable { IfOk result (λ terms.
-        passes_at is_plain (text_bound bounds.entry.0) ≡ true
-        → passes_at is_plain (text_bound bounds.entry.1) ≡ true → AllPrintable terms.items) }
+    ensures means { IfOk result (λ terms.
+        TermsMean (in_text_range bounds.entry.0 bounds.entry.1 key) terms.items) }
+    ensures printable { IfOk result (λ terms. IsPlainAt bounds.entry.0
+        → IsPlainAt bounds.entry.1 → AllPrintable terms.items) }
 {
     let mut terms = Vec::new(alloc);
     for (operator, text) in MarkerOperator::from_bounds(bounds) {
-        terms.push(comparison(key, operator, text)?)?;
+        push_large(&mut terms, comparison(key, operator, text)?)?;
     }
     Ok(terms)
 }

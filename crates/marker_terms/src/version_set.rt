@@ -1,29 +1,25 @@
 //! The clauses of a set of versions.
 
-ghost use Rattle.std.specs.Prelude.{◌≡◌, IfOk, IfSome, not, true};
+ghost use Rattle.std.specs.Prelude.{◌≡◌, IfOk, IfSome, not};
 ghost use Rattle.std.specs.Borrow.{Bor};
 ghost use Rattle.std.specs.List.{AllByRecursion};
 ghost use Rattle.std.specs.declared.ops.Bound.{Bound};
-ghost use Rattle.version_ranges.specs.Bounds.{all_bounds};
 ghost use Rattle.version_ranges.specs.Point.{Point};
-ghost use Rattle.version_ranges.specs.Ranges.{contains_point};
-ghost use Rattle.pep440_version.specs.Order.{version_cmp};
 ghost use Rattle.pep440_version.specs.Parts.{Parts};
 ghost use Rattle.pep440_specifier.specs.Bounds.{bound_specifiers};
-ghost use Rattle.pep440_rs.specs.Bounds.{IsAtRelease, is_release, is_within};
+ghost use Rattle.pep440_rs.specs.Bounds.{IsAtRelease};
 ghost use Rattle.pep440_rs.specs.Intervals.{is_in};
 ghost use Rattle.marker_environment.specs.Valuation.{Valuation};
 ghost use Rattle.marker_parts.specs.Expression.{holds, test_of};
-ghost use Rattle.marker_terms.specs.Clauses.{clause_holds, clauses_hold, clauses_of};
+ghost use Rattle.marker_terms.specs.Clauses.{clauses_of};
+ghost use Rattle.marker_terms.specs.Exclusion.{ExcludesVersions};
+ghost use Rattle.marker_terms.specs.Meanings.{ClausesMean, HasReleaseBounds, HasVersionsOutside, TermsMean, in_version_range, in_versions};
 ghost use Rattle.marker_terms.specs.Plain.{AllPrintable, HavePrintableTerms, IsPrintable, IsPrintableSpecifier};
 
-use crate::term::one_clause;
+use crate::term::{one_clause, push_large};
 use marker_parts::MarkerExpression;
 use marker_words::VersionVariable;
-use pep440_rs::laws::{
-    negated_operator_is_complement, range_is_its_specifiers, range_specifiers_raise_nothing,
-    version_clones_are_equal, versions_tied_with_releases_are_releases,
-};
+use pep440_rs::laws::range_specifiers_raise_nothing;
 use pep440_rs::{Operator, Ranges, Version, VersionSpecifier};
 use pep440_specifier::laws::specifiers_are_well_formed;
 use pep440_version::laws::normal_text_reads_back;
@@ -42,12 +38,10 @@ pub fn version_clauses(
     variable: VersionVariable,
     set: &Ranges<Version>,
 ) -> Result<Vec<Vec<MarkerExpression>>, AllocError>
-    ensures means { IfOk result (λ clauses. all_bounds is_release set.now ≡ true → (v : Valuation)
-        → clauses_hold (clauses_of clauses.items) v
-        ≡ contains_point version_cmp set.now (v.version variable)) }
+    ensures means { IfOk result (λ clauses. HasReleaseBounds set.now
+        → ClausesMean (in_versions variable set.now) (clauses_of clauses.items)) }
     ensures printable { IfOk result (λ clauses. HavePrintableTerms (clauses_of clauses.items)) }
 {
-    version_clones_are_equal();
     if !is_unbounded(set) {
         return interval_clauses(alloc, variable, set);
     }
@@ -72,12 +66,10 @@ fn interval_clauses(
     variable: VersionVariable,
     set: &Ranges<Version>,
 ) -> Result<Vec<Vec<MarkerExpression>>, AllocError>
-    ensures means { IfOk result (λ clauses. all_bounds is_release set.now ≡ true → (v : Valuation)
-        → clauses_hold (clauses_of clauses.items) v
-        ≡ contains_point version_cmp set.now (v.version variable)) }
+    ensures means { IfOk result (λ clauses. HasReleaseBounds set.now
+        → ClausesMean (in_versions variable set.now) (clauses_of clauses.items)) }
     ensures printable { IfOk result (λ clauses. HavePrintableTerms (clauses_of clauses.items)) }
 {
-    versions_tied_with_releases_are_releases();
     let mut clauses = Vec::new(alloc);
     for bounds in set.iter() {
         let terms = version_range_terms(alloc, variable, bounds)?;
@@ -93,12 +85,10 @@ fn exclusions(
     variable: VersionVariable,
     outside: &Ranges<Version>,
 ) -> Result<Option<Vec<MarkerExpression>>, AllocError>
-    ensures means { IfOk result (λ found. IfSome found (λ terms.
-        all_bounds is_release outside.now ≡ true → (v : Valuation) → clause_holds terms.items v
-        ≡ not (contains_point version_cmp outside.now (v.version variable)))) }
+    ensures means { IfOk result (λ found. IfSome found (λ terms. HasReleaseBounds outside.now
+        → TermsMean (λ v. not (in_versions variable outside.now v)) terms.items)) }
     ensures printable { IfOk result (λ found. IfSome found (λ terms. AllPrintable terms.items)) }
 {
-    versions_tied_with_releases_are_releases();
     let mut terms = Vec::new(alloc);
     let mut has_star = false;
     for bounds in outside.iter() {
@@ -106,7 +96,7 @@ fn exclusions(
             return Ok(None);
         };
         has_star |= specifier.operator().is_star();
-        terms.push(comparison(variable, specifier))?;
+        push_large(&mut terms, comparison(variable, specifier))?;
     }
     // A minor release is excluded only on its own.
     if has_star && terms.len() > 1 {
@@ -115,17 +105,32 @@ fn exclusions(
     Ok(Some(terms))
 }
 
+/// Returns the comparison that is true outside of a range of a single version or a minor release,
+/// or nothing for another range. The contract says what it means if the bounds are releases.
+pub fn version_exclusion(
+    alloc: Global,
+    variable: VersionVariable,
+    bounds: (Bound<&Version>, Bound<&Version>),
+) -> Result<Option<MarkerExpression>, AllocError>
+    ensures means { IfOk result (λ found. IfSome found
+        (ExcludesVersions variable bounds.entry.0 bounds.entry.1)) }
+    ensures printable { IfOk result (λ found. IfSome found IsPrintable) }
+{
+    match exclusion(alloc, bounds)? {
+        Some(specifier) => Ok(Some(comparison(variable, specifier))),
+        None => Ok(None),
+    }
+}
+
 // The specifier of the versions outside of a range of a single version or a minor release.
 fn exclusion(
     alloc: Global,
     bounds: (Bound<&Version>, Bound<&Version>),
 ) -> Result<Option<VersionSpecifier>, AllocError>
-    ensures means { IfOk result (λ found. IfSome found (λ s.
-        IsAtRelease bounds.entry.0 → IsAtRelease bounds.entry.1 → (p : Point Parts)
-        → is_in s.operator s.version.release p ≡ not (is_within bounds.entry.0 bounds.entry.1 p))) }
+    ensures means { IfOk result (λ found. IfSome found
+        (λ s. HasVersionsOutside bounds.entry.0 bounds.entry.1 s.operator s.version)) }
     ensures printable { IfOk result (λ found. IfSome found IsPrintableSpecifier) }
 {
-    range_is_its_specifiers();
     range_specifiers_are_printable(bounds.1);
     let mut specifiers = VersionSpecifier::from_release_only_bounds(alloc, bounds)?;
     let Some(specifier) = specifiers.next() else {
@@ -138,13 +143,13 @@ fn exclusion(
 }
 
 // The negation of a specifier that is `==` or has a star.
+#[tactic(auto, using(pep440_rs::proofs::Complements::complements))]
 fn inequality(specifier: VersionSpecifier) -> Option<VersionSpecifier>
     ensures means { IfSome result (λ s. (p : Point Parts) → is_in s.operator s.version.release p
         ≡ not (is_in specifier.operator specifier.version.release p)) }
     ensures printable { IfSome result (λ s.
         IsPrintableSpecifier specifier → IsPrintableSpecifier s) }
 {
-    negated_operator_is_complement();
     let (operator, version) = specifier.into_parts();
     let negated = match operator {
         Operator::Equal => Operator::NotEqual,
@@ -165,17 +170,14 @@ pub fn version_range_terms(
     variable: VersionVariable,
     bounds: (Bound<&Version>, Bound<&Version>),
 ) -> Result<Vec<MarkerExpression>, AllocError>
-    ensures means { IfOk result (λ terms.
-        IsAtRelease bounds.entry.0 → IsAtRelease bounds.entry.1 → (v : Valuation)
-        → clause_holds terms.items v
-        ≡ is_within bounds.entry.0 bounds.entry.1 (v.version variable)) }
+    ensures means { IfOk result (λ terms. IsAtRelease bounds.entry.0 → IsAtRelease bounds.entry.1
+        → TermsMean (in_version_range variable bounds.entry.0 bounds.entry.1) terms.items) }
     ensures printable { IfOk result (λ terms. AllPrintable terms.items) }
 {
-    range_is_its_specifiers();
     range_specifiers_are_printable(bounds.1);
     let mut terms = Vec::new(alloc);
     for specifier in VersionSpecifier::from_release_only_bounds(alloc, bounds)? {
-        terms.push(comparison(variable, specifier))?;
+        push_large(&mut terms, comparison(variable, specifier))?;
     }
     Ok(terms)
 }

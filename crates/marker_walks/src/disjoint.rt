@@ -1,8 +1,8 @@
 //! Whether nothing satisfies two ids.
 //!
-//! A walk visits pairs of ids, and at each pair the pairs of their children. Disjoint pairs are
-//! remembered in an array on the stack, which may overwrite them. So a walk that needs too many
-//! visits starts again with a larger array.
+//! Most answers need the children of both ids alone. Otherwise a walk visits pairs of ids, and at
+//! each pair the pairs of their children. Disjoint pairs are remembered in an array on the stack,
+//! which may overwrite them. So a walk that needs too many visits starts again with a larger array.
 
 ghost use Rattle.std.specs.Prelude.{◌≡◌, ◌+◌, ◌<◌, ◌≤◌, Bool, IfNone, IfSome, IsSome, List};
 ghost use Rattle.marker_diagrams.specs.Diagram as diagram;
@@ -64,6 +64,11 @@ fn tell(nodes: &NodeTable, mut looks: Looks, a: NodeId, b: NodeId) -> Option<boo
     ensures answer { IfSome result (TellsDisjoint nodes.now a b) }
     ensures answered { AreUnbounded looks → IsSome result }
 {
+    if looks.are_left() {
+        if let Some(answer) = glance(nodes, a, b) {
+            return Some(answer);
+        }
+    }
     if let Some(answer) = walk::<2>(nodes, looks.set_aside(FIRST), a, b) {
         return Some(answer);
     }
@@ -74,6 +79,29 @@ fn tell(nodes: &NodeTable, mut looks: Looks, a: NodeId, b: NodeId) -> Option<boo
         return Some(answer);
     }
     walk::<65_536>(nodes, looks, a, b)
+}
+
+// The answer, if it needs the children of both ids alone, and no visit of their children.
+fn glance(nodes: &NodeTable, a: NodeId, b: NodeId) -> Option<bool>
+    requires rules { diagram.IsStore markers nodes.now }
+    requires a { diagram.IsHeld nodes.now a }
+    requires b { diagram.IsHeld nodes.now b }
+    ensures { IfSome result (TellsDisjoint nodes.now a b) }
+{
+    if let Some(both) = short_cut(a, b) {
+        return Some(both == NodeId::FALSE);
+    }
+    let unsigned_a = a.negate(a);
+    let unsigned_b = b.negate(b);
+    for (left, right) in nodes.side_by_side(&unsigned_a, &unsigned_b).pairs() {
+        let left = left.negate(a);
+        let right = right.negate(b);
+        let is_apart = short_cut(left, right)? == NodeId::FALSE;
+        if !is_apart {
+            return Some(false);
+        }
+    }
+    Some(true)
 }
 
 // The answer by a walk with `N` places. They are on the stack of this call, so that no other walk

@@ -1,6 +1,6 @@
 //! Limits on the visits of a walk.
 
-ghost use Rattle.std.specs.Prelude.{◌≡◌, ◌+◌, ℕ, IsNone, IsSome, None, Some};
+ghost use Rattle.std.specs.Prelude.{◌≡◌, ◌+◌, ℕ, IsNone, IsSome, None, Some, false};
 ghost use Rattle.marker_walks.specs.Looks.{AreUnbounded};
 
 /// How many visits a walk has that remembers hardly anything, because most end within them. Then
@@ -23,6 +23,14 @@ impl Looks {
         ensures { left ≡ None → AreUnbounded result }
     {
         Looks { left }
+    }
+
+    /// Returns whether a visit is left.
+    pub(crate) fn are_left(&self) -> bool
+        ensures spent { self.now.left ≡ Some 0 → result ≡ false }
+        ensures left { result ≡ false → self.now.left ≡ Some 0 }
+    {
+        self.left != Some(0)
     }
 
     /// Uses up a visit, if one is left.

@@ -1,5 +1,5 @@
 -- Faults in the rest of a text are faults in the text, and their messages.
-use Rattle.std.proofs.Common.{◌≡◌, ℕ, ◌-◌, ◌<◌, Bool, cond, eqb, List, [], ◌++◌, length, refl, sym, ap, ◌∙◌, subst, arith, IsUtf8}
+use Rattle.std.proofs.Common.{◌≡◌, ℕ, ◌-◌, ◌<◌, cond, eqb, List, [], ◌++◌, length, refl, sym, ap, ◌∙◌, subst, arith, IsUtf8}
 use Rattle.std.specs.Prelude.{encode_utf8, encode_utf8_all, Result, Ok, Err, OnErr}
 use Rattle.std.specs.Str.{chars}
 use Rattle.pep508_text.specs.Run.{run_of}

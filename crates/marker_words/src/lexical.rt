@@ -14,7 +14,7 @@ use crate::fault::{Fault, FaultKind};
 use crate::key::{MarkerValueString, MarkerValueVersion};
 use crate::operator::MarkerOperator;
 use crate::parts::{ComparisonRef, Keyword, MarkerValueRef};
-use pep508_text::{Class, Place, first, skip_space, split_run, strip};
+use pep508_text::{Class, Place, first, skip_space, split_before_quote, split_run, strip};
 
 // The value at the front of the text: a quoted text, a key or `extra`. There is none at the end of
 // the text, at a quote that is not closed, and at any other run of characters.
@@ -29,7 +29,7 @@ fn value(text: &str) -> Result<(MarkerValueRef<'_>, &str), Fault<'_>>
         return Err(FaultKind::ValueAtEnd.at(Place::at_end()));
     };
     if is_quote(c) {
-        let (quoted, end) = split_run(after, Class::NotQuote(c));
+        let (quoted, end) = split_before_quote(after, c);
         match first(end) {
             Some((_, rest)) => Ok((MarkerValueRef::QuotedString(quoted), rest)),
             None => Err(FaultKind::Unclosed(c).at(Place::before(text, after))),
@@ -165,14 +165,14 @@ fn symbol(run: &str) -> Option<MarkerOperator>
     ensures none { IfNone result (
         (operator : MarkerOperator) → symbol_text operator ≢ Some run.now) }
 {
-    match run {
-        "==" => Some(MarkerOperator::Equal),
-        "!=" => Some(MarkerOperator::NotEqual),
-        ">" => Some(MarkerOperator::GreaterThan),
-        ">=" => Some(MarkerOperator::GreaterEqual),
-        "<" => Some(MarkerOperator::LessThan),
-        "<=" => Some(MarkerOperator::LessEqual),
-        "~=" => Some(MarkerOperator::TildeEqual),
+    match run.as_bytes() {
+        [b'=', b'='] => Some(MarkerOperator::Equal),
+        [b'!', b'='] => Some(MarkerOperator::NotEqual),
+        [b'>'] => Some(MarkerOperator::GreaterThan),
+        [b'>', b'='] => Some(MarkerOperator::GreaterEqual),
+        [b'<'] => Some(MarkerOperator::LessThan),
+        [b'<', b'='] => Some(MarkerOperator::LessEqual),
+        [b'~', b'='] => Some(MarkerOperator::TildeEqual),
         _ => None,
     }
 }

@@ -400,6 +400,13 @@ pub(crate) fn pattern(alloc: Global, text: &[u8]) -> Result<Option<VersionPatter
     let Some((epoch, release, rest)) = head(alloc, after_mark(text))? else {
         return Ok(None);
     };
+    // Most patterns are releases, which are not moved through the parsers of suffixes.
+    if rest.is_empty() {
+        return Ok(Some(VersionPattern {
+            version: released(alloc, epoch, release),
+            wildcard: false,
+        }));
+    }
     if is_star(rest) {
         return Ok(Some(VersionPattern {
             version: released(alloc, epoch, release),

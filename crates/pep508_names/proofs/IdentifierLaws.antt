@@ -117,6 +117,10 @@ all_from ok (d ∷ ds) closed =
     let parts = and_parts (is_name_character d) (closes (is_ascii_alphanumeric d) ds) closed in
     and_from (is_name_character d) (list_all is_name_character ds) parts.0 (all_from (is_ascii_alphanumeric d) ds parts.1)
 
+-- a letter or digit before what closes begins a name
+pub name_from_letter : (c : ℕ) (cs : List ℕ) → is_ascii_alphanumeric c ≡ true → closes true cs ≡ true → NormalizesTo (c ∷ cs) (to_ascii_lowercase c ∷ squeeze false cs)
+name_from_letter c cs a closed = (all_grow cs).after_word c a closed
+
 pub identifier_is_name : (t : List ℕ) → IsIdentifier t → IsName t
 identifier_is_name [] h = absurd h.first
 identifier_is_name (c ∷ cs) h =

@@ -2,3 +2,4 @@ pub mod DistInfo
 pub mod Fronts
 pub mod IdentifierLaws
 pub mod NameLaws
+pub mod NormalLaws

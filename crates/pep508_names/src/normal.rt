@@ -37,6 +37,25 @@ fn is_name(text: &str) -> bool
     first.is_ascii_alphanumeric() && last.is_ascii_alphanumeric() && are_name_characters(bytes)
 }
 
+// Whether the text is a name in normal form, which most names are: words of lowercase letters and
+// digits, with one dash between two of them.
+fn is_normal(text: &[u8]) -> bool
+    ensures { IsTrue result → NormalizesTo text.now text.now }
+{
+    let mut awaits_word = true;
+    for i in 0..text.len() {
+        let byte = text[i];
+        if byte.is_ascii_lowercase() || byte.is_ascii_digit() {
+            awaits_word = false;
+        } else if byte == b'-' && !awaits_word {
+            awaits_word = true;
+        } else {
+            return false;
+        }
+    }
+    !awaits_word
+}
+
 // Writes the normal form of a name over its front, and returns its length in bytes.
 fn normalize(name: &mut [u8]) -> usize
     ensures fits { result ≤ length name.old }
@@ -77,7 +96,9 @@ pub(crate) fn normal_form(text: String) -> Result<String, InvalidNameError>
     ensures refused { IfErr result (λ error.
         (error ≡ string_bytes text) × ¬ IsName (string_bytes text)) }
 {
-    if is_name(&text) {
+    if is_normal(text.as_bytes()) {
+        Ok(text)
+    } else if is_name(&text) {
         Ok(into_normal_form(text))
     } else {
         Err(InvalidNameError::new(text))

@@ -2,11 +2,12 @@
 -- front, and one the rest. They may change on the way, such as with a count of what was seen. A
 -- parser that takes characters while they pass keeps `PassedAs`, or `Passed` if they do not change,
 -- and has `Stopped` at its end.
-use Rattle.std.proofs.Common.{◌≡◌, ℕ, true, false, ◌-◌, ◌≤◌, List, [], ◌∷◌, ◌++◌, length, take, drop, refl, sym, ap, ◌∙◌, subst, append_assoc, arith, length-append, IsUtf8}
-use Rattle.std.specs.Prelude.{encode_utf8, encode_utf8_all}
+use Rattle.std.proofs.Common.{◌≡◌, ℕ, true, false, ◌+◌, ◌-◌, ◌<◌, ◌≤◌, List, [], ◌∷◌, ◌++◌, length, take, drop, refl, sym, ap, ◌∙◌, subst, append_assoc, arith, length-append, IsUtf8}
+use Rattle.std.specs.Prelude.{encode_utf8, encode_utf8_all, get_or}
 use Rattle.std.specs.Str.{chars, IsCharBoundary}
-use Rattle.std.proofs.lemmas.List.{append_cancel_right, take_at, drop_at, append-nil}
-use Rattle.std.proofs.lemmas.Str.{chars-append, chars-nil, IsUtf8-take, IsUtf8-drop, IsCharBoundary-at_seam, IsCharBoundary-from_take, chars_past_char, IsUtf8-past_char, encodes-chars}
+use Rattle.std.proofs.Math.Seq.{drop-length}
+use Rattle.std.proofs.lemmas.List.{append_cancel_right, take_at, take-append-drop, drop_at, drop_more, append-nil}
+use Rattle.std.proofs.lemmas.Str.{chars-append, chars-nil, IsUtf8-take, IsUtf8-drop, IsCharBoundary-at_seam, IsCharBoundary-from_take, chars_past_char, IsUtf8-past_char, encode_ascii, encodes-chars}
 use Rattle.pep508_text.specs.Class.{holds}
 use Rattle.pep508_text.specs.Run.{run_of, after_run}
 use Rattle.pep508_text.specs.Suffix.{IsSuffix}
@@ -130,6 +131,17 @@ suffix_of front joined utf8 = record { front = front; joined = joined; utf8 = ut
 
 -- ---- runs of a class
 
+-- what is left before a byte of ASCII begins with it
+ascii_next : (text : List ℕ) (i : ℕ) → i < length text → get_or text i 0 < 128 → IsUtf8 (drop i text)
+    → (drop i text ≡ encode_utf8 (get_or text i 0) ++ drop (i + 1) text) × (chars (drop i text) ≡ get_or text i 0 ∷ chars (drop (i + 1) text))
+ascii_next text i within ascii utf8 =
+    let bytes : drop i text ≡ encode_utf8 (get_or text i 0) ++ drop (i + 1) text = drop_more text i 0 within ∙ ap (λ (x : List ℕ). x ++ drop (i + 1) text) (sym (encode_ascii (get_or text i 0) ascii)) in
+    (bytes, chars_past_char (drop i text) (drop (i + 1) text) (get_or text i 0) utf8 bytes)
+
+-- the front before a place where what is left begins
+pub front_at : (text front : List ℕ) (i : ℕ) → text ≡ front ++ drop i text → take i text ≡ front
+front_at text front i joined = append_cancel_right (take i text) front (drop i text) (take-append-drop i text ∙ joined)
+
 module _ (p : Class) where
   -- one more character of the class passes
   pub passed_in_run : (text rest after : List ℕ) (c : ℕ) → IsUtf8 text → Passed (run_of p) (after_run p) text rest → rest ≡ encode_utf8 c ++ after → chars rest ≡ c ∷ chars after
@@ -148,6 +160,25 @@ module _ (p : Class) where
       stopped (run_of p) (after_run p) (run_of p) (after_run p) text rest utf8 passed
       (ap (run_of p) e ∙ run_of-fails p c cs fails)
       (ap (after_run p) e ∙ after_run-fails p c cs fails ∙ sym e)
+
+  -- a byte of ASCII that is of the class passes
+  pub passed_ascii : (text : List ℕ) (i : ℕ) → IsUtf8 text → Passed (run_of p) (after_run p) text (drop i text) → i < length text → get_or text i 0 < 128
+      → holds p (get_or text i 0) ≡ true → Passed (run_of p) (after_run p) text (drop (i + 1) text)
+  passed_ascii text i utf8 passed within ascii passes =
+      let one = ascii_next text i within ascii passed.rest_utf8 in
+      passed_in_run text (drop i text) (drop (i + 1) text) (get_or text i 0) utf8 passed one.0 one.1 passes
+
+  -- or the run ends before it
+  pub stopped_before_ascii : (text : List ℕ) (i : ℕ) → IsUtf8 text → Passed (run_of p) (after_run p) text (drop i text) → i < length text → get_or text i 0 < 128
+      → holds p (get_or text i 0) ≡ false → Stopped (run_of p) (after_run p) text (drop i text)
+  stopped_before_ascii text i utf8 passed within ascii fails =
+      stopped_before text (drop i text) utf8 passed (get_or text i 0) (chars (drop (i + 1) text)) (ascii_next text i within ascii passed.rest_utf8).1 fails
+
+  -- or at the end of the text
+  pub stopped_past_all : (text : List ℕ) (i : ℕ) → IsUtf8 text → Passed (run_of p) (after_run p) text (drop i text) → i ≡ length text
+      → Stopped (run_of p) (after_run p) text (drop i text)
+  stopped_past_all text i utf8 passed e =
+      stopped_at_end text (drop i text) utf8 passed (ap chars (ap (λ (n : ℕ). drop n text) e ∙ drop-length text) ∙ chars-nil)
 
 -- ---- the back of a text
 

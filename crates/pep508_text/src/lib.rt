@@ -11,5 +11,7 @@ mod fronts;
 mod place;
 
 pub use crate::classes::{Class, is_line_break};
-pub use crate::fronts::{first, last, skip_space, split_run, strip};
+pub use crate::fronts::{
+    first, last, skip_space, split_before_comma, split_before_quote, split_run, strip,
+};
 pub use crate::place::Place;

@@ -5,6 +5,7 @@ pub mod Path
 pub mod PathUrl
 pub mod Scheme
 pub mod Meaning
+pub mod Message
 pub mod Variables
 pub mod Verbatim
 pub mod Unnamed

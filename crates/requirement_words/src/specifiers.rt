@@ -8,7 +8,7 @@ ghost use Rattle.requirement_words.specs.Specifiers.{IsSpecifiers};
 
 use crate::fault::{Fault, FaultKind};
 use pep440_specifier::{VersionSpecifier, VersionSpecifiers};
-use pep508_text::{Class, Place, split_run, strip};
+use pep508_text::{Place, split_before_comma, strip};
 use refusal::Refusal;
 use std::alloc::Global;
 
@@ -30,7 +30,7 @@ pub fn read_specifiers<'a>(
     let mut specifiers = Vec::new(alloc);
     let mut left = text;
     loop {
-        let (piece, rest) = split_run(left, Class::SpecifierPart(end));
+        let (piece, rest) = split_before_comma(left, end);
         let specifier = match VersionSpecifier::parse(alloc, piece) {
             Ok(specifier) => specifier,
             Err(Refusal::Fault(error)) => {

@@ -6,6 +6,7 @@ pub mod Combines
 pub mod EachPiece
 pub mod Elsewhere
 pub mod EqualLaws
+pub mod FirstLaws
 pub mod FunctionLaws
 pub mod Gathers
 pub mod IntervalLaws

@@ -49,6 +49,13 @@ impl<T: Ord, V> Cuts<T, V> {
         self.piece_value(passed)
     }
 
+    /// Returns the value before all cuts.
+    pub fn leftmost_value(&self) -> &V
+        ensures { IsValueOfPiece T.cmp self.now 0 result.now }
+    {
+        self.piece_value(0)
+    }
+
     // The value of the piece at an index.
     pub(crate) fn piece_value(&self, index: usize) -> &V
         requires { index < piece_count self.now }

@@ -27,11 +27,11 @@ loop-bounds-init c =
 
 pub loop-bounds-preserved : goal.loop-bounds-preserved
 loop-bounds-preserved c = record {
-  means = λ v. interval_step (λ i. is_within text_cmp (interval_bytes i) (v.text (variable_of c.args.key))) (not (clause_holds c.loop-bounds.terms.items v)) (not (clause_holds c.push.new.self.items v))
+  means = λ v. interval_step (λ i. is_within text_cmp (interval_bytes i) (v.text (variable_of c.args.key))) (not (clause_holds c.loop-bounds.terms.items v)) (not (clause_holds c.push_large.new.list.items v))
       (is_in_bounds text_cmp (text_bound c.in-Some.bounds.0) (text_bound c.in-Some.bounds.1) (v.text (variable_of c.args.key))) (intervals_left c.loop-bounds.bounds-iterator) (intervals_left c.next.new.self)
       (interval_of c.in-Some.bounds) (contains_by string_bytes text_cmp c.args.outside.now (v.text (variable_of c.args.key))) c.in-Some.ensures.steps
       (sym (interval_is c.in-Some.bounds.0 c.in-Some.bounds.1 (v.text (variable_of c.args.key))))
-      (excludes_more c.loop-bounds.terms.items c.push.new.self.items c.in_ok-comparison.field-0 (is_in_bounds text_cmp (text_bound c.in-Some.bounds.0) (text_bound c.in-Some.bounds.1) (v.text (variable_of c.args.key))) v c.in_ok-push.ensures.items
+      (excludes_more c.loop-bounds.terms.items c.push_large.new.list.items c.in_ok-comparison.field-0 (is_in_bounds text_cmp (text_bound c.in-Some.bounds.0) (text_bound c.in-Some.bounds.1) (v.text (variable_of c.args.key))) v c.in_ok-push_large.ensures.items
       (ap (λ t. holds t v) c.in_ok-comparison.ensures
       ∙ excluded_text c.single_text.result c.in-Some-single_text.text (text_bound c.in-Some.bounds.0) (text_bound c.in-Some.bounds.1) c.in-Some-single_text.is c.single_text.ensures.single (v.text (variable_of c.args.key))))
       (c.loop-bounds.invariant.means v);
@@ -40,7 +40,7 @@ loop-bounds-preserved c = record {
       let b = both_of (passes_at_both (λ t. is_plain (string_bytes t))) (intervals_left c.loop-bounds.bounds-iterator) (intervals_left c.next.new.self) (interval_of c.in-Some.bounds) c.in-Some.ensures.steps inv.0 in
       let r = and_parts (passes_at (λ t. is_plain (string_bytes t)) (interval_of c.in-Some.bounds).0) (passes_at (λ t. is_plain (string_bytes t)) (interval_of c.in-Some.bounds).1) b.0 in (
         b.1,
-        each_pushed IsPrintable c.loop-bounds.terms.items c.push.new.self.items c.in_ok-comparison.field-0 c.in_ok-push.ensures.items inv.1
+        each_pushed IsPrintable c.loop-bounds.terms.items c.push_large.new.list.items c.in_ok-comparison.field-0 c.in_ok-push_large.ensures.items inv.1
             (text_printable c.in_ok-comparison.field-0 NotEqual c.args.key (string_bytes c.in-Some-single_text.text.now) c.in_ok-comparison.ensures refl
             (found_plain c.single_text.result c.in-Some-single_text.text (text_bound c.in-Some.bounds.0) c.in-Some-single_text.is c.single_text.ensures.plain (plain_bound c.in-Some.bounds.0 r.0))),
       );

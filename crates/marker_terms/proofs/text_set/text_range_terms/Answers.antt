@@ -38,18 +38,18 @@ loop-operator-preserved c =
       means = (
         b.1,
         λ v.
-            all_step (λ pair. holds_beside pair.0 (beside text_cmp (v.text (variable_of c.args.key)) pair.1)) (clause_holds c.loop-operator.terms.items v) (clause_holds c.push.new.self.items v)
+            all_step (λ pair. holds_beside pair.0 (beside text_cmp (v.text (variable_of c.args.key)) pair.1)) (clause_holds c.loop-operator.terms.items v) (clause_holds c.push_large.new.list.items v)
             (term_holds c.in_ok-comparison.field-0 v) (pairs_left c.loop-operator.operator-iterator) (pairs_left c.next.new.self) i
             (is_in_bounds text_cmp (text_bound c.args.bounds.0) (text_bound c.args.bounds.1) (v.text (variable_of c.args.key))) c.in-Some.ensures.steps
             (ap (λ t. holds t v) c.in_ok-comparison.ensures ∙ order_holds c.in-Some.operator b.0 c.args.key (string_bytes c.in-Some.text.now) v)
-            (terms_more c.loop-operator.terms.items c.push.new.self.items c.in_ok-comparison.field-0 c.in_ok-push.ensures.items v) (c.loop-operator.invariant.means.1 v),
+            (terms_more c.loop-operator.terms.items c.push_large.new.list.items c.in_ok-comparison.field-0 c.in_ok-push_large.ensures.items v) (c.loop-operator.invariant.means.1 v),
       );
       printable = λ h k.
           let inv = c.loop-operator.invariant.printable h k in
           let r = both_of is_plain_pair (pairs_left c.loop-operator.operator-iterator) (pairs_left c.next.new.self) i c.in-Some.ensures.steps inv.0 in
           let s = and_parts (compares_texts c.in-Some.operator) (is_plain (string_bytes c.in-Some.text.now)) r.0 in (
             r.1,
-            each_pushed IsPrintable c.loop-operator.terms.items c.push.new.self.items c.in_ok-comparison.field-0 c.in_ok-push.ensures.items inv.1
+            each_pushed IsPrintable c.loop-operator.terms.items c.push_large.new.list.items c.in_ok-comparison.field-0 c.in_ok-push_large.ensures.items inv.1
                 (text_printable c.in_ok-comparison.field-0 c.in-Some.operator c.args.key (string_bytes c.in-Some.text.now) c.in_ok-comparison.ensures s.0 s.1),
           );
     }

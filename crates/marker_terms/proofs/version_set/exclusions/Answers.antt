@@ -6,6 +6,7 @@ use Rattle.version_ranges.specs.Intervals.{interval_of, intervals_left, interval
 use Rattle.version_ranges.specs.Ranges.{contains_point}
 use Rattle.pep440_version.specs.Order.{version_cmp}
 use Rattle.pep440_rs.specs.Bounds.{is_release}
+use Rattle.pep440_rs.proofs.Equals.{release-means}
 use Rattle.marker_terms.specs.Clauses.{clause_holds}
 use Rattle.marker_terms.specs.Plain.{AllPrintable, IsPrintable, IsPrintableSpecifier}
 use Rattle.marker_terms.proofs.PlainLaws.{each_pushed, found_has}
@@ -31,15 +32,15 @@ loop-bounds-preserved c = record {
       let r = and_parts (passes_at is_release (interval_of c.in-Some.bounds).0) (passes_at is_release (interval_of c.in-Some.bounds).1) b.0 in (
         b.1,
         λ v.
-            interval_step (λ i. is_within version_cmp i (v.version c.args.variable)) (not (clause_holds c.loop-bounds.terms.items v)) (not (clause_holds c.push.new.self.items v))
+            interval_step (λ i. is_within version_cmp i (v.version c.args.variable)) (not (clause_holds c.loop-bounds.terms.items v)) (not (clause_holds c.push_large.new.list.items v))
             (is_within version_cmp (interval_of c.in-Some.bounds) (v.version c.args.variable)) (intervals_left c.loop-bounds.bounds-iterator) (intervals_left c.next.new.self) (interval_of c.in-Some.bounds)
             (contains_point version_cmp c.args.outside.now (v.version c.args.variable)) c.in-Some.ensures.steps refl
-            (excludes_more c.loop-bounds.terms.items c.push.new.self.items c.comparison.result (is_within version_cmp (interval_of c.in-Some.bounds) (v.version c.args.variable)) v c.in_ok-push.ensures.items
+            (excludes_more c.loop-bounds.terms.items c.push_large.new.list.items c.comparison.result (is_within version_cmp (interval_of c.in-Some.bounds) (v.version c.args.variable)) v c.in_ok-push_large.ensures.items
             (c.comparison.ensures.means v ∙ found_exclusion c.in_ok-specifier.field-0 c.in-Some-2.specifier c.in-Some.bounds.0 c.in-Some.bounds.1 c.in-Some-2.is c.in_ok-specifier.ensures.means
-            (at_release c.versions_tied_with_releases_are_releases.ensures.test c.in-Some.bounds.0 r.0) (at_release c.versions_tied_with_releases_are_releases.ensures.test c.in-Some.bounds.1 r.1) (v.version c.args.variable)))
+            (at_release release-means c.in-Some.bounds.0 r.0) (at_release release-means c.in-Some.bounds.1 r.1) (v.version c.args.variable)))
             (inv.1 v),
       );
-  printable = each_pushed IsPrintable c.loop-bounds.terms.items c.push.new.self.items c.comparison.result c.in_ok-push.ensures.items c.loop-bounds.invariant.printable
+  printable = each_pushed IsPrintable c.loop-bounds.terms.items c.push_large.new.list.items c.comparison.result c.in_ok-push_large.ensures.items c.loop-bounds.invariant.printable
       (c.comparison.ensures.printable (found_has IsPrintableSpecifier c.in_ok-specifier.field-0 c.in-Some-2.specifier c.in-Some-2.is c.in_ok-specifier.ensures.printable));
 }
 

@@ -6,6 +6,7 @@ use Rattle.version_ranges.specs.Intervals.{interval_of, intervals_left, interval
 use Rattle.version_ranges.specs.Ranges.{contains_point}
 use Rattle.pep440_version.specs.Order.{version_cmp}
 use Rattle.pep440_rs.specs.Bounds.{is_release}
+use Rattle.pep440_rs.proofs.Equals.{release-means}
 use Rattle.marker_terms.specs.Clauses.{clause_holds, clauses_hold, clauses_of}
 use Rattle.marker_terms.specs.Plain.{HavePrintableTerms}
 use Rattle.marker_terms.proofs.PlainLaws.{clauses_pushed}
@@ -34,7 +35,7 @@ loop-bounds-preserved c = record {
             interval_step (λ i. is_within version_cmp i (v.version c.args.variable)) (clauses_hold (clauses_of c.loop-bounds.clauses.items) v) (clauses_hold (clauses_of c.push.new.self.items) v)
             (clause_holds c.in_ok-terms.terms.items v) (intervals_left c.loop-bounds.bounds-iterator) (intervals_left c.next.new.self) (interval_of c.in-Some.bounds)
             (contains_point version_cmp c.args.set.now (v.version c.args.variable)) c.in-Some.ensures.steps
-            (c.in_ok-terms.ensures.means (at_release c.versions_tied_with_releases_are_releases.ensures.test c.in-Some.bounds.0 r.0) (at_release c.versions_tied_with_releases_are_releases.ensures.test c.in-Some.bounds.1 r.1) v)
+            (c.in_ok-terms.ensures.means (at_release release-means c.in-Some.bounds.0 r.0) (at_release release-means c.in-Some.bounds.1 r.1) v)
             (clauses_more c.loop-bounds.clauses.items c.push.new.self.items c.in_ok-terms.terms c.in_ok-push.ensures.items v)
             (inv.1 v),
       );

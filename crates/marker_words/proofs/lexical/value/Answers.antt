@@ -17,32 +17,32 @@ returns-in_default-clause-fault c = fault_at_end ValueAtEnd c.at.ensures.kind c.
 pub returns-in-Some-first-clause-found : goal.returns-in-Some-first-clause-found
 returns-in-Some-first-clause-found c =
     let is_quote : IsQuote c.in-Some.c = search rules in
-    quoted_value _ _ _ _ _ _ c.in-Some.ensures.characters is_quote (sym c.split_run.ensures.rest ∙ c.in-Some-first.ensures.characters) c.split_run.ensures.bytes
+    quoted_value _ _ _ _ _ _ c.in-Some.ensures.characters is_quote (sym c.split_before_quote.ensures.rest ∙ c.in-Some-first.ensures.characters) c.split_before_quote.ensures.bytes
 
 pub returns-in-Some-first-clause-suffix : goal.returns-in-Some-first-clause-suffix
-returns-in-Some-first-clause-suffix c = suffix_then c.in-Some.ensures.suffix (suffix_then c.split_run.ensures.suffix c.in-Some-first.ensures.suffix)
+returns-in-Some-first-clause-suffix c = suffix_then c.in-Some.ensures.suffix (suffix_then c.split_before_quote.ensures.suffix c.in-Some-first.ensures.suffix)
 
 pub returns-in-None-clause-none : goal.returns-in-None-clause-none
 returns-in-None-clause-none c output value v =
     let is_quote : IsQuote c.in-Some.c = search rules in
-    no_value_unclosed c.in-Some.ensures.characters is_quote (sym c.split_run.ensures.rest ∙ c.in-None.ensures.characters) v
+    no_value_unclosed c.in-Some.ensures.characters is_quote (sym c.split_before_quote.ensures.rest ∙ c.in-None.ensures.characters) v
 
 pub returns-in-None-clause-fault : goal.returns-in-None-clause-fault
 returns-in-None-clause-fault c =
     let is_quote : IsQuote c.in-Some.c = search rules in
-    fault_at_first c.in-Some.c (Unclosed c.in-Some.c) c.utf8.text c.in-Some.ensures.suffix c.in-Some.ensures.bytes c.at-in-None.ensures.kind c.at-in-None.ensures.place c.before-in-None.ensures.piece c.before-in-None.ensures.left (λ e. (c.in-Some.c, quotes is_quote (sym c.split_run.ensures.rest ∙ c.in-None.ensures.characters), e))
+    fault_at_first c.in-Some.c (Unclosed c.in-Some.c) c.utf8.text c.in-Some.ensures.suffix c.in-Some.ensures.bytes c.at-in-None.ensures.kind c.at-in-None.ensures.place c.before-in-None.ensures.piece c.before-in-None.ensures.left (λ e. (c.in-Some.c, quotes is_quote (sym c.split_before_quote.ensures.rest ∙ c.in-None.ensures.characters), e))
 
 pub returns-in-Some-value_of_name-clause-found : goal.returns-in-Some-value_of_name-clause-found
-returns-in-Some-value_of_name-clause-found c = named_found _ _ _ _ c.split_run-else-is_quote.ensures.bytes c.split_run-else-is_quote.ensures.rest c.in-Some-value_of_name.ensures.found
+returns-in-Some-value_of_name-clause-found c = named_found _ _ _ _ c.split_run.ensures.bytes c.split_run.ensures.rest c.in-Some-value_of_name.ensures.found
 
 pub returns-in-Some-value_of_name-clause-shorter : goal.returns-in-Some-value_of_name-clause-shorter
-returns-in-Some-value_of_name-clause-shorter c = named_shorter _ _ _ _ c.in-Some-value_of_name.ensures.found c.split_run-else-is_quote.ensures.joined
+returns-in-Some-value_of_name-clause-shorter c = named_shorter _ _ _ _ c.in-Some-value_of_name.ensures.found c.split_run.ensures.joined
 
 pub returns-in-None-value_of_name-clause-none : goal.returns-in-None-value_of_name-clause-none
 returns-in-None-value_of_name-clause-none c output value v =
     let plain : IsQuote c.in-Some.c → ⊥ = search rules in
-    no_value_named c.in-Some.c value c.in-Some.ensures.characters plain c.split_run-else-is_quote.ensures.bytes c.in-None-value_of_name.ensures.none v
+    no_value_named c.in-Some.c value c.in-Some.ensures.characters plain c.split_run.ensures.bytes c.in-None-value_of_name.ensures.none v
 
 pub returns-in-None-value_of_name-clause-fault : goal.returns-in-None-value_of_name-clause-fault
 returns-in-None-value_of_name-clause-fault c =
-    fault_at_run NoValue c.utf8.text c.split_run-else-is_quote.ensures.suffix c.split_run-else-is_quote.ensures.joined c.at-in-None-value_of_name.ensures.kind c.at-in-None-value_of_name.ensures.place c.at_run.ensures.piece c.at_run.ensures.left (run_longest _ _ _ KeyPart c.split_run-else-is_quote.ensures.joined c.split_run-else-is_quote.ensures.bytes, subst HasNoValue c.split_run-else-is_quote.ensures.joined (returns-in-None-value_of_name-clause-none c))
+    fault_at_run NoValue c.utf8.text c.split_run.ensures.suffix c.split_run.ensures.joined c.at-in-None-value_of_name.ensures.kind c.at-in-None-value_of_name.ensures.place c.at_run.ensures.piece c.at_run.ensures.left (run_longest _ _ _ KeyPart c.split_run.ensures.joined c.split_run.ensures.bytes, subst HasNoValue c.split_run.ensures.joined (returns-in-None-value_of_name-clause-none c))

@@ -1,23 +1,29 @@
-use Rattle.std.proofs.Common.{rules, ◌∙◌}
+use Rattle.std.proofs.Common.{rules, arith, ap, drop, ◌∙◌, ◌≡◌}
+use Rattle.std.specs.Str.{chars}
 use Rattle.pep508_text.specs.Run.{run_of, after_run}
-use Rattle.pep508_text.proofs.Splits.{Stopped, none_passed, passed_in_run, stopped_at_end, stopped_before}
+use Rattle.pep508_text.proofs.Splits.{Stopped, front_at, none_passed, passed_ascii, stopped_before_ascii, stopped_past_all}
 use Rattle.pep508_text.proofs.fronts.split_run.Goals as goal
-use Rattle.pep508_text.proofs.fronts.split_run.Goals.{Joined-first, in-Some+then-not-holds, in_default}
+use Rattle.pep508_text.proofs.fronts.split_run.Goals.{After-split_at, else-bytes-test, then-bytes-test+else-not-is_ascii+then-not-holds}
 
-pub loop-c-init : goal.loop-c-init
-loop-c-init c = none_passed _ _ _ c.utf8.text
+pub bytes-init : goal.bytes-init
+bytes-init c = (search (rules, arith), none_passed _ _ _ c.utf8.text)
 
-pub loop-c-preserved : goal.loop-c-preserved
-loop-c-preserved c = passed_in_run _ _ _ _ _ c.utf8.text c.loop-c.invariant c.in-Some.ensures.bytes c.in-Some.ensures.characters (search rules)
+pub bytes-preserved : goal.bytes-preserved
+bytes-preserved c = (search (rules, arith), passed_ascii _ _ _ c.utf8.text c.bytes.invariant.1 (search (rules, arith)) (search (rules, arith)) (search rules))
 
--- the loop ends before a character that is not of the class, or at the end of the text
-ended : (c : Joined-first) → Stopped (run_of c.args.class) (after_run c.args.class) c.args.text.now c.loop-c.rest.now
-ended c = elim c.match-first.branch [ in-Some+then-not-holds w ↦ stopped_before _ _ _ c.utf8.text c.loop-c.invariant _ _ w.in-Some.ensures.characters (search rules) | in_default w ↦ stopped_at_end _ _ _ c.utf8.text c.loop-c.invariant w.in_default.ensures.characters ]
+-- the loop ends before a byte of ASCII that is not of the class, or at the end of the text
+ended : (c : After-split_at) → Stopped (run_of c.args.class) (after_run c.args.class) c.args.text.now (drop c.bytes.len c.args.text.now)
+ended c = elim c.bytes-test.branch [ else-bytes-test w ↦ stopped_past_all _ _ _ c.utf8.text c.bytes.invariant.1 (search (rules, arith)) | then-bytes-test+else-not-is_ascii+then-not-holds w ↦ stopped_before_ascii _ _ _ c.utf8.text c.bytes.invariant.1 (search (rules, arith)) (search (rules, arith)) (search rules) ]
 
-pub split_at-requires : goal.split_at-requires
-split_at-requires c = (ended c).boundary
+-- the run is the front there
+front_is : (c : After-split_at) → c.split_at.result.0.now ≡ (ended c).front
+front_is c = c.split_at.ensures.front ∙ front_at _ _ _ (ended c).joined
+
+pub returns-clause-run : goal.returns-clause-run
+returns-clause-run c = ap chars (front_is c) ∙ (ended c).run
+
+pub returns-clause-rest : goal.returns-clause-rest
+returns-clause-rest c = ap chars c.split_at.ensures.back ∙ (ended c).after
 
 pub returns-clause-bytes : goal.returns-clause-bytes
-returns-clause-bytes c =
-    let s = ended (goal.at.returns-clause-bytes c).Joined-first in
-    c.split_at.ensures.front ∙ s.front_is ∙ s.bytes
+returns-clause-bytes c = front_is c ∙ (ended c).bytes
