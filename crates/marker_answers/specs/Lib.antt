@@ -1,4 +1,3 @@
-pub mod Comparison
 pub mod Known
 pub mod Evaluation
 pub mod Simplified

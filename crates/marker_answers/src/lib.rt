@@ -1,17 +1,15 @@
-//! Answers about markers: how two of them relate, what one is where parts of an environment are
-//! known, and what is left of one in a range of Python versions.
+//! Answers about markers: what one is where parts of an environment are known, and what is left of
+//! one in a range of Python versions.
 //!
 //! Calls that allocate return `OutOfMemory` or `AllocError` when memory runs out or the interner
 //! has no room. What the markers of the interner mean stays, even then.
 #![tactic(auto)]
 
-mod comparing;
 mod evaluating;
 mod facts;
 mod known;
 mod simplifying;
 
-pub use crate::comparing::{Comparison, ComparisonFault, compare};
 pub use crate::evaluating::{Evaluation, evaluate, settle};
 pub use crate::facts::facts_of;
 pub use crate::known::KnownValues;

@@ -1,6 +1,6 @@
 -- Branches that follow the edges of a marker are those of the marker.
-use Rattle.std.proofs.Common.{◌≡◌, ◌⊎◌, inl, inr, ℕ, suc, Bool, true, false, cond, ◌&&◌, ◌||◌, List, [], ◌∷◌, ◌++◌, map, Some, string_bytes, refl, sym, ap, ◌∙◌, subst}
-use Rattle.std.specs.Prelude.{slice_get, String, Result, Ok, Err, IfOk, Vec, ⊤}
+use Rattle.std.proofs.Common.{◌≡◌, ◌⊎◌, inl, inr, ℕ, suc, Bool, true, false, not, cond, ◌&&◌, ◌||◌, List, [], ◌∷◌, ◌++◌, map, Some, string_bytes, refl, sym, ap, ◌∙◌, subst}
+use Rattle.std.specs.Prelude.{slice_get, String, Result, Ok, Err, IfOk, IfSome, None, Option, Vec, ⊤}
 use Rattle.std.specs.Global.{Global}
 use Rattle.std.specs.List.{list_all, list_any, Any}
 use Rattle.std.specs.Range.Bound.{bound_map}
@@ -21,11 +21,14 @@ use Rattle.pep440_rs.specs.Bounds.{is_release}
 use Rattle.marker_words.specs.Compare.{text_cmp}
 use Rattle.marker_environment.specs.Valuation.{Valuation}
 use Rattle.marker_diagrams.specs.Residue as residue
+use Rattle.marker_diagrams.specs.Id.{same_id}
 use Rattle.marker_diagrams.specs.declared.node_id.NodeId.{NodeId}
+use Rattle.marker_diagrams.proofs.IdLaws.{same_id_is}
 use Rattle.marker_nodes.proofs.Firsts.{false_is}
 use Rattle.marker_nodes.specs.Variable.{Variable, of_text, of_version}
 use Rattle.marker_nodes.specs.declared.node.Branches.TheVariants.{Text, Version}
-use Rattle.marker_terms.specs.Clauses.{clauses_hold, clauses_of}
+use Rattle.marker_parts.specs.declared.expression.MarkerExpression.{MarkerExpression}
+use Rattle.marker_terms.specs.Clauses.{clauses_hold, clauses_of, term_holds}
 use Rattle.marker_terms.specs.Plain.{is_plain}
 use Rattle.marker_graph.specs.Contents.{Contents, truth}
 use Rattle.marker_graph.specs.Edges.{by_bytes, under}
@@ -38,7 +41,7 @@ use Rattle.marker_graph.specs.declared.tree.TheConstants.MarkerTree.{FALSE}
 use Rattle.marker_clauses.proofs.JoinLaws.{get_last, iff_same}
 use Rattle.marker_clauses.specs.declared.branch.Branch.{Branch}
 use Rattle.marker_clauses.specs.Readable.{IsReadable}
-use Rattle.marker_clauses.specs.Branch.{reaches, AreBranches, FollowEdges, HasReleases, HavePrintableBranches, IsBelow}
+use Rattle.marker_clauses.specs.Branch.{reaches, AreBranches, DividePoints, FollowEdges, HasReleases, HavePrintableBranches, IsBelow, IsOne}
 
 or_end : (x : Bool) → (x || false) ≡ x
 or_end true = refl
@@ -138,6 +141,109 @@ module _ {T : Type 0} (cmp : T → T → Ordering) (place : Valuation → Point 
       leads = λ r v test z. sym (or_end (list_any (λ b. reaches v test b) branches)) ∙ ap (λ es. list_any (λ b. reaches v test b) branches || list_any (leads_on v test) es) (sym l) ∙ p.leads r v test z;
     }
 
+-- ---- two branches of three edges, of which the first and the last one lead to one marker
+
+ends : (x t : Bool) → (((x && true) || false) && t) ≡ (x && t)
+ends true t = refl
+ends false t = refl
+
+-- a point that is in one of three edges, and in no two neighbors, is in an outer one or in the inner one
+parted : (x y z : Bool) → (x || (y || (z || false))) ≡ true → (x ≡ true → y ≡ true → ⊥) → (z ≡ true → y ≡ true → ⊥) → (x || z) ≡ not y
+parted true true z c a b = absurd (a refl refl)
+parted true false z c a b = refl
+parted false true true c a b = absurd (b refl refl)
+parted false true false c a b = refl
+parted false false true c a b = refl
+parted false false false c a b = cc c
+
+joined_outer : (x y z a b : Bool) → (x || z) ≡ not y → ((not y && a) || (y && b)) ≡ ((x && a) || ((y && b) || ((z && a) || false)))
+joined_outer true true z a b h = cc h
+joined_outer false true true a b h = cc h
+joined_outer false true false a true h = refl
+joined_outer false true false a false h = refl
+joined_outer true false z true b h = refl
+joined_outer true false true false b h = refl
+joined_outer true false false false b h = refl
+joined_outer false false true a b h = refl
+joined_outer false false false a b h = cc h
+
+-- markers that are not told apart are one
+pub same_tree : (a b : MarkerTree) (told : Bool) → told ≡ not (same_id a.id b.id) → told ≡ false → a ≡ b
+same_tree a b told e f = by_id a.id b.id (same_id_is a.id b.id (not_false (same_id a.id b.id) (sym e ∙ f)))
+  where
+    not_false : (z : Bool) → not z ≡ false → z ≡ true
+    not_false true h = refl
+    not_false false h = cc h
+
+    at : NodeId → MarkerTree
+    at i = record { id = i }
+
+    by_id : (i j : NodeId) → i ≡ j → at i ≡ at j
+    by_id i j h = ap at h
+
+module _ {T : Type 0} (cmp : T → T → Ordering) (place : Valuation → Point T) (Premise : Type 0)
+    (edges : List (Part T MarkerTree)) (first second third : Part T MarkerTree) (three : edges ≡ first ∷ second ∷ third ∷ []) (same : first.value ≡ third.value) where
+  -- the inner edge has a point exactly where the outer ones do not
+  outer : DividePoints cmp edges → (p : Point T) → (is_in cmp first p || is_in cmp third p) ≡ not (is_in cmp second p)
+  outer d p =
+      let k = d.covers p in
+      parted (is_in cmp first p) (is_in cmp second p) (is_in cmp third p)
+      (ap (list_any (λ e. is_in cmp e p)) (sym three)
+      ∙ list_any_at (λ e. is_in cmp e p) edges k.0 k.1 (slice_get_within edges k.0 k.1 k.2) (ap (λ e. is_in cmp e p) (get_or_from_slice_get edges k.0 k.1 k.1 k.2) ∙ k.3))
+      (λ a b. let q : 0 ≡ 1 = d.apart 0 1 first second p (at 0) (at 1) a b in cc q) (λ a b. let q : 2 ≡ 1 = d.apart 2 1 third second p (at 2) (at 1) a b in cc q)
+    where
+      at : (i : ℕ) → slice_get edges i ≡ slice_get (first ∷ second ∷ third ∷ []) i
+      at i = ap (λ es. slice_get es i) three
+
+  module _ (none one : List Branch) (b : Branch) (term : MarkerExpression) (n : none ≡ []) (o : one ≡ none ++ (b ∷ [])) (is : IsOne b term first.value)
+      (excludes : Premise → (v : Valuation) → term_holds term v ≡ not (is_in cmp second (place v))) where
+    reach_outer : Premise → (v : Valuation) (test : MarkerTree → Bool) → list_any (λ b. reaches v test b) one ≡ (not (is_in cmp second (place v)) && test first.value)
+    reach_outer r v test =
+        ap (list_any (λ b. reaches v test b)) o ∙ ap (λ bs. list_any (λ b. reaches v test b) (bs ++ (b ∷ []))) n ∙ or_end (reaches v test b)
+        ∙ ap (λ cs. clauses_hold cs v && test b.child) is.0 ∙ ends (term_holds term v) (test b.child)
+        ∙ ap (λ s. term_holds term v && test s) is.1 ∙ ap (λ x. x && test first.value) (excludes r v)
+
+    each_outer : (i : ℕ) (d : Branch) → slice_get one i ≡ Some d → (j : ℕ) × (e : Part T MarkerTree) × (slice_get edges j ≡ Some e) × (d.child ≡ e.value)
+    each_outer i d g = by_place (get_last [] b i d (ap (λ xs. slice_get xs i) (ap (λ xs. xs ++ (b ∷ [])) (sym n) ∙ sym o) ∙ g))
+      where
+        by_place : (slice_get [] i ≡ Some d) ⊎ (b ≡ d) → (j : ℕ) × (e : Part T MarkerTree) × (slice_get edges j ≡ Some e) × (d.child ≡ e.value)
+        by_place (inl h) = cc h
+        by_place (inr h) = (0, first, ap (λ es. slice_get es 0) three, ap (λ (y : Branch). y.child) (sym h) ∙ is.1)
+
+    -- what the edges lead to, by the inner and the outer ones
+    meets : DividePoints cmp edges → (v : Valuation) (test : MarkerTree → Bool) →
+        ((not (is_in cmp second (place v)) && test first.value) || (is_in cmp second (place v) && test second.value)) ≡ list_any (leads_on cmp place v test) edges
+    meets d v test =
+        joined_outer (is_in cmp first (place v)) (is_in cmp second (place v)) (is_in cmp third (place v)) (test first.value) (test second.value) (outer d (place v))
+        ∙ ap (λ s. (is_in cmp first (place v) && test first.value) || ((is_in cmp second (place v) && test second.value) || ((is_in cmp third (place v) && test s) || false))) same
+        ∙ ap (list_any (leads_on cmp place v test)) (sym three)
+
+    -- the inner edge leads to `FALSE`
+    pub around_false : second.value ≡ FALSE → FollowEdges cmp place (Premise × DividePoints cmp edges) edges one
+    around_false f = record {
+      each = each_outer;
+      leads = λ r v test z.
+          reach_outer r.0 v test ∙ sym (or_end (not (is_in cmp second (place v)) && test first.value))
+          ∙ ap (λ x. (not (is_in cmp second (place v)) && test first.value) || x) (sym (ap (λ s. is_in cmp second (place v) && test s) f ∙ ap (λ x. is_in cmp second (place v) && x) z ∙ and_no (is_in cmp second (place v))))
+          ∙ meets r.1 v test;
+    }
+
+    -- it leads to another marker
+    pub around_one : (two : List Branch) (d : Branch) → two ≡ one ++ (d ∷ []) → d.child ≡ second.value → (Premise → (v : Valuation) → clauses_hold (clauses_of d.clauses.items) v ≡ is_in cmp second (place v)) →
+        FollowEdges cmp place (Premise × DividePoints cmp edges) edges two
+    around_one two d t s h = record {
+      each = λ i x g. by_place i x (get_last one d i x (ap (λ xs. slice_get xs i) (sym t) ∙ g));
+      leads = λ r v test z.
+          ap (list_any (λ b. reaches v test b)) t ∙ list_any-append (λ b. reaches v test b) one (d ∷ []) ∙ ap (λ x. list_any (λ b. reaches v test b) one || x) (or_end (reaches v test d))
+          ∙ ap (λ x. x || reaches v test d) (reach_outer r.0 v test)
+          ∙ ap (λ x. (not (is_in cmp second (place v)) && test first.value) || (x && test d.child)) (h r.0 v)
+          ∙ ap (λ m. (not (is_in cmp second (place v)) && test first.value) || (is_in cmp second (place v) && test m)) s ∙ meets r.1 v test;
+    }
+      where
+        by_place : (i : ℕ) (x : Branch) → (slice_get one i ≡ Some x) ⊎ (d ≡ x) → (j : ℕ) × (e : Part T MarkerTree) × (slice_get edges j ≡ Some e) × (x.child ≡ e.value)
+        by_place i x (inl g) = each_outer i x g
+        by_place i x (inr g) = (1, second, ap (λ es. slice_get es 1) three, ap (λ (y : Branch). y.child) (sym g) ∙ s)
+
 -- ---- bounds of edges
 
 -- whether the values of both bounds of an edge pass a test
@@ -163,6 +269,18 @@ bound_same : {T : Type 0} (b : Bound T) → bound_map (λ v. v) b ≡ b
 bound_same (Included v) = refl
 bound_same (Excluded v) = refl
 bound_same Unbounded = refl
+
+-- three edges, one after another
+pub three_edges : {T : Type 0} (edges l m r n : List (Part T MarkerTree)) (first second third : Part T MarkerTree) → edges ≡ l → l ≡ first ∷ m → m ≡ second ∷ r → r ≡ third ∷ n → n ≡ [] → edges ≡ first ∷ second ∷ third ∷ []
+three_edges edges l m r n first second third a b c d e = a ∙ b ∙ ap (λ es. first ∷ es) (c ∙ ap (λ es. second ∷ es) (d ∙ ap (λ es. third ∷ es) e))
+
+-- the bounds of the second one pass what those of all do
+pub second_passes : {T : Type 0} (test : T → Bool) (edges : List (Part T MarkerTree)) (first second third : Part T MarkerTree) → edges ≡ first ∷ second ∷ third ∷ [] → list_all (edge_passes test) edges ≡ true →
+    (passes_at test second.lower ≡ true) × (passes_at test second.upper ≡ true)
+second_passes test edges first second third e h =
+    let q = and_parts (edge_passes test first) _ (sym (ap (list_all (edge_passes test)) e) ∙ h) in
+    let r = and_parts (edge_passes test second) _ q.1 in
+    and_parts (passes_at test second.lower) (passes_at test second.upper) r.0
 
 -- the values at the cuts of a function are those at the bounds of its edges
 module _ {T : Type 0} (test : T → Bool) (t : MarkerTree) where
@@ -196,3 +314,24 @@ module _ (c : Contents) (t : MarkerTree) where
   text_edges_result view k a (Err e) h p = h
   text_edges_result view k a (Ok bs) h p =
       edge_branches text_cmp (λ v. v.text view.variable) c t (of_text view.variable) (string_edges view) a bs.items ⊤ (λ r. tt) (λ r. p (r t (Text view.variable view.cuts.now) residue.itself k.0)) h
+
+  -- the same of the branches that were found, with a premise that the edges divide the points
+  pub version_around_result : {A : Type 0} (view : VersionMarkerTree) → IsKind c t (VersionKind view) → AreItsEdges c t (VersionKind view) → (found : Option (Vec Branch A)) (bs : Vec Branch A) → found ≡ Some bs →
+      IfSome found (λ bs. FollowEdges version_cmp (λ v. v.version view.variable) ((all_cuts is_release view.cuts.now ≡ true) × DividePoints version_cmp (version_edges view)) (version_edges view) bs.items) →
+      IfSome found (λ bs. HavePrintableBranches bs.items) → AreBranches c t bs.items
+  version_around_result view k a None bs e h p = cc e
+  version_around_result {A} view k a (Some b) bs e h p =
+      let q : b ≡ bs = cc e in
+      subst (λ (x : Vec Branch A). AreBranches c t x.items) q
+      (edge_branches version_cmp (λ v. v.version view.variable) c t (of_version view.variable) (version_edges view) a b.items ((all_cuts is_release view.cuts.now ≡ true) × DividePoints version_cmp (version_edges view))
+      (λ r. (r t (Version view.variable view.cuts.now) residue.itself k.0, record { covers = a.covers; apart = a.apart })) (λ r. p) h)
+
+  pub text_around_result : {A : Type 0} (view : StringMarkerTree) → IsKind c t (StringKind view) → AreItsEdges c t (StringKind view) → (found : Option (Vec Branch A)) (bs : Vec Branch A) → found ≡ Some bs →
+      IfSome found (λ bs. FollowEdges text_cmp (λ v. v.text view.variable) (⊤ × DividePoints text_cmp (string_edges view)) (string_edges view) bs.items) →
+      IfSome found (λ bs. all_cuts (λ t. is_plain (string_bytes t)) view.cuts.now ≡ true → HavePrintableBranches bs.items) → AreBranches c t bs.items
+  text_around_result view k a None bs e h p = cc e
+  text_around_result {A} view k a (Some b) bs e h p =
+      let q : b ≡ bs = cc e in
+      subst (λ (x : Vec Branch A). AreBranches c t x.items) q
+      (edge_branches text_cmp (λ v. v.text view.variable) c t (of_text view.variable) (string_edges view) a b.items (⊤ × DividePoints text_cmp (string_edges view))
+      (λ r. (tt, record { covers = a.covers; apart = a.apart })) (λ r. p (r t (Text view.variable view.cuts.now) residue.itself k.0)) h)

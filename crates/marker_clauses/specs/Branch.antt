@@ -3,23 +3,33 @@ use Rattle.std.specs.Prelude.{◌≡◌, ◌≢◌, ◌⊎◌, ◌<◌, ◌&&◌
 use Rattle.std.specs.List.{AllByRecursion, list_any}
 use Rattle.std.specs.declared.cmp.Ordering.{Ordering}
 use Rattle.version_ranges.specs.Bounds.{all_cuts}
-use Rattle.version_ranges.specs.Parts.{Part, is_in}
+use Rattle.version_ranges.specs.Cuts.{value_by, value_of}
+use Rattle.version_ranges.specs.Parts.{Part, is_in, IsIn}
 use Rattle.version_ranges.specs.Point.{Point}
+use Rattle.pep440_version.specs.Order.{version_cmp}
 use Rattle.pep440_rs.specs.Bounds.{is_release}
+use Rattle.marker_words.specs.Compare.{text_cmp}
+use Rattle.marker_words.specs.declared.key.MarkerValueString.{MarkerValueString}
+use Rattle.marker_words.specs.declared.operator.ExtraOperator.TheVariants as operators
+use Rattle.marker_words.specs.declared.operator.MarkerOperator.{MarkerOperator}
 use Rattle.marker_environment.specs.Valuation.{Valuation}
 use Rattle.marker_parts.specs.Expression as asked
 use Rattle.marker_parts.specs.Expression.{test_of}
 use Rattle.marker_parts.specs.declared.expression.MarkerExpression.{MarkerExpression}
-use Rattle.marker_terms.specs.Clauses.{clauses_hold, clauses_of}
-use Rattle.marker_terms.specs.Plain.{HavePrintableTerms}
+use Rattle.marker_terms.specs.Clauses.{clause_holds, clauses_hold, clauses_of}
+use Rattle.marker_terms.specs.Plain.{HavePrintableTerms, is_plain}
 use Rattle.marker_diagrams.specs.Id.{place_of}
 use Rattle.marker_nodes.specs.Node.{Node}
 use Rattle.marker_nodes.specs.declared.node.Branches.TheVariants.{Version, Text, Truth}
 use Rattle.marker_graph.specs.declared.kind.MarkerValueExtraRef.{MarkerValueExtraRef}
 use Rattle.marker_graph.specs.declared.kind.MarkerValueExtraRef.TheVariants as extras
+use Rattle.marker_graph.specs.declared.kind.StringMarkerTree.{StringMarkerTree}
+use Rattle.marker_graph.specs.declared.kind.VersionMarkerTree.{VersionMarkerTree}
 use Rattle.marker_graph.specs.declared.tree.MarkerTree.{MarkerTree}
 use Rattle.marker_graph.specs.declared.tree.TheConstants.MarkerTree.{FALSE, TRUE}
 use Rattle.marker_graph.specs.Contents.{Contents, IsHeld, truth}
+use Rattle.marker_graph.specs.Edges.{child_of}
+use Rattle.marker_graph.specs.Kind.{string_edges, version_edges}
 use Rattle.marker_graph.specs.Tree.{node_of, IsSubtree}
 use Rattle.marker_clauses.specs.declared.branch.Branch.{Branch}
 use Rattle.marker_clauses.specs.Readable.{IsReadable}
@@ -49,6 +59,14 @@ pub record LeadTo (Premise : Type 0) (child : Valuation → MarkerTree) (branche
   pub leads : Premise → (v : Valuation) (test : MarkerTree → Bool) → test FALSE ≡ false
       → list_any (λ b. reaches v test b) branches ≡ test (child v)
 
+-- each point is in exactly one of these edges
+pub record DividePoints {T : Type 0} (cmp : T → T → Ordering) (edges : List (Part T MarkerTree))
+    : Type 0 where
+  pub covers : (p : Point T) → (i : ℕ) × (e : Part T MarkerTree)
+      × (slice_get edges i ≡ Some e) × IsIn cmp e p
+  pub apart : (i j : ℕ) (e f : Part T MarkerTree) (p : Point T) → slice_get edges i ≡ Some e
+      → slice_get edges j ≡ Some f → IsIn cmp e p → IsIn cmp f p → i ≡ j
+
 -- Each branch leads where one of these edges does, and where the premise holds, the clauses that
 -- hold at a valuation lead to the marker of the edge there, whatever is asked of it that `FALSE`
 -- does not pass, so that none need lead to `FALSE`.
@@ -59,6 +77,41 @@ pub record FollowEdges {T : Type 0} (cmp : T → T → Ordering) (place : Valuat
   pub leads : Premise → (v : Valuation) (test : MarkerTree → Bool) → test FALSE ≡ false
       → list_any (λ b. reaches v test b) branches
       ≡ list_any (λ e. is_in cmp e (place v) && test e.value) edges
+
+-- all bounds of the view are releases
+abbrev pub HasReleaseCuts : VersionMarkerTree → Type 0
+HasReleaseCuts view = all_cuts is_release view.cuts.now ≡ true
+
+-- one branch for each edge of a version, if its bounds are releases
+abbrev pub FollowVersionEdges : VersionMarkerTree → List Branch → Type 0
+FollowVersionEdges view branches = FollowEdges version_cmp (λ v. v.version view.variable)
+    (HasReleaseCuts view) (version_edges view) branches
+
+-- the branches lead to the subtree of each version, if the bounds are releases
+abbrev pub LeadToVersions : VersionMarkerTree → List Branch → Type 0
+LeadToVersions view branches = LeadTo (HasReleaseCuts view) (λ v. child_of view.tree
+    (value_of version_cmp view.cuts.now (v.version view.variable))) branches
+
+-- the branches lead to the subtree of each text
+abbrev pub LeadToTexts : StringMarkerTree → List Branch → Type 0
+LeadToTexts view branches = LeadTo ⊤ (λ v. child_of view.tree
+    (value_by string_bytes text_cmp view.cuts.now (v.text view.variable))) branches
+
+-- the branches follow the edges of a version, if its bounds are releases and each version is on one
+-- edge
+abbrev pub FollowVersions : VersionMarkerTree → List Branch → Type 0
+FollowVersions view branches = FollowEdges version_cmp (λ v. v.version view.variable)
+    ((all_cuts is_release view.cuts.now ≡ true) × DividePoints version_cmp (version_edges view))
+    (version_edges view) branches
+
+-- the branches follow the edges of a text, if each text is on one edge
+abbrev pub FollowTexts : StringMarkerTree → List Branch → Type 0
+FollowTexts view branches = FollowEdges text_cmp (λ v. v.text view.variable)
+    (⊤ × DividePoints text_cmp (string_edges view)) (string_edges view) branches
+
+-- no bound of a text has both quotes
+abbrev pub HasPlainBounds : StringMarkerTree → Type 0
+HasPlainBounds view = all_cuts (λ t. is_plain (string_bytes t)) view.cuts.now ≡ true
 
 -- each term of each clause of the branches parses back from its text
 abbrev pub HavePrintableBranches : List Branch → Type 0
@@ -92,16 +145,35 @@ abbrev pub AreAnswers : asked.Test → MarkerTree → asked.Test → MarkerTree 
 AreAnswers positive high negative low branches = (first : List Branch)
     × IsAnswered positive high [] first × IsAnswered negative low first branches
 
+-- the branches of a comparison with a text and of its negation
+abbrev pub AreTextAnswers : MarkerValueString → List ℕ → MarkerOperator × MarkerTree
+    → MarkerOperator × MarkerTree → List Branch → Type 0
+AreTextAnswers key text positive negative branches = AreAnswers
+    (asked.text key positive.0 text) positive.1 (asked.text key negative.0 text) negative.1 branches
+
 -- the text that `extra` is compared with, borrowed
 abbrev pub extra_of_ref : MarkerValueExtraRef → asked.Extra
 extra_of_ref (extras.Extra n) = asked.name n.now
 extra_of_ref (extras.Arbitrary t) = asked.arbitrary (string_bytes t.now)
+
+-- the branches of a comparison with an extra and of its negation
+abbrev pub AreExtraAnswers : MarkerValueExtraRef → MarkerTree → MarkerTree → List Branch → Type 0
+AreExtraAnswers extra high low branches = AreAnswers
+    (asked.extra operators.Equal (extra_of_ref extra)) high
+    (asked.extra operators.NotEqual (extra_of_ref extra)) low branches
 
 -- the clauses are true where the others are, and where a condition is
 abbrev pub HoldAlso : List (List MarkerExpression) → List (List MarkerExpression)
     → (Valuation → Bool) → Type 0
 HoldAlso new old condition = (v : Valuation)
     → clauses_hold new v ≡ (clauses_hold old v || condition v)
+
+-- the clauses are true where the others are, and where the path and the marker are, if all bounds
+-- of the marker are releases
+abbrev pub HoldAlsoBehind : {A : Type 0} → Contents → MarkerTree → List MarkerExpression
+    → List (Vec MarkerExpression A) → List (Vec MarkerExpression A) → Type 0
+HoldAlsoBehind c t path old new = HasReleases c t
+    → HoldAlso (clauses_of new) (clauses_of old) (λ v. clause_holds path v && truth c t v)
 
 -- clauses that grow stay printable
 abbrev pub StayPrintable : {A : Type 0} → List (Vec MarkerExpression A)

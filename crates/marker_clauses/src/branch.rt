@@ -1,20 +1,15 @@
 //! The clauses that lead to each subtree of a marker.
 
-ghost use Rattle.std.specs.Prelude.{◌≡◌, IfOk, OnOk, string_bytes, true, ⊤};
+ghost use Rattle.std.specs.Prelude.{◌≡◌, IfOk, IfSome, OnOk, string_bytes, true, ⊤};
 ghost use Rattle.version_ranges.specs.Bounds.{all_cuts};
-ghost use Rattle.version_ranges.specs.Cuts.{value_by, value_of};
-ghost use Rattle.pep440_version.specs.Order.{version_cmp};
-ghost use Rattle.pep440_rs.specs.Bounds.{is_release};
 ghost use Rattle.marker_words.specs.Compare.{text_cmp};
-ghost use Rattle.marker_words.specs.declared.operator.ExtraOperator.TheVariants as operators;
 ghost use Rattle.marker_parts.specs.Expression as asked;
 ghost use Rattle.marker_parts.specs.Expression.{test_of};
 ghost use Rattle.marker_nodes.specs.Variable.{truth_variable};
 ghost use Rattle.marker_terms.specs.Plain.{IsPlainExtra, is_plain};
 ghost use Rattle.marker_graph.specs.Contents.{IsHeld};
-ghost use Rattle.marker_graph.specs.Edges.{child_of};
-ghost use Rattle.marker_graph.specs.Kind.{extra_question, string_edges, version_edges};
-ghost use Rattle.marker_clauses.specs.Branch.{AreAnswers, AreBranches, FollowEdges, HavePrintableBranches, IsAnswered, IsOne, LeadTo, extra_of_ref};
+ghost use Rattle.marker_graph.specs.Kind.{extra_question, string_edges};
+ghost use Rattle.marker_clauses.specs.Branch.{AreBranches, AreExtraAnswers, AreTextAnswers, FollowEdges, FollowTexts, FollowVersionEdges, FollowVersions, HasPlainBounds, HavePrintableBranches, IsAnswered, IsOne, LeadToTexts, LeadToVersions, extra_of_ref};
 ghost use Rattle.marker_clauses.specs.Readable.{IsPlainVariable};
 
 use marker_graph::{
@@ -24,10 +19,10 @@ use marker_graph::{
 use marker_nodes::NodeId;
 use marker_parts::{MarkerExpression, MarkerValueExtra};
 use marker_terms::{
-    one_clause, text_clauses, text_range_terms, version_clauses, version_range_terms,
+    one_clause, push_large, text_clauses, text_exclusion, text_range_terms, version_clauses,
+    version_exclusion, version_range_terms,
 };
 use marker_words::{ExtraOperator, MarkerOperator, MarkerValueString};
-use pep440_rs::laws::version_clones_are_equal;
 use std::alloc::{AllocError, Global};
 use version_ranges::Cuts;
 use version_ranges::laws::pieces_have_the_values_of_points;
@@ -54,16 +49,20 @@ pub(crate) fn branches(interner: &Interner, tree: MarkerTree) -> Result<Vec<Bran
         MarkerTreeKind::False => Ok(Vec::new(alloc)),
         MarkerTreeKind::Version(view) => {
             if leads_apart(view.cuts(), view.subtree(NodeId::FALSE)) {
-                version_edge_branches(alloc, view)
-            } else {
-                version_branches(alloc, view)
+                return version_edge_branches(alloc, view);
+            }
+            match version_around(alloc, view)? {
+                Some(branches) => Ok(branches),
+                None => version_branches(alloc, view),
             }
         }
         MarkerTreeKind::String(view) => {
             if leads_apart(view.cuts(), view.subtree(NodeId::FALSE)) {
-                text_edge_branches(alloc, view)
-            } else {
-                text_branches(alloc, view)
+                return text_edge_branches(alloc, view);
+            }
+            match text_around(alloc, view)? {
+                Some(branches) => Ok(branches),
+                None => text_branches(alloc, view),
             }
         }
         MarkerTreeKind::In(view) => text_answers(
@@ -105,9 +104,8 @@ fn version_edge_branches(
     alloc: Global,
     view: VersionMarkerTree<'_>,
 ) -> Result<Vec<Branch>, AllocError>
-    ensures follow { IfOk result (λ branches. FollowEdges version_cmp
-        (λ v. v.version view.entry.variable) (all_cuts is_release view.entry.cuts.now ≡ true)
-        (version_edges view.entry) branches.items) }
+    ensures follow { IfOk result (λ branches.
+        FollowVersionEdges view.entry branches.items) }
     ensures printable { IfOk result (λ branches. HavePrintableBranches branches.items) }
 {
     let mut branches = Vec::new(alloc);
@@ -123,15 +121,50 @@ fn version_edge_branches(
     Ok(branches)
 }
 
+// The same, where a single comparison excludes the second edge, and the only others, the first and
+// the third one, lead to one subtree.
+fn version_around(
+    alloc: Global,
+    view: VersionMarkerTree<'_>,
+) -> Result<Option<Vec<Branch>>, AllocError>
+    ensures follow { IfOk result (λ found. IfSome found (λ branches.
+        FollowVersions view.entry branches.items)) }
+    ensures printable { IfOk result (λ found. IfSome found (λ branches.
+        HavePrintableBranches branches.items)) }
+{
+    let mut edges = view.edges();
+    let Some((_, _, around)) = edges.next() else {
+        return Ok(None);
+    };
+    let Some((lower, upper, child)) = edges.next() else {
+        return Ok(None);
+    };
+    let Some((_, _, last)) = edges.next() else {
+        return Ok(None);
+    };
+    if edges.next().is_some() || around != last {
+        return Ok(None);
+    }
+    let Some(term) = version_exclusion(alloc, view.variable(), (lower, upper))? else {
+        return Ok(None);
+    };
+    let mut branches = Vec::with_capacity(alloc, 2)?;
+    let outer = one(alloc, term, around)?;
+    branches.push(outer)?;
+    if child.is_false() {
+        return Ok(Some(branches));
+    }
+    let terms = version_range_terms(alloc, view.variable(), (lower, upper))?;
+    let clauses = one_clause(alloc, terms)?;
+    branches.push(Branch { clauses, child })?;
+    Ok(Some(branches))
+}
+
 // The same, where the edges of each subtree are joined.
 fn version_branches(alloc: Global, view: VersionMarkerTree<'_>) -> Result<Vec<Branch>, AllocError>
-    ensures lead { IfOk result (λ branches. LeadTo (all_cuts is_release view.entry.cuts.now ≡ true)
-        (λ v. child_of view.entry.tree
-        (value_of version_cmp view.entry.cuts.now (v.version view.entry.variable)))
-        branches.items) }
+    ensures lead { IfOk result (λ branches. LeadToVersions view.entry branches.items) }
     ensures printable { IfOk result (λ branches. HavePrintableBranches branches.items) }
 {
-    version_clones_are_equal();
     let mut branches = Vec::new(alloc);
     let cuts = view.cuts();
     pieces_have_the_values_of_points(cuts);
@@ -168,12 +201,45 @@ fn text_edge_branches(alloc: Global, view: StringMarkerTree<'_>) -> Result<Vec<B
     Ok(branches)
 }
 
+// The same, where a single comparison excludes the second edge, and the only others, the first and
+// the third one, lead to one subtree.
+fn text_around(alloc: Global, view: StringMarkerTree<'_>) -> Result<Option<Vec<Branch>>, AllocError>
+    ensures follow { IfOk result (λ found. IfSome found (λ branches.
+        FollowTexts view.entry branches.items)) }
+    ensures printable { IfOk result (λ found. IfSome found (λ branches.
+        HasPlainBounds view.entry → HavePrintableBranches branches.items)) }
+{
+    let mut edges = view.children();
+    let Some((_, _, around)) = edges.next() else {
+        return Ok(None);
+    };
+    let Some((lower, upper, child)) = edges.next() else {
+        return Ok(None);
+    };
+    let Some((_, _, last)) = edges.next() else {
+        return Ok(None);
+    };
+    if edges.next().is_some() || around != last {
+        return Ok(None);
+    }
+    let Some(term) = text_exclusion(alloc, view.key(), (lower, upper))? else {
+        return Ok(None);
+    };
+    let mut branches = Vec::with_capacity(alloc, 2)?;
+    let outer = one(alloc, term, around)?;
+    branches.push(outer)?;
+    if child.is_false() {
+        return Ok(Some(branches));
+    }
+    let terms = text_range_terms(alloc, view.key(), (lower, upper))?;
+    let clauses = one_clause(alloc, terms)?;
+    branches.push(Branch { clauses, child })?;
+    Ok(Some(branches))
+}
+
 // The same, where the edges of each subtree are joined.
 fn text_branches(alloc: Global, view: StringMarkerTree<'_>) -> Result<Vec<Branch>, AllocError>
-    ensures lead { IfOk result (λ branches. LeadTo ⊤
-        (λ v. child_of view.entry.tree
-        (value_by string_bytes text_cmp view.entry.cuts.now (v.text view.entry.variable)))
-        branches.items) }
+    ensures lead { IfOk result (λ branches. LeadToTexts view.entry branches.items) }
     ensures printable { IfOk result (λ branches.
         all_cuts (λ t. is_plain (string_bytes t)) view.entry.cuts.now ≡ true
         → HavePrintableBranches branches.items) }
@@ -201,8 +267,8 @@ fn text_answers(
     positive: (MarkerOperator, MarkerTree),
     negative: (MarkerOperator, MarkerTree),
 ) -> Result<Vec<Branch>, AllocError>
-    ensures { IfOk result (λ branches. AreAnswers (asked.text key positive.0 text.now) positive.1
-        (asked.text key negative.0 text.now) negative.1 branches.items) }
+    ensures { IfOk result (λ branches.
+        AreTextAnswers key text.now positive negative branches.items) }
 {
     let mut branches = Vec::with_capacity(alloc, 2)?;
     add_text_test(&mut branches, key, positive.0, text, positive.1)?;
@@ -217,9 +283,8 @@ fn extra_answers(
     high: MarkerTree,
     low: MarkerTree,
 ) -> Result<Vec<Branch>, AllocError>
-    ensures { IfOk result (λ branches. AreAnswers
-        (asked.extra operators.Equal (extra_of_ref extra.entry)) high
-        (asked.extra operators.NotEqual (extra_of_ref extra.entry)) low branches.items) }
+    ensures { IfOk result (λ branches.
+        AreExtraAnswers extra.entry high low branches.items) }
 {
     let mut branches = Vec::with_capacity(alloc, 2)?;
     add_extra_test(&mut branches, ExtraOperator::Equal, extra, high)?;
@@ -271,7 +336,7 @@ fn one(alloc: Global, term: MarkerExpression, child: MarkerTree) -> Result<Branc
     ensures { IfOk result (λ branch. IsOne branch term child) }
 {
     let mut terms = Vec::with_capacity(alloc, 1)?;
-    terms.push(term)?;
+    push_large(&mut terms, term)?;
     let mut clauses = Vec::with_capacity(alloc, 1)?;
     clauses.push(terms)?;
     Ok(Branch { clauses, child })

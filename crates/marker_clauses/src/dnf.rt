@@ -1,13 +1,11 @@
 //! A marker as a disjunction of conjunctions.
 
-ghost use Rattle.std.specs.Prelude.{◌≡◌, IfOk, List};
-ghost use Rattle.marker_parts.specs.declared.expression.MarkerExpression.{MarkerExpression as Term};
+ghost use Rattle.std.specs.Prelude.{◌≡◌, IfOk};
 ghost use Rattle.marker_terms.specs.Clauses.{clauses_of};
 ghost use Rattle.marker_graph.specs.Contents.{IsHeld};
 ghost use Rattle.marker_clauses.specs.Dnf.{AreClausesOf, TellsExtra};
 
 use crate::walk::collect;
-use marker_graph::laws::{same_truth_is_same_tree, truths_of_constants};
 use marker_graph::{Interner, MarkerTree};
 use marker_parts::MarkerExpression;
 use marker_terms::{common_extra, reduce};
@@ -45,23 +43,16 @@ pub fn to_dnf(
     let left = reduce(interner.allocator(), clauses)?;
     // Without clauses the marker would be `FALSE`, and without terms in one `TRUE`.
     interner.keeps_the_rules();
-    same_truth_is_same_tree();
-    truths_of_constants();
     Ok(left)
 }
 
-/// Returns the first `extra == '..'` of each clause of the marker, if there is a clause and all
-/// have the same.
+/// Returns the first `extra == '..'` of each clause, if there is a clause and all have the same.
 pub fn top_level_extra(
-    interner: &Interner,
-    tree: MarkerTree,
+    clauses: &[Vec<MarkerExpression>],
 ) -> Result<Option<MarkerExpression>, AllocError>
-    requires { IsHeld interner.now tree }
-    ensures { IfOk result (λ found. (clauses : List (List Term))
-        × AreClausesOf interner.now tree clauses × TellsExtra clauses found) }
+    ensures { IfOk result (TellsExtra (clauses_of clauses.now)) }
 {
-    let clauses = to_dnf(interner, tree)?;
-    match common_extra(&clauses) {
+    match common_extra(clauses) {
         Some(name) => Ok(Some(MarkerExpression::Extra {
             operator: ExtraOperator::Equal,
             name: name.clone()?,

@@ -1,16 +1,17 @@
 //! The paths of a marker as clauses.
 
-ghost use Rattle.std.specs.Prelude.{◌≡◌, ◌&&◌, IfOk, OnOk};
+ghost use Rattle.std.specs.Prelude.{◌≡◌, ◌++◌, IfOk, OnOk};
 ghost use Rattle.marker_environment.specs.Valuation.{Valuation};
 ghost use Rattle.marker_terms.specs.Clauses.{clause_holds, clauses_of};
 ghost use Rattle.marker_terms.specs.Plain.{AllPrintable};
-ghost use Rattle.marker_graph.specs.Contents.{IsHeld, truth};
-ghost use Rattle.marker_clauses.specs.Branch.{HasReleases, HoldAlso, StayPrintable};
+ghost use Rattle.marker_graph.specs.Contents.{IsHeld};
+ghost use Rattle.marker_clauses.specs.Branch.{HoldAlso, HoldAlsoBehind, StayPrintable};
 ghost use Rattle.marker_clauses.specs.Readable.{IsReadable};
 
 use crate::branch::{Branch, branches};
 use marker_graph::{Interner, MarkerTree};
 use marker_parts::MarkerExpression;
+use marker_terms::push_large;
 use std::alloc::{AllocError, Global};
 
 /// Adds the clauses of the paths from a marker to `TRUE`, each after the terms of a path to the
@@ -25,14 +26,14 @@ pub(crate) fn collect(
 ) -> Result<(), AllocError>
     requires { IsHeld interner.now tree }
     ensures path { OnOk result (path.new.items ≡ path.old.items) }
-    ensures means { OnOk result (HasReleases interner.now tree
-        → HoldAlso (clauses_of clauses.new.items) (clauses_of clauses.old.items)
-        (λ v. clause_holds path.old.items v && truth interner.now tree v)) }
+    ensures means { OnOk result (HoldAlsoBehind interner.now tree path.old.items
+        clauses.old.items clauses.new.items) }
     ensures printable { OnOk result (IsReadable interner.now tree → AllPrintable path.old.items
         → StayPrintable clauses.old.items clauses.new.items) }
 {
     if tree.is_true() {
-        add_clause(interner.allocator(), path, room, clauses)?;
+        let none = Vec::new(interner.allocator());
+        add_clause(interner.allocator(), path, none, room, clauses)?;
         return Ok(());
     }
     let found = branches(interner, tree)?;
@@ -42,6 +43,10 @@ pub(crate) fn collect(
             child,
         } = branch;
         for way in ways {
+            if child.is_true() {
+                add_clause(interner.allocator(), path, way, room, clauses)?;
+                continue;
+            }
             let mut terms = way;
             let len = path.len();
             path.append(&mut terms)?;
@@ -52,35 +57,62 @@ pub(crate) fn collect(
     Ok(())
 }
 
-// Adds the clause of a path, if there is room for its terms.
+// Adds the clause of a path and its last terms, if there is room for them.
 fn add_clause(
     alloc: Global,
     path: &[MarkerExpression],
+    terms: Vec<MarkerExpression>,
     room: &mut usize,
     clauses: &mut Vec<Vec<MarkerExpression>>,
 ) -> Result<(), AllocError>
     ensures means { OnOk result (HoldAlso (clauses_of clauses.new.items)
-        (clauses_of clauses.old.items) (clause_holds path.now)) }
-    ensures printable { OnOk result (AllPrintable path.now
+        (clauses_of clauses.old.items) (clause_holds (path.now ++ terms.items))) }
+    ensures printable { OnOk result (AllPrintable path.now → AllPrintable terms.items
         → StayPrintable clauses.old.items clauses.new.items) }
 {
-    if *room < path.len() {
+    let count = path.len().saturating_add(terms.len());
+    if *room < count {
         return Err(AllocError);
     }
-    *room -= path.len();
-    let clause = clones(alloc, path)?;
+    *room -= count;
+    let clause = joined(alloc, path, terms)?;
     clauses.push(clause)?;
     Ok(())
 }
 
-fn clones(alloc: Global, path: &[MarkerExpression]) -> Result<Vec<MarkerExpression>, AllocError>
+// The terms of a path with its last ones behind them, which are not copied.
+fn joined(
+    alloc: Global,
+    path: &[MarkerExpression],
+    terms: Vec<MarkerExpression>,
+) -> Result<Vec<MarkerExpression>, AllocError>
+    ensures means { IfOk result (λ all. (v : Valuation)
+        → clause_holds all.items v ≡ clause_holds (path.now ++ terms.items) v) }
+    ensures printable { IfOk result
+        (λ all. AllPrintable path.now → AllPrintable terms.items → AllPrintable all.items) }
+{
+    if path.is_empty() {
+        return Ok(terms);
+    }
+    let mut terms = terms;
+    let mut all = clones(alloc, path, terms.len())?;
+    all.append(&mut terms)?;
+    Ok(all)
+}
+
+// Clones of terms, with room for more of them.
+fn clones(
+    alloc: Global,
+    path: &[MarkerExpression],
+    more: usize,
+) -> Result<Vec<MarkerExpression>, AllocError>
     ensures means { IfOk result (λ all. (v : Valuation)
         → clause_holds all.items v ≡ clause_holds path.now v) }
     ensures printable { IfOk result (λ all. AllPrintable path.now → AllPrintable all.items) }
 {
-    let mut all = Vec::with_capacity(alloc, path.len())?;
+    let mut all = Vec::with_capacity(alloc, path.len().saturating_add(more))?;
     for term in path {
-        all.push(term.clone()?)?;
+        push_large(&mut all, term.clone()?)?;
     }
     Ok(all)
 }

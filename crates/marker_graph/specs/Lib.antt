@@ -5,8 +5,10 @@ pub mod Ranged
 pub mod Edges
 pub mod Kind
 pub mod ContentsTree
+pub mod Everywhere
 -- what the crates below say of truths over valuations
 pub use Rattle.marker_comparisons.specs.Expression
 pub use Rattle.marker_walks.specs.Possible
 pub use Rattle.marker_simplifications.specs.Python
 pub mod Mark
+pub mod Texts

@@ -30,6 +30,7 @@ use marker_conjunctions::Conjunctions;
 use marker_nodes::{NodeId, NodeTable, TruthVariable};
 use marker_parts::MarkerExpression;
 use marker_simplifications::{assume_python_range, grant_extras, python_range};
+use marker_texts::KnownTexts;
 use pep440_version::Version;
 use pep508_names::ExtraName;
 use refusal::Refusal;
@@ -37,8 +38,8 @@ use std::alloc::{AllocError, Global};
 use std::marker::Model;
 use std::ops::Bound;
 
-/// Stores the nodes of markers, each node once, and the conjunctions computed so far. So markers of
-/// one interner that mean the same have the same id.
+/// Stores the nodes of markers, each node once, the conjunctions computed so far, and the markers
+/// of texts that were parsed. So markers of one interner that mean the same have the same id.
 ///
 /// One interner serves any number of markers and requirements. A marker keeps its meaning as long
 /// as the interner holds its nodes. Only [`Interner::release`] removes nodes; dropping the interner
@@ -53,16 +54,18 @@ use std::ops::Bound;
 pub struct Interner {
     pub(crate) nodes: NodeTable,
     conjunctions: Conjunctions,
+    pub(crate) texts: KnownTexts,
 }
 
 impl Model for Interner {
-    ghost use Rattle.marker_conjunctions.specs.Contents.{contents, Contents, IsWellKept};
+    ghost use Rattle.marker_conjunctions.specs.Contents.{contents, Contents};
+    ghost use Rattle.marker_graph.specs.Texts.{IsInOrder};
 
     ghost Value = { Contents };
 
     ghost view = { λ s. contents s.nodes s.conjunctions };
 
-    ghost invariant = { λ s. IsWellKept (contents s.nodes s.conjunctions) };
+    ghost invariant = { λ s. IsInOrder (contents s.nodes s.conjunctions) s.texts };
 }
 
 impl Interner {
@@ -100,6 +103,7 @@ impl Interner {
         Interner {
             nodes: NodeTable::with_key_and_room(alloc, key, pieces),
             conjunctions: Conjunctions::with_key(alloc, key),
+            texts: KnownTexts::new(alloc),
         }
     }
 
@@ -141,7 +145,8 @@ impl Interner {
     ///
     /// A mark is a number of nodes and of conjunctions. Any mark is accepted, even of another
     /// interner or from before an earlier release: what is beyond those numbers is removed. All
-    /// conjunctions are forgotten if one that the mark keeps is about a removed node.
+    /// conjunctions are forgotten if one that the mark keeps is about a removed node, and all known
+    /// texts if one may be.
     pub fn release(&mut self, mark: Mark)
         ensures released { self.new ≡ released mark self.old }
         ensures kept { IsKept self.new self.old }
@@ -152,6 +157,7 @@ impl Interner {
     {
         self.nodes.truncate(mark.nodes);
         self.conjunctions.truncate(mark.known, mark.nodes);
+        self.texts.forget_beyond(mark.nodes);
     }
 
     /// Returns the allocator of the nodes.

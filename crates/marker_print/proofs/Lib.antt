@@ -11,5 +11,5 @@ mod ExpressionTerms
 mod AndLaws
 mod OrLaws
 mod ByteLaws
-mod ClauseLaws
+pub mod ClauseLaws
 mod DisplayLaws

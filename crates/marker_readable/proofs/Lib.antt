@@ -7,4 +7,5 @@ mod NodeLaws
 mod TextLaws
 mod ReleaseLaws
 mod TellLaws
+mod ReadableLaws
 mod MarkerFormulas

@@ -6,41 +6,27 @@ ghost use Rattle.marker_graph.specs.Contents.{Contents, IsHeld, truth};
 ghost use Rattle.marker_graph.specs.declared.tree.MarkerTree.{MarkerTree};
 ghost use Rattle.marker_readable.specs.Readable.{AsksPlainQuestions, HasReleases, IsReadable, IsReadableTruth};
 
-use marker_graph::laws::{
-    neighboring_children_differ, roots_ask_the_first_variable, subtrees_are_the_residues,
-};
-
 /// A marker that means a formula of plain comparisons branches only on substring tests and extras
 /// that can be printed: a text that lacks one of the two quotes, a name of an extra, or an
 /// arbitrary extra that is an invalid name.
 pub fn questions_of_readable_truths_are_plain()
     ensures { (c : Contents) → IsStore markers c.nodes → (t : MarkerTree) → IsHeld c t
         → IsReadableTruth (truth c t) → AsksPlainQuestions c t }
-{
-    subtrees_are_the_residues();
-    roots_ask_the_first_variable();
-}
+{}
 
 /// A marker that means a formula of plain comparisons has only release numbers as bounds of
 /// versions.
 pub fn bounds_of_readable_truths_are_releases()
     ensures { (c : Contents) → IsStore markers c.nodes → (t : MarkerTree) → IsHeld c t
         → IsReadableTruth (truth c t) → HasReleases c t }
-{
-    subtrees_are_the_residues();
-    neighboring_children_differ();
-}
+{}
 
 /// The marker of a readable truth is readable: if it means a formula of plain comparisons, each of
 /// its nodes can be printed.
 pub fn readable_truths_have_readable_markers()
     ensures { (c : Contents) → IsStore markers c.nodes → (t : MarkerTree) → IsHeld c t
         → IsReadableTruth (truth c t) → IsReadable c t }
-{
-    subtrees_are_the_residues();
-    neighboring_children_differ();
-    roots_ask_the_first_variable();
-}
+{}
 
 /// A readable marker means a formula of plain comparisons. So if [`MarkerTree::kind`] shows that
 /// all texts, bounds and extras of a marker and its subtrees can be printed, its text parses back

@@ -4,12 +4,9 @@ ghost use Rattle.std.specs.Prelude.{IfOk, option_map, string_bytes};
 ghost use Rattle.marker_graph.specs.Contents.{IsHeld, truth};
 ghost use Rattle.marker_readable.specs.Text.{TellsText};
 
-use crate::laws::{bounds_of_readable_truths_are_releases, readable_truths_have_readable_markers};
 use marker_clauses::to_dnf;
-use marker_graph::laws::{other_markers_are_satisfied, truths_of_constants};
 use marker_graph::{Interner, MarkerTree};
 use marker_print::Clauses;
-use marker_print::laws::clauses_read_back;
 use std::alloc::AllocError;
 
 /// A text begins with room for so many bytes, as many as three comparisons mostly have.
@@ -28,11 +25,6 @@ pub fn try_to_string(interner: &Interner, tree: MarkerTree) -> Result<Option<Str
         (λ text. TellsText (truth interner.now tree) (option_map string_bytes text)) }
 {
     interner.keeps_the_rules();
-    truths_of_constants();
-    other_markers_are_satisfied();
-    clauses_read_back();
-    readable_truths_have_readable_markers();
-    bounds_of_readable_truths_are_releases();
     if tree.is_true() {
         return Ok(None);
     }

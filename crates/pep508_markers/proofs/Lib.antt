@@ -4,3 +4,5 @@ mod DoneLaws
 mod SessionLaws
 mod FaultLaws
 mod JsonLaws
+mod SetLaws
+mod TextLaws

@@ -17,10 +17,9 @@ use Rattle.marker_graph.specs.Expression.{IsInvalid}
 use Rattle.marker_graph.specs.Expression as graph
 use Rattle.marker_graph.specs.Python.{Assumes, require}
 use Rattle.marker_graph.specs.Extras.{grant, is_listed}
+use Rattle.marker_graph.specs.Texts.{IsTreeOf}
 use Rattle.marker_graph.specs.Possible.{IsPossible, IsImpossible}
 use Rattle.marker_grammar.specs.Formula.{Formula}
-use Rattle.marker_grammar.specs.Formula as formulas
-use Rattle.marker_grammar.specs.Grammar.{Reads}
 use Rattle.marker_grammar.specs.HasTest.{Says}
 use Rattle.pep508_markers.specs.FormulaTree.{IsRefusal}
 use Rattle.pep508_markers.specs.declared.session.Command.{Command}
@@ -121,9 +120,8 @@ pub has_no_room : (c : Contents) (trees all : List MarkerTree) (t : MarkerTree) 
 has_no_room c trees all t kinds making same m = refuses (starved (all_there _ making _ kinds m)) (ap (truths_of c) same)
 
 -- what makes a cell
-pub makes_text : (c : Contents) (cells : Cells) (text : List ℕ) (t : MarkerTree) (g : Option Formula) (kinds : List MarkerWarningKind) →
-    Reads text g kinds → ¬ Says Overflows g → ((v : Valuation) → truth c t v ≡ formulas.truth g v) → Makes cells (parse text) (truth c t) kinds
-makes_text c cells text t g kinds reads no_overflow means = (g, reads, no_overflow, (λ i v. means v i))
+pub makes_text : (c : Contents) (cells : Cells) (text : List ℕ) (t : MarkerTree) (kinds : List MarkerWarningKind) → IsTreeOf c text t kinds → Makes cells (parse text) (truth c t) kinds
+makes_text c cells text t kinds tree = (tree.formula, tree.reads, tree.no_overflow, (λ i v. tree.means v i))
 
 pub makes_test : (c : Contents) (cells : Cells) (copy e : Test) (t : MarkerTree) (kinds : List MarkerWarningKind) → copy ≡ e →
     ¬ Overflows copy → ¬ IsInvalid copy → ((v : Valuation) → truth c t v ≡ holds copy v) → kinds ≡ [] → Makes cells (expression e) (truth c t) kinds

@@ -10,21 +10,13 @@ use Rattle.marker_environment.specs.Valuation.{Valuation}
 use Rattle.marker_parts.specs.Expression.{Overflows}
 use Rattle.marker_parts.specs.Error.{IsErrorOf}
 use Rattle.marker_graph.specs.declared.tree.MarkerTree.{MarkerTree}
-use Rattle.marker_graph.specs.Contents.{Contents, truth}
+use Rattle.marker_graph.specs.Contents.{Contents}
+pub use Rattle.marker_graph.specs.Texts.{IsTreeOf}
 use Rattle.marker_grammar.specs.Formula.{Formula}
 use Rattle.marker_grammar.specs.Formula as formulas
 use Rattle.marker_grammar.specs.Grammar.{Reads}
 use Rattle.marker_grammar.specs.Refused.{IsMarker, IsNoMarker}
 use Rattle.marker_grammar.specs.HasTest.{Says}
-
--- the tree has the truth of the text, no bound of which is above 2^64 - 1, and these are the kinds
--- of its warnings
-pub record IsTreeOf (c : Contents) (text : List ℕ) (t : MarkerTree)
-    (kinds : List MarkerWarningKind) : Type 0 where
-  pub formula : Option Formula
-  pub reads : Reads text formula kinds
-  pub no_overflow : ¬ Says Overflows formula
-  pub means : (v : Valuation) → truth c t v ≡ formulas.truth formula v
 
 -- the text is a marker, and a bound of a comparison in it would be above 2^64 - 1
 abbrev pub TextOverflows : List ℕ → Type 0

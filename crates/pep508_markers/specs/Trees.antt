@@ -33,6 +33,10 @@ abbrev pub truth_under : Contents → Connective → List MarkerTree → Valuati
 truth_under c k [] v = neutral k
 truth_under c k (t ∷ trees) v = joins k (truth c t v) (truth_under c k trees v)
 
+-- a truth is what the trees say under the connective
+abbrev pub SaysUnder : Contents → Connective → List MarkerTree → (Valuation → Bool) → Type 0
+SaysUnder c k trees f = (v : Valuation) → f v ≡ truth_under c k trees v
+
 -- the trees of a run, at least one
 abbrev pub trees_of : Run → List MarkerTree
 trees_of r = r.first ∷ r.others.items

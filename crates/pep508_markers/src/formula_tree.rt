@@ -66,6 +66,8 @@ fn join_tokens(
     while let Some(token) = tokens.next() {
         apply(interner, &mut runs, token)?;
     }
+    // (The list of tokens is as large as the nodes of their trees.)
+    drop(tokens);
     match runs.pop() {
         Some(run) => {
             let tree = join_all(interner, run)?;

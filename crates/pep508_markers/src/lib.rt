@@ -13,6 +13,8 @@ mod marker_text;
 mod run;
 pub mod ser;
 mod session;
+mod sets;
+mod text_tree;
 
 pub use marker_text::MarkerText;
 pub use marker_view::MarkerTreeView;

@@ -8,7 +8,7 @@ ghost use Rattle.marker_parts.specs.Reporting.{HasBegun};
 ghost use Rattle.marker_parts.specs.declared.expression.MarkerExpression.{MarkerExpression as Term};
 ghost use Rattle.marker_terms.specs.Clauses.{clauses_of};
 ghost use Rattle.marker_graph.specs.declared.tree.MarkerTree.{MarkerTree as Tree};
-ghost use Rattle.marker_graph.specs.Contents.{HoldsTheSame, IsHeld, IsKept, truth};
+ghost use Rattle.marker_graph.specs.Contents.{Contents, HoldsTheSame, IsHeld, IsKept, truth};
 ghost use Rattle.marker_view.specs.View.{contents_of};
 ghost use Rattle.marker_clauses.specs.Dnf.{AreClausesOf, TellsExtra};
 ghost use Rattle.marker_grammar.specs.Grammar.{Reads};
@@ -16,8 +16,9 @@ ghost use Rattle.marker_readable.specs.Text.{TellsText};
 ghost use Rattle.pep508_markers.specs.Json.{IsJsonRefusal, IsTreeOfJson};
 ghost use Rattle.pep508_markers.specs.Text.{IsTreeOf, IsReportedTree, IsRefusal, IsRefusalIn, OnFault, OnRefusedText};
 
-use crate::formula_tree::tree_of;
 use crate::json::{no_string, read_string};
+use crate::text_tree::tree_of_reading;
+use marker_clauses::top_level_extra;
 use marker_grammar::read;
 use marker_graph::{Interner, MarkerTree};
 use marker_parts::MarkerExpression;
@@ -39,6 +40,10 @@ use std::alloc::AllocError;
 pub trait MarkerText: Sized {
     // The tree of the marker.
     ghost tree: { Self → Tree };
+
+    // The clauses that `to_dnf` may return. The proof of `top_level_extra` does not know this
+    // relation: it is about clauses that `to_dnf` returned.
+    ghost dnf: { Contents → Self → List (List Term) → Type 0 };
 
     /// Returns the marker with its interner. It can be printed, and compared even with a marker of
     /// another interner.
@@ -113,8 +118,10 @@ pub trait MarkerText: Sized {
     /// comparisons. The list is empty for `TRUE` and for `FALSE`.
     fn to_dnf(self, interner: &Interner) -> Result<Vec<Vec<MarkerExpression>>, AllocError>
         requires { IsHeld interner.now (tree self) }
-        ensures { IfOk result
-            (λ clauses. AreClausesOf interner.now (tree self) (clauses_of clauses.items)) };
+        ensures clauses { IfOk result
+            (λ clauses. AreClausesOf interner.now (tree self) (clauses_of clauses.items)) }
+        ensures dnf { IfOk result
+            (λ clauses. dnf interner.now self (clauses_of clauses.items)) };
 
     /// Returns the text of the marker: its clauses joined by `or`, and the comparisons of each
     /// joined by `and`. `None` for `TRUE`. `FALSE` is printed as `python_version < '0'`, which
@@ -124,16 +131,26 @@ pub trait MarkerText: Sized {
         ensures { IfOk result (λ text.
             TellsText (truth interner.now (tree self)) (option_map string_bytes text)) };
 
-    /// Returns the first `extra == '..'` of each clause, if there is a clause and all have the
-    /// same.
-    fn top_level_extra(self, interner: &Interner) -> Result<Option<MarkerExpression>, AllocError>
+    /// Returns the first `extra == '..'` of each clause of [`MarkerText::to_dnf`], if there is a
+    /// clause and all have the same.
+    final fn top_level_extra(
+        self,
+        interner: &Interner,
+    ) -> Result<Option<MarkerExpression>, AllocError>
         requires { IsHeld interner.now (tree self) }
-        ensures { IfOk result (λ found. (clauses : List (List Term))
-            × AreClausesOf interner.now (tree self) clauses × TellsExtra clauses found) };
+        ensures { IfOk result (λ found. (xs : List (List Term))
+            × dnf interner.now self xs × AreClausesOf interner.now (tree self) xs
+            × TellsExtra xs found) }
+    {
+        let clauses = self.to_dnf(interner)?;
+        top_level_extra(&clauses)
+    }
 }
 
 impl MarkerText for MarkerTree {
     ghost tree = { λ t. t };
+
+    ghost dnf = { AreClausesOf };
 
     fn view<'a>(self, interner: &'a Interner) -> MarkerTreeView<'a> {
         MarkerTreeView::new(interner, self)
@@ -175,10 +192,6 @@ impl MarkerText for MarkerTree {
     fn try_to_string(self, interner: &Interner) -> Result<Option<String>, AllocError> {
         marker_readable::try_to_string(interner, self)
     }
-
-    fn top_level_extra(self, interner: &Interner) -> Result<Option<MarkerExpression>, AllocError> {
-        marker_clauses::top_level_extra(interner, self)
-    }
 }
 
 /// Parses the marker at the end of a text, as [`MarkerText::parse_str`] parses a whole text.
@@ -200,12 +213,15 @@ pub fn read_behind<T: Pep508Url>(
     ensures released { OnErr result (HoldsTheSame interner.old interner.new) }
 {
     let alloc = interner.allocator();
+    if let Some(tree) = interner.known_text(marker) {
+        return Ok((tree, Vec::new(alloc)));
+    }
     let reading = match read(alloc, marker) {
         Ok(reading) => reading,
         Err(error) => return Err(error.refusal(alloc, text)),
     };
-    match tree_of(interner, reading.formula) {
-        Ok(tree) => Ok((tree, reading.kinds)),
+    match tree_of_reading(interner, marker, reading) {
+        Ok(marked) => Ok(marked),
         Err(Refusal::OutOfMemory) => Err(Refusal::OutOfMemory),
         Err(Refusal::SegmentAtEnd) => Err(Refusal::SegmentAtEnd),
     }

@@ -1,13 +1,14 @@
 //! Joining the trees of one connective.
 
-ghost use Rattle.std.specs.Prelude.{◌≡◌, ◌⊎◌, ◌++◌, ◌∷◌, [], length, reverse, List, IfNone, IfOk, IfSome, OnOk, ◌≤◌};
+ghost use Rattle.std.specs.Prelude.{◌≡◌, ◌⊎◌, ◌++◌, ◌∷◌, [], length, reverse, IfNone, IfOk, IfSome, OnOk, ◌≤◌};
 ghost use Rattle.std.specs.List.Sorted.{IsPermutation};
 ghost use Rattle.marker_environment.specs.Valuation.{Valuation};
 ghost use Rattle.marker_graph.specs.Contents.{IsHeld, IsKept, truth};
-ghost use Rattle.pep508_markers.specs.Trees.{joins, symbol, trees_of, truth_under, AreHeld, AreRuns, Pushes};
+ghost use Rattle.pep508_markers.specs.Trees.{joins, symbol, trees_of, truth_under, AreHeld, AreRuns, Pushes, SaysUnder};
 
+use crate::sets::joined_set_of;
 use marker_graph::{Interner, MarkerTree};
-use marker_nodes::NodeTable;
+use marker_nodes::{Branches, Node, NodeId, NodeTable};
 use std::alloc::{AllocError, Global};
 use std::cmp::Ordering;
 use std::collections::VecDeque;
@@ -74,8 +75,8 @@ fn join_by_halves(
     ensures kept { IsKept interner.old interner.new }
     ensures counts { interner.old.expansions ≤ interner.new.expansions }
     ensures held { IfOk result (IsHeld interner.new) }
-    ensures means { IfOk result (λ t. (v : Valuation) → truth interner.new t v
-        ≡ truth_under interner.old connective (first ∷ others.items) v) }
+    ensures means { IfOk result (λ t.
+        SaysUnder interner.old connective (first ∷ others.items) (truth interner.new t)) }
 {
     let mut left = first;
     let mut trees = others;
@@ -86,11 +87,36 @@ fn join_by_halves(
     Ok(left)
 }
 
-// The order in which trees are joined: those that branch on a later variable come first. It has no
-// contract, because trees that are joined in any order mean the same.
+// Whether an id is `TRUE` or `FALSE`.
+fn is_constant(id: NodeId) -> bool {
+    id.index().is_none()
+}
+
+// Whether the first two children of a node are constants. Then it is most often a set of the values
+// of its variable.
+fn begins_with_constants(node: &Node) -> bool {
+    match node {
+        Branches::Version(_, edges) => edges
+            .pieces()
+            .take(2)
+            .all(|piece| is_constant(*piece.value)),
+        Branches::Text(_, edges) => edges
+            .pieces()
+            .take(2)
+            .all(|piece| is_constant(*piece.value)),
+        Branches::Truth(_, high, low) => is_constant(*high) && is_constant(*low),
+    }
+}
+
+// The order in which trees are joined: those that branch on a later variable come first, and of
+// those on one variable those that may be sets of its values. It has no contract, because trees
+// that are joined in any order mean the same.
 fn joining_order(table: &NodeTable, left: MarkerTree, right: MarkerTree) -> Ordering {
     match (table.node(left.id()), table.node(right.id())) {
-        (Some(left), Some(right)) => right.cmp_variable(left),
+        (Some(left), Some(right)) => match right.cmp_variable(left) {
+            Ordering::Equal => begins_with_constants(right).cmp(&begins_with_constants(left)),
+            other => other,
+        },
         (None, Some(_)) => Ordering::Less,
         (Some(_), None) => Ordering::Greater,
         (None, None) => Ordering::Equal,
@@ -123,6 +149,35 @@ fn split_alike(
     Ok(alike)
 }
 
+// The tree of a tree and others under a connective. Many sets of the values of one variable are
+// joined as sets, so that only the result becomes a node.
+fn join_others(
+    interner: &mut Interner,
+    connective: Connective,
+    first: MarkerTree,
+    others: VecDeque<MarkerTree>,
+) -> Result<MarkerTree, AllocError>
+    requires { AreHeld interner.old (first ∷ others.items) }
+    ensures kept { IsKept interner.old interner.new }
+    ensures counts { interner.old.expansions ≤ interner.new.expansions }
+    ensures held { IfOk result (IsHeld interner.new) }
+    ensures means { IfOk result (λ t.
+        SaysUnder interner.old connective (first ∷ others.items) (truth interner.new t)) }
+{
+    if others.len() < FEW {
+        return join_by_halves(interner, connective, first, others);
+    }
+    let mut others = others;
+    let slice = others.make_contiguous();
+    match joined_set_of(interner, connective, first, slice)? {
+        Some(set) => {
+            let tree = MarkerTree::of_value_set(interner, set)?;
+            Ok(tree)
+        }
+        None => join_by_halves(interner, connective, first, others),
+    }
+}
+
 // Takes the trees at the front of a list that branch on the same variable as `first`, and joins
 // them with it.
 fn join_alike(
@@ -135,13 +190,12 @@ fn join_alike(
     ensures kept { IsKept interner.old interner.new }
     ensures counts { interner.old.expansions ≤ interner.new.expansions }
     ensures held { IfOk result (λ t. AreHeld interner.new (t ∷ trees.new.items)) }
-    ensures means { IfOk result (λ t. (v : Valuation)
-        → truth_under interner.new connective (t ∷ trees.new.items) v
-        ≡ truth_under interner.old connective (first ∷ trees.old.items) v) }
+    ensures means { IfOk result (λ t. SaysUnder interner.old connective (first ∷ trees.old.items)
+        (truth_under interner.new connective (t ∷ trees.new.items))) }
     ensures fewer { OnOk result (length trees.new.items ≤ length trees.old.items) }
 {
     let others = split_alike(interner, first, trees)?;
-    let tree = join_by_halves(interner, connective, first, others)?;
+    let tree = join_others(interner, connective, first, others)?;
     Ok(tree)
 }
 
@@ -156,8 +210,8 @@ pub(crate) fn join_all(interner: &mut Interner, run: Run) -> Result<MarkerTree, 
     ensures kept { IsKept interner.old interner.new }
     ensures counts { interner.old.expansions ≤ interner.new.expansions }
     ensures held { IfOk result (IsHeld interner.new) }
-    ensures means { IfOk result (λ t. (v : Valuation) → truth interner.new t v
-        ≡ truth_under interner.old run.connective (trees_of run) v) }
+    ensures means { IfOk result (λ t.
+        SaysUnder interner.old run.connective (trees_of run) (truth interner.new t)) }
 {
     let connective = run.connective;
     let mut trees = run.others;
@@ -197,9 +251,8 @@ fn run_under(interner: &mut Interner, connective: Connective, run: Run) -> Resul
     ensures counts { interner.old.expansions ≤ interner.new.expansions }
     ensures connective { IfOk result (λ r. r.connective ≡ connective) }
     ensures held { IfOk result (λ r. AreHeld interner.new (trees_of r)) }
-    ensures means { IfOk result (λ r. (v : Valuation)
-        → truth_under interner.new connective (trees_of r) v
-        ≡ truth_under interner.old run.connective (trees_of run) v) }
+    ensures means { IfOk result (λ r. SaysUnder interner.old run.connective (trees_of run)
+        (truth_under interner.new connective (trees_of r))) }
 {
     if run.connective == connective {
         return Ok(run);

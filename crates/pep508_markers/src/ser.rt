@@ -6,7 +6,6 @@ ghost use Rattle.pep508_markers.specs.Json.{IsJsonOf, IsUnwritten};
 
 use crate::json::write_string;
 use crate::marker_text::MarkerText;
-use marker_graph::laws::{same_truth_is_same_tree, truths_of_constants};
 use marker_graph::{Interner, MarkerTree};
 use refusal::Refusal;
 use thiserror::Error;
@@ -36,8 +35,6 @@ pub fn serialize(tree: &MarkerTree, interner: &Interner) -> Result<String, Refus
 {
     // A marker without a text is true everywhere, so it is `TRUE`.
     interner.keeps_the_rules();
-    truths_of_constants();
-    same_truth_is_same_tree();
     match tree.try_to_string(interner)? {
         Some(text) => Ok(write_string(interner.allocator(), text)?),
         None => Err(Refusal::Fault(NoContents)),

@@ -4,8 +4,8 @@ ghost use Rattle.std.specs.Prelude.{◌≡◌, [], IfOk, IfNone, IfSome, OnErr, 
 ghost use Rattle.marker_graph.specs.Contents.{truth};
 ghost use Rattle.pep508_markers.specs.Cells.{AreHeld};
 
-use crate::formula_tree::tree_of;
 use crate::marker_text::MarkerText;
+use crate::text_tree::tree_of_reading;
 use marker_environment::MarkerEnvironment;
 use marker_grammar::read;
 use marker_graph::{Interner, MarkerTree};
@@ -207,12 +207,15 @@ impl Session {
         ensures kept { IsKept self.old.interner self.new.interner }
         ensures cells { OnRefused result (self.new.cells.items ≡ self.old.cells.items) }
     {
+        if let Some(tree) = self.interner.known_text(text) {
+            return self.add(tree, Vec::new(self.alloc));
+        }
         let reading = match read(self.alloc, text) {
             Ok(reading) => reading,
             Err(error) => return Reply::Refused(Session::refusal(self.alloc, text, error)),
         };
-        match tree_of(&mut self.interner, reading.formula) {
-            Ok(tree) => self.add(tree, reading.kinds),
+        match tree_of_reading(&mut self.interner, text, reading) {
+            Ok((tree, kinds)) => self.add(tree, kinds),
             Err(Refusal::OutOfMemory) => Reply::Refused(Reason::OutOfMemory),
             Err(Refusal::SegmentAtEnd) => Reply::Refused(Reason::SegmentAtEnd),
         }

@@ -5,4 +5,5 @@ pub mod Refused
 pub mod Changed
 pub mod Wanted
 pub mod Unnamed
+pub mod Whole
 pub mod Order

@@ -156,6 +156,14 @@ module _ {T E : Type 0} where
     IsRefusalIn = IsRefusal (urls_in names surroundings) tells_size
         (λ piece. may_overflow piece surroundings) (value_of surroundings)
 
+    abbrev pub IsAskedErrorIn : List ℕ → Asked → List ℕ → Pep508Error T E → Type 0
+    IsAskedErrorIn = IsAskedError (urls_in names surroundings) tells_size
+        (λ piece. may_overflow piece surroundings)
+
+    abbrev pub IsUrlErrorIn : List ℕ → List ℕ → List ℕ → List ℕ → Pep508Error T E → Type 0
+    IsUrlErrorIn = IsUrlError (urls_in names surroundings) tells_size
+        (λ piece. may_overflow piece surroundings)
+
     abbrev pub IsJsonRefusalIn : List ℕ → Refusal (Pep508Error T E) → Type 0
     IsJsonRefusalIn = IsJsonRefusal (urls_in names surroundings) tells_size
         (λ piece. may_overflow piece surroundings) (value_of surroundings)

@@ -7,7 +7,7 @@ ghost use Rattle.pep508_urls.specs.Variables.{value_of};
 ghost use Rattle.requirement_words.specs.Fault.{FindsInHead};
 ghost use Rattle.requirement_words.specs.Head.{asked_of, HasNoHead, IsHead};
 ghost use Rattle.pep508_requirements.specs.Requirement.{IsWanted, urls_in};
-ghost use Rattle.pep508_requirements.specs.Refused.{asked_url, IsAskedError, IsRefusedBy, OnError};
+ghost use Rattle.pep508_requirements.specs.Refused.{asked_url, IsAskedErrorIn, IsRefusedBy, OnError};
 
 use crate::error::{refusal_of_fault, refusal_of_url};
 use crate::version_or_url::VersionOrUrl;
@@ -60,10 +60,8 @@ pub(crate) fn read_version_or_url<T: Pep508Url>(
     requires { IsSuffix text.now (asked_url (asked_of asked) ++ rest.now) }
     ensures found { IfOk result
         (IsWanted (urls_in T.names surroundings.now) (asked_of asked.entry)) }
-    ensures refused { IfErr result (OnError (λ error. IsAskedError
-        (urls_in T.names surroundings.now) T.tells_size
-        (λ piece. T.may_overflow piece surroundings.now)
-        text.now (asked_of asked.entry) rest.now error)) }
+    ensures refused { IfErr result (OnError (IsAskedErrorIn T.names T.tells_size T.may_overflow
+        surroundings.now text.now (asked_of asked.entry) rest.now)) }
 {
     match asked {
         Asked::Nothing => Ok(None),

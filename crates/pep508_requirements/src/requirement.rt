@@ -2,13 +2,14 @@
 
 ghost use Rattle.std.specs.Prelude.{◌≡◌, ◌≤◌, ℕ, IfErr, IfOk, List, None, OnErr};
 ghost use Rattle.pep508_errors.specs.declared.warning.MarkerWarningKind.{MarkerWarningKind};
-ghost use Rattle.pep508_errors.specs.Kinds.{Adds, Keeps};
+ghost use Rattle.pep508_errors.specs.Kinds.{Keeps};
 ghost use Rattle.marker_parts.specs.Reporting.{HasBegun};
 ghost use Rattle.marker_graph.specs.Contents.{HoldsTheSame, IsHeld, IsKept};
 ghost use Rattle.pep508_markers.specs.Json.{IsStringOf};
 ghost use Rattle.pep508_markers.specs.Text.{OnFault, OnRefusedText};
-ghost use Rattle.pep508_requirements.specs.Requirement.{IsMarkedBy, IsReadAs, urls_in};
+ghost use Rattle.pep508_requirements.specs.Requirement.{IsMarkedBy, urls_in};
 ghost use Rattle.pep508_requirements.specs.Refused.{IsJsonRefusalIn, IsRefusalIn};
+ghost use Rattle.pep508_requirements.specs.Whole.{IsParsed, ReadAs, WithAdded};
 
 use crate::end::read_end;
 use crate::head::{read_named, read_version_or_url, written_url};
@@ -59,9 +60,8 @@ fn read<T: Pep508Url>(
     ensures kept { IsKept interner.old interner.new }
     ensures counts { interner.old.expansions ≤ interner.new.expansions }
     ensures held { IfOk result (λ r. IsHeld interner.new r.0.marker) }
-    ensures means { IfOk result (λ r. IsReadAs
-        (urls_in T.names surroundings.now) interner.new text.now r.0.name
-        r.0.extras.items r.0.version_or_url r.0.marker r.1.items) }
+    ensures means { IfOk result (λ r.
+        ReadAs T.names surroundings.now interner.new text.now r.0 r.1.items) }
     ensures unknown { IfOk result (λ r. r.0.origin ≡ None) }
     ensures refused { IfErr result (IsRefusalIn
         T.names T.tells_size T.may_overflow surroundings.now text.now) }
@@ -111,9 +111,8 @@ impl<T: Pep508Url> Requirement<T> {
         ensures kept { IsKept interner.old interner.new }
         ensures counts { interner.old.expansions ≤ interner.new.expansions }
         ensures held { IfOk result (λ r. IsHeld interner.new r.marker) }
-        ensures means { IfOk result (λ r. (kinds : List MarkerWarningKind)
-            × IsReadAs (urls_in T.names surroundings.now) interner.new text.now
-            r.name r.extras.items r.version_or_url r.marker kinds) }
+        ensures means { IfOk result
+            (IsParsed T.names surroundings.now interner.new text.now) }
         ensures unknown { IfOk result (λ r. r.origin ≡ None) }
         ensures refused { IfErr result (IsRefusalIn
             T.names T.tells_size T.may_overflow surroundings.now text.now) }
@@ -144,10 +143,8 @@ impl<T: Pep508Url> Requirement<T> {
         ensures kept { IsKept interner.old interner.new }
         ensures counts { interner.old.expansions ≤ interner.new.expansions }
         ensures held { IfOk result (λ r. IsHeld interner.new r.marker) }
-        ensures means { IfOk result (λ r. (kinds : List MarkerWarningKind)
-            × IsReadAs (urls_in T.names surroundings.now) interner.new text.now
-            r.name r.extras.items r.version_or_url r.marker kinds
-            × Adds (R.kinds reporter.old) (R.kinds reporter.new) kinds) }
+        ensures means { IfOk result (λ r. WithAdded (R.kinds reporter.old) (R.kinds reporter.new)
+            (ReadAs T.names surroundings.now interner.new text.now r)) }
         ensures unknown { IfOk result (λ r. r.origin ≡ None) }
         ensures refused { IfErr result (IsRefusalIn
             T.names T.tells_size T.may_overflow surroundings.now text.now) }
@@ -188,10 +185,8 @@ impl<T: Pep508Url> Requirement<T> {
         ensures kept { IsKept interner.old interner.new }
         ensures counts { interner.old.expansions ≤ interner.new.expansions }
         ensures held { IfOk result (λ r. IsHeld interner.new r.marker) }
-        ensures means { IfOk result (λ r. (text : List ℕ) × (kinds : List MarkerWarningKind)
-            × IsStringOf json.now text
-            × IsReadAs (urls_in T.names surroundings.now) interner.new text
-            r.name r.extras.items r.version_or_url r.marker kinds) }
+        ensures means { IfOk result (λ r. (text : List ℕ) × IsStringOf json.now text
+            × IsParsed T.names surroundings.now interner.new text r) }
         ensures unknown { IfOk result (λ r. r.origin ≡ None) }
         ensures refused { IfErr result (IsJsonRefusalIn
             T.names T.tells_size T.may_overflow surroundings.now json.now) }

@@ -5,9 +5,10 @@ ghost use Rattle.std.specs.Str.{IsUtf8};
 ghost use Rattle.std.specs.Fmt.{DisplaysOnOk};
 ghost use Rattle.std.specs.List.{AllByRecursion};
 ghost use Rattle.std.specs.Option.{option_map};
-ghost use Rattle.marker_graph.specs.Contents.{IsHeld, truth};
+ghost use Rattle.marker_graph.specs.Contents.{IsHeld};
 ghost use Rattle.requirement_words.specs.Text.{IsNormal};
-ghost use Rattle.pep508_requirements.specs.Text.{marker_part, AreSets, requirement_text, IsJsonOf, IsPlainlyAsked, IsPrintedTruth, IsTextOf, ReadsBack};
+ghost use Rattle.pep508_requirements.specs.Text.{marker_part, AreSets, requirement_text, IsJsonOf};
+ghost use Rattle.pep508_requirements.specs.Whole.{IfReadable, ParsesBack, Prints};
 
 use crate::requirement::Requirement;
 use crate::version_or_url::VersionOrUrl;
@@ -16,7 +17,6 @@ use pep508_errors::Pep508Url;
 use pep508_markers::MarkerText;
 use pep508_markers::internal::write_string;
 use pep508_names::{ExtraName, PackageName};
-use requirement_words::laws::{head_text_is_ascii, head_text_reads_back};
 use requirement_words::{write_extras, write_specifiers};
 use std::alloc::AllocError;
 use std::fmt;
@@ -100,16 +100,11 @@ impl<T: Pep508Url> Requirement<T> {
     /// or readable and not `FALSE`.
     pub fn try_to_string(&self, interner: &Interner) -> Result<String, AllocError>
         requires { IsHeld interner.now self.now.marker }
-        ensures text { IfOk result (λ text. IsTextOf (truth interner.now self.now.marker)
-            (requirement_text T.output self.now.name self.now.extras.items self.now.version_or_url)
-            (string_bytes text)) }
-        ensures read_back { IfOk result (λ text. IsPlainlyAsked self.now.version_or_url
-            → IsPrintedTruth (truth interner.now self.now.marker)
-            → ReadsBack T.names interner.now (string_bytes text) self.now.name
-            self.now.extras.items self.now.version_or_url self.now.marker) }
+        ensures text { IfOk result (λ text.
+            Prints T.output interner.now self.now (string_bytes text)) }
+        ensures read_back { IfOk result (λ text. IfReadable interner.now self.now
+            (ParsesBack T.names interner.now self.now (string_bytes text))) }
     {
-        head_text_reads_back();
-        head_text_is_ascii();
         let _ = self.name.as_str();
         look_at_names(&self.extras);
         look_at_specifiers(&self.version_or_url);
@@ -128,14 +123,10 @@ impl<T: Pep508Url> Requirement<T> {
     /// string.
     pub fn to_json(&self, interner: &Interner) -> Result<String, AllocError>
         requires { IsHeld interner.now self.now.marker }
-        ensures text { IfOk result (λ json. IsJsonOf
-            (IsTextOf (truth interner.now self.now.marker)
-            (requirement_text T.output self.now.name self.now.extras.items self.now.version_or_url))
-            (string_bytes json)) }
-        ensures read_back { IfOk result (λ json. IsPlainlyAsked self.now.version_or_url
-            → IsPrintedTruth (truth interner.now self.now.marker)
-            → IsJsonOf (λ text. ReadsBack T.names interner.now text self.now.name
-            self.now.extras.items self.now.version_or_url self.now.marker) (string_bytes json)) }
+        ensures text { IfOk result (λ json.
+            IsJsonOf (Prints T.output interner.now self.now) (string_bytes json)) }
+        ensures read_back { IfOk result (λ json. IfReadable interner.now self.now
+            (IsJsonOf (ParsesBack T.names interner.now self.now) (string_bytes json))) }
     {
         let text = self.try_to_string(interner)?;
         write_string(interner.allocator(), text)

@@ -1,15 +1,16 @@
 //! Requirements without a name.
 
-ghost use Rattle.std.specs.Prelude.{◌≡◌, ◌≤◌, IfErr, IfOk, List, None, OnErr, Some, false, true};
+ghost use Rattle.std.specs.Prelude.{◌≡◌, ◌≤◌, IfErr, IfOk, None, OnErr, Some, false, true};
 ghost use Rattle.pep508_errors.specs.declared.warning.MarkerWarningKind.{MarkerWarningKind};
-ghost use Rattle.pep508_errors.specs.Kinds.{Adds, Keeps};
+ghost use Rattle.pep508_errors.specs.Kinds.{Keeps};
 ghost use Rattle.marker_environment.specs.Environment.{valuation_of, values_of};
 ghost use Rattle.marker_parts.specs.Reporting.{HasBegun};
 ghost use Rattle.marker_walks.specs.Possible.{IsImpossible, IsPossible};
 ghost use Rattle.marker_graph.specs.Contents.{HoldsTheSame, IsHeld, IsKept, truth};
 ghost use Rattle.pep508_markers.specs.Text.{OnFault, OnRefusedText};
 ghost use Rattle.pep508_requirements.specs.Requirement.{urls_in};
-ghost use Rattle.pep508_requirements.specs.Unnamed.{IsUnnamedMarkedBy, IsUnnamedReadAs, IsUnnamedRefusalIn};
+ghost use Rattle.pep508_requirements.specs.Unnamed.{IsUnnamedMarkedBy, IsUnnamedRefusalIn};
+ghost use Rattle.pep508_requirements.specs.Whole.{IsParsedUnnamed, WithAdded};
 
 use crate::end::read_end;
 use crate::origin::RequirementOrigin;
@@ -58,9 +59,8 @@ fn read<Url: UnnamedRequirementUrl>(
     ensures kept { IsKept interner.old interner.new }
     ensures counts { interner.old.expansions ≤ interner.new.expansions }
     ensures held { IfOk result (λ r. IsHeld interner.new r.0.marker) }
-    ensures means { IfOk result (λ r. IsUnnamedReadAs
-        (urls_in Url.names surroundings.now) Url.given_text interner.new text.now
-        r.0.url r.0.extras.items r.0.marker r.1.items) }
+    ensures means { IfOk result (λ r. IsParsedUnnamed Url.names surroundings.now Url.given_text
+        interner.new text.now r.0 r.1.items) }
     ensures unknown { IfOk result (λ r. r.0.origin ≡ None) }
     ensures refused { IfErr result (IsUnnamedRefusalIn
         Url.names Url.tells_size Url.may_overflow surroundings.now text.now) }
@@ -115,10 +115,8 @@ impl<Url: UnnamedRequirementUrl> UnnamedRequirement<Url> {
         ensures kept { IsKept interner.old interner.new }
         ensures counts { interner.old.expansions ≤ interner.new.expansions }
         ensures held { IfOk result (λ r. IsHeld interner.new r.marker) }
-        ensures means { IfOk result (λ r. (kinds : List MarkerWarningKind)
-            × IsUnnamedReadAs (urls_in Url.names surroundings.now) Url.given_text
-            interner.new text.now r.url r.extras.items r.marker kinds
-            × Adds (R.kinds reporter.old) (R.kinds reporter.new) kinds) }
+        ensures means { IfOk result (λ r. WithAdded (R.kinds reporter.old) (R.kinds reporter.new)
+            (IsParsedUnnamed Url.names surroundings.now Url.given_text interner.new text.now r)) }
         ensures unknown { IfOk result (λ r. r.origin ≡ None) }
         ensures refused { IfErr result (IsUnnamedRefusalIn
             Url.names Url.tells_size Url.may_overflow surroundings.now text.now) }

@@ -2,8 +2,9 @@
 
 ghost use Rattle.std.specs.Prelude.{IfOk, string_bytes};
 ghost use Rattle.std.specs.Option.{option_map};
-ghost use Rattle.marker_graph.specs.Contents.{IsHeld, truth};
-ghost use Rattle.pep508_requirements.specs.Text.{unnamed_text, IsTextOf};
+ghost use Rattle.marker_graph.specs.Contents.{IsHeld};
+ghost use Rattle.pep508_requirements.specs.Text.{unnamed_text};
+ghost use Rattle.pep508_requirements.specs.Whole.{PrintsUnnamed};
 
 use crate::text::write_marker;
 use crate::unnamed::UnnamedRequirement;
@@ -40,8 +41,8 @@ impl<Url: UnnamedRequirementUrl> UnnamedRequirement<Url> {
     /// marker as [`MarkerText::try_to_string`] prints it. A marker that is `TRUE` is left out.
     pub fn try_to_string(&self, interner: &Interner) -> Result<String, AllocError>
         requires { IsHeld interner.now self.now.marker }
-        ensures { IfOk result (λ text. IsTextOf (truth interner.now self.now.marker)
-            (unnamed_text (Url.output self.now.url) self.now.extras.items) (string_bytes text)) }
+        ensures { IfOk result (λ text.
+            PrintsUnnamed Url.output interner.now self.now (string_bytes text)) }
     {
         let marker = self.marker.try_to_string(interner)?;
         let text = UnnamedText {

@@ -2,8 +2,8 @@
 
 ghost use Rattle.std.specs.Prelude.{◌≡◌, IfOk, None};
 ghost use Rattle.std.specs.Fmt.{DisplaysOnOk, DisplaysStyledOnOk};
-ghost use Rattle.marker_graph.specs.Contents.{IsHeld, truth};
-ghost use Rattle.pep508_requirements.specs.Text.{unnamed_text, WithText};
+ghost use Rattle.marker_graph.specs.Contents.{IsHeld};
+ghost use Rattle.pep508_requirements.specs.Whole.{WithUnnamedText};
 
 use crate::origin::RequirementOrigin;
 use crate::unnamed::UnnamedRequirement;
@@ -69,9 +69,7 @@ impl<Url: UnnamedRequirementUrl> Display for UnnamedRequirementView<'_, Url> {
         ensures styled { DisplaysStyledOnOk W.write_str_gives f.old result None f.new }
 
         // Writes the text of the requirement, where the text of the URL is known.
-        ensures told { IfOk result (λ _. WithText
-            (truth self.now.marker.interner.now self.now.marker.tree)
-            (unnamed_text (Url.output self.now.url.now) self.now.extras.now)
+        ensures told { IfOk result (λ _. WithUnnamedText Url.output self.now
             (λ text. DisplaysOnOk W.write_str_gives f.old result text f.new)) }
     {
         let marker = marker_text(&self.marker)?;

@@ -9,8 +9,7 @@ ghost use Rattle.pep508_urls.specs.Meaning.{meaning_of};
 ghost use Rattle.pep508_urls.specs.Unnamed.{EachMayOverflow, MakesNamed, NamesNone};
 ghost use Rattle.requirement_words.specs.Fault.{FindsInUnnamed};
 ghost use Rattle.requirement_words.specs.Unnamed.{HasNoUnnamedHead, IsUnnamedHead};
-ghost use Rattle.pep508_requirements.specs.Requirement.{urls_in};
-ghost use Rattle.pep508_requirements.specs.Refused.{IsRefusedBy, IsUrlError, OnError};
+ghost use Rattle.pep508_requirements.specs.Refused.{IsRefusedBy, IsUrlErrorIn, OnError};
 
 use crate::error::{refusal_of_fault, refusal_of_url};
 use pep508_errors::{Pep508Error, Surroundings};
@@ -100,10 +99,8 @@ pub(crate) fn unnamed_url<Url: UnnamedRequirementUrl>(
     requires { IsSuffix text.now (whole.now ++ rest.now) }
     ensures value { IfOk result (λ url. Url.names given.now surroundings.now url) }
     ensures given { IfOk result (λ url. Url.given_text url ≡ Some given.now) }
-    ensures refused { IfErr result (OnError (λ error. IsUrlError
-        (urls_in Url.names surroundings.now) Url.tells_size
-        (λ piece. Url.may_overflow piece surroundings.now)
-        text.now whole.now given.now rest.now error)) }
+    ensures refused { IfErr result (OnError (IsUrlErrorIn Url.names Url.tells_size Url.may_overflow
+        surroundings.now text.now whole.now given.now rest.now)) }
 {
     match given_url(alloc, given, surroundings) {
         Ok(url) => Ok(url),

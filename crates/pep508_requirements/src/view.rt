@@ -5,7 +5,7 @@ ghost use Rattle.std.specs.Fmt.{DisplaysOnOk, DisplaysStyledOnOk};
 ghost use Rattle.std.specs.Option.{option_map};
 ghost use Rattle.marker_graph.specs.Contents.{IsHeld, truth};
 ghost use Rattle.marker_readable.specs.Text.{TellsText};
-ghost use Rattle.pep508_requirements.specs.Text.{requirement_text, WithText};
+ghost use Rattle.pep508_requirements.specs.Whole.{WithRequirementText};
 
 use crate::origin::RequirementOrigin;
 use crate::requirement::Requirement;
@@ -85,10 +85,7 @@ impl<T: Pep508Url> Display for RequirementView<'_, T> {
         ensures styled { DisplaysStyledOnOk W.write_str_gives f.old result None f.new }
 
         // Writes the text of the requirement, where the text of the URL is known.
-        ensures told { IfOk result (λ _. WithText
-            (truth self.now.marker.interner.now self.now.marker.tree)
-            (requirement_text T.output self.now.name.now self.now.extras.now
-            self.now.version_or_url.now)
+        ensures told { IfOk result (λ _. WithRequirementText T.output self.now
             (λ text. DisplaysOnOk W.write_str_gives f.old result text f.new)) }
     {
         let marker = marker_text(&self.marker)?;

@@ -8,7 +8,7 @@ use Rattle.marker_terms.specs.Plain.{is_plain}
 use Rattle.marker_terms.proofs.PlainLaws.{text_printable}
 use Rattle.marker_clauses.specs.Branch.{extra_of_ref}
 use Rattle.marker_clauses.proofs.BranchLaws.{contains_is, extra_is, extra_printable, false_means, inside_is, no_branches, test_holds, text_result, truth_result, version_result}
-use Rattle.marker_clauses.proofs.EdgeLaws.{text_edges_result, version_edges_result}
+use Rattle.marker_clauses.proofs.EdgeLaws.{text_around_result, text_edges_result, version_around_result, version_edges_result}
 use Rattle.marker_clauses.proofs.branch.branches.Goals as goal
 
 pub returns-in-True : goal.returns-in-True
@@ -21,15 +21,25 @@ pub returns-then-leads_apart : goal.returns-then-leads_apart
 returns-then-leads_apart c =
     version_edges_result c.args.interner.now c.args.tree c.in-Version.view c.in-Version.ensures.shows c.in-Version.ensures.edges c.version_edge_branches.result c.version_edge_branches.ensures.follow c.version_edge_branches.ensures.printable
 
-pub returns-else-leads_apart : goal.returns-else-leads_apart
-returns-else-leads_apart c = version_result c.args.interner.now c.keeps_the_rules.ensures.nodes c.args.tree c.requires c.in-Version.view c.in-Version.ensures.shows c.version_branches.result c.version_branches.ensures.lead c.version_branches.ensures.printable
+pub returns-in-None : goal.returns-in-None
+returns-in-None c = version_result c.args.interner.now c.keeps_the_rules.ensures.nodes c.args.tree c.requires c.in-Version.view c.in-Version.ensures.shows c.version_branches.result c.version_branches.ensures.lead c.version_branches.ensures.printable
 
 pub returns-then-leads_apart-2 : goal.returns-then-leads_apart-2
 returns-then-leads_apart-2 c =
     text_edges_result c.args.interner.now c.args.tree c.in-String.view c.in-String.ensures.shows c.in-String.ensures.edges c.text_edge_branches.result c.text_edge_branches.ensures.follow c.text_edge_branches.ensures.printable
 
-pub returns-else-leads_apart-2 : goal.returns-else-leads_apart-2
-returns-else-leads_apart-2 c = text_result c.args.interner.now c.keeps_the_rules.ensures.nodes c.args.tree c.requires c.in-String.view c.in-String.ensures.shows c.text_branches.result c.text_branches.ensures.lead c.text_branches.ensures.printable
+pub returns-in-None-2 : goal.returns-in-None-2
+returns-in-None-2 c = text_result c.args.interner.now c.keeps_the_rules.ensures.nodes c.args.tree c.requires c.in-String.view c.in-String.ensures.shows c.text_branches.result c.text_branches.ensures.lead c.text_branches.ensures.printable
+
+pub returns-in-Some : goal.returns-in-Some
+returns-in-Some c =
+    version_around_result c.args.interner.now c.args.tree c.in-Version.view c.in-Version.ensures.shows c.in-Version.ensures.edges c.in_ok-branches-in-Version.field-0 c.in-Some.branches c.in-Some.is
+    c.in_ok-branches-in-Version.ensures.follow c.in_ok-branches-in-Version.ensures.printable
+
+pub returns-in-Some-2 : goal.returns-in-Some-2
+returns-in-Some-2 c =
+    text_around_result c.args.interner.now c.args.tree c.in-String.view c.in-String.ensures.shows c.in-String.ensures.edges c.in_ok-branches-in-String.field-0 c.in-Some-2.branches c.in-Some-2.is
+    c.in_ok-branches-in-String.ensures.follow c.in_ok-branches-in-String.ensures.printable
 
 pub returns-in-In : goal.returns-in-In
 returns-in-In c =

@@ -6,6 +6,7 @@ use Rattle.version_ranges.specs.Cuts.{value_of}
 use Rattle.version_ranges.specs.Gather.{IsGathered}
 use Rattle.version_ranges.specs.Ranges.{contains_point}
 use Rattle.pep440_version.specs.Order.{version_cmp}
+use Rattle.pep440_rs.proofs.Between.{version_clones}
 use Rattle.pep440_rs.specs.Bounds.{is_release}
 use Rattle.marker_terms.proofs.ListLaws.{all_get}
 use Rattle.marker_terms.proofs.PlainLaws.{each_pushed}
@@ -18,6 +19,11 @@ use Rattle.marker_clauses.specs.Branch.{reaches, LeadTo}
 use Rattle.marker_clauses.proofs.BranchLaws.{each_more, skipped, version_lead}
 use Rattle.marker_clauses.proofs.JoinLaws.{any_more, any_skipped}
 use Rattle.marker_clauses.proofs.branch.version_branches.Goals as goal
+
+pub gather-requires : goal.gather-requires
+gather-requires c = record {
+  clones = version_clones;
+}
 
 pub loop-child-preserved : goal.loop-child-preserved
 loop-child-preserved c =

@@ -4,7 +4,9 @@ use Rattle.marker_environment.specs.Valuation.{Valuation}
 use Rattle.marker_terms.specs.Clauses.{clause_holds, clauses_hold, clauses_of}
 use Rattle.marker_terms.specs.Plain.{AllPrintable, HavePrintableTerms, IsPrintable}
 use Rattle.marker_terms.proofs.NumberLaws.{reduction_keeps}
+use Rattle.marker_nodes.proofs.Firsts.{false_is, true_is}
 use Rattle.marker_graph.specs.Contents.{truth}
+use Rattle.marker_graph.proofs.TreeLaws.{same_tree}
 use Rattle.marker_clauses.specs.Branch.{HasReleases}
 use Rattle.marker_clauses.specs.Readable.{IsReadable}
 use Rattle.marker_clauses.proofs.DnfLaws.{all_printable, of_false, of_paths, of_true, readable_releases}
@@ -22,8 +24,8 @@ returns c =
     of_paths c.args.interner.now c.args.tree (clauses_of c.in_ok-left.left.items) (λ e. both_ways _ c.if-is_true.false (c.is_true.ensures.1 e)) (λ e. both_ways _ c.if-is_false.false (c.is_false.ensures.1 e))
     (clauses_of c.collect.new.clauses.items, record { mean = paths_mean; printable = paths_printable }, c.in_ok-left.ensures.reduced)
     mean
-    (λ r. all_printable c.args.interner.now c.args.tree c.requires (c.same_truth_is_same_tree.ensures c.args.interner.now c.keeps_the_rules.ensures.nodes)
-    (c.truths_of_constants.ensures.truth c.args.interner.now c.keeps_the_rules.ensures.nodes) (c.truths_of_constants.ensures.falsehood c.args.interner.now c.keeps_the_rules.ensures.nodes)
+    (λ r. all_printable c.args.interner.now c.args.tree c.requires (same_tree c.args.interner.now c.keeps_the_rules.ensures.nodes)
+    (λ v. true_is c.args.interner.now.nodes v) (λ v. false_is c.args.interner.now.nodes v)
     (clauses_of c.in_ok-left.left.items) (λ e. both_ways _ c.if-is_true.false (c.is_true.ensures.1 e)) (λ e. both_ways _ c.if-is_false.false (c.is_false.ensures.1 e)) (mean (readable_releases c.args.interner.now c.args.tree r))
     (reduction_keeps IsPrintable (clauses_of c.in_ok-left.left.items) (clauses_of c.collect.new.clauses.items) c.in_ok-left.ensures.reduced (paths_printable r)))
   where

@@ -1,4 +1,4 @@
-use Rattle.std.proofs.Common.{◌≡◌, ◌&&◌, ◌||◌, ◌++◌, take, refl, ap, subst, sym, ◌∙◌}
+use Rattle.std.proofs.Common.{◌≡◌, ◌&&◌, ◌||◌, ◌++◌, take, [], refl, ap, subst, sym, ◌∙◌}
 use Rattle.std.specs.List.{AllByRecursion, list_any}
 use Rattle.std.specs.Vec.Iter.{into_iter_items}
 use Rattle.std.proofs.lemmas.Bool.{both_ways}
@@ -13,8 +13,11 @@ use Rattle.marker_clauses.proofs.walk.+collect.Goals as goal
 
 pub returns-then-is_true-clause-means : goal.returns-then-is_true-clause-means
 returns-then-is_true-clause-means t c h v =
-    c.in_ok-add_clause.ensures.means v ∙ ap (λ ps. clauses_hold (clauses_of c.args.clauses.now.items) v || clause_holds ps v) c.deref.ensures.value
-    ∙ ap (λ b. clauses_hold (clauses_of c.args.clauses.now.items) v || b) (sym (and_end (clause_holds c.args.path.now.items v)) ∙ ap (λ b. clause_holds c.args.path.now.items v && b) (sym (true_truth c.args.interner.now c.args.tree v (c.is_true.ensures.0 c.if-is_true.true))))
+    let path = c.deref.result.now in
+    let before = clauses_hold (clauses_of c.args.clauses.now.items) v in
+    c.in_ok-add_clause.ensures.means v ∙ ap (λ ts. before || clause_holds (path ++ ts) v) c.new-none.ensures.items
+    ∙ ap (λ b. before || b) (list_all-append (λ x. term_holds x v) path [] ∙ and_end (clause_holds path v)) ∙ ap (λ ps. before || clause_holds ps v) c.deref.ensures.value
+    ∙ ap (λ b. before || b) (sym (and_end (clause_holds c.args.path.now.items v)) ∙ ap (λ b. clause_holds c.args.path.now.items v && b) (sym (true_truth c.args.interner.now c.args.tree v (c.is_true.ensures.0 c.if-is_true.true))))
 
 pub loop-branch-init : goal.loop-branch-init
 loop-branch-init t c =
@@ -49,6 +52,27 @@ loop-way-preserved t c = record {
     whole =
         c.truncate.ensures.items ∙ ap (take c.len-len.result) (c.in_ok-collect.ensures.path ∙ c.in_ok-append.ensures.items)
         ∙ take_at c.loop-way.path.items c.in-Some-way.way.items c.len-len.result (sym (c.len-len.ensures ∙ c.loop-way.path.ok.0)) ∙ c.loop-way.invariant.path
+
+pub loop-way-preserved-then-is_true-2 : goal.loop-way-preserved-then-is_true-2
+loop-way-preserved-then-is_true-2 t c = record {
+  path = c.loop-way.invariant.path;
+  means = λ h v.
+      let before = clauses_hold (clauses_of c.loop-way.clauses.items) v in
+      let here = clause_holds c.loop-branch.path.items v && clause_holds c.in-Some-way.way.items v in
+      way_taken _ before (clauses_hold (clauses_of c.add_clause-then-is_true-2.new.clauses.items) v) (clause_holds c.loop-branch.path.items v) (clause_holds c.in-Some-way.way.items v)
+      (clauses_hold (clauses_of (into_iter_items c.next-in-loop-way.new.self)) v) (truth c.args.interner.now c.in-Some.branch.child v)
+      (c.in_ok-add_clause-2.ensures.means v
+      ∙ ap (λ b. before || b) (ap (λ ps. clause_holds (ps ++ c.in-Some-way.way.items) v) at_path ∙ list_all-append (λ x. term_holds x v) c.loop-branch.path.items c.in-Some-way.way.items
+      ∙ sym (and_end here) ∙ ap (λ b. here && b) (sym (true_truth c.args.interner.now c.in-Some.branch.child v (c.is_true-in-loop-way.ensures.0 c.if-is_true-2.true)))))
+      (ap (λ ws. before || (clause_holds c.loop-branch.path.items v && (clauses_hold (clauses_of ws) v && truth c.args.interner.now c.in-Some.branch.child v))) (sym c.in-Some-way.ensures.steps.0) ∙ c.loop-way.invariant.means h v);
+  ready = λ a. (subst (λ ws. HavePrintableTerms (clauses_of ws)) c.in-Some-way.ensures.steps.0 (c.loop-way.invariant.ready a)).1;
+  printable = λ r a p h.
+      let here = (subst (λ ws. HavePrintableTerms (clauses_of ws)) c.in-Some-way.ensures.steps.0 (c.loop-way.invariant.ready a)).0 in
+      c.in_ok-add_clause-2.ensures.printable (subst AllPrintable (sym at_path) p) here (c.loop-way.invariant.printable r a p h);
+}
+  where
+    at_path : c.deref-then-is_true-2.result.now ≡ c.loop-branch.path.items
+    at_path = c.deref-then-is_true-2.ensures.value ∙ c.loop-way.invariant.path
 
 pub loop-branch-preserved : goal.loop-branch-preserved
 loop-branch-preserved t c =

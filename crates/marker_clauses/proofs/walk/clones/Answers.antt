@@ -4,6 +4,6 @@ use Rattle.marker_clauses.proofs.walk.clones.Goals as goal
 
 pub loop-term-preserved : goal.loop-term-preserved
 loop-term-preserved c = record {
-  means = term_more c.loop-term.all.items c.push.new.self.items [] c.args.path.now c.loop-term.term-index c.term-item.result c.in_ok-clone.field-0 c.loop-term-test.true c.term-item.is c.in_ok-clone.ensures.cases c.in_ok-push.ensures.items c.loop-term.invariant.means;
-  printable = λ p. clone_more c.loop-term.all.items c.push.new.self.items c.args.path.now c.loop-term.term-index c.term-item.result c.in_ok-clone.field-0 c.loop-term-test.true c.term-item.is c.in_ok-clone.ensures.cases c.in_ok-push.ensures.items p (c.loop-term.invariant.printable p);
+  means = term_more c.loop-term.all.items c.push_large.new.list.items [] c.args.path.now c.loop-term.term-index c.term-item.result c.in_ok-clone.field-0 c.loop-term-test.true c.term-item.is c.in_ok-clone.ensures.cases c.in_ok-push_large.ensures.items c.loop-term.invariant.means;
+  printable = λ p. clone_more c.loop-term.all.items c.push_large.new.list.items c.args.path.now c.loop-term.term-index c.term-item.result c.in_ok-clone.field-0 c.loop-term-test.true c.term-item.is c.in_ok-clone.ensures.cases c.in_ok-push_large.ensures.items p (c.loop-term.invariant.printable p);
 }

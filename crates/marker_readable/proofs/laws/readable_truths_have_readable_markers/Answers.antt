@@ -1,12 +1,5 @@
-use Rattle.marker_graph.specs.declared.tree.MarkerTree.{MarkerTree}
-use Rattle.marker_graph.specs.Tree.{IsSubtree}
-use Rattle.marker_readable.proofs.ReleaseLaws.{plain_node}
+use Rattle.marker_readable.proofs.ReadableLaws.{readable_marker}
 use Rattle.marker_readable.proofs.laws.readable_truths_have_readable_markers.Goals as goal
 
 pub returns : goal.returns
-returns d = λ c store t held readable s n sub node.
-    let kept = λ (u : MarkerTree) (below : IsSubtree c t u). d.subtrees_are_the_residues.ensures.held c store t u held below in
-    let r = d.subtrees_are_the_residues.ensures.each_subtree c store t s held sub in
-    plain_node c store t s kept sub n node readable.0 readable.1 readable.2 r.0 r.1 r.2
-    (d.neighboring_children_differ.ensures c store s n (kept s sub) node)
-    (d.roots_ask_the_first_variable.ensures.depends c store s n (kept s sub) node)
+returns c = readable_marker

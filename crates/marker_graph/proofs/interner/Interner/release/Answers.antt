@@ -2,9 +2,11 @@ use Rattle.std.proofs.Common.{◌≡◌, ◌≤◌, sym, ap, ◌∙◌, subst}
 use Rattle.std.specs.Prelude.{◌↔◌}
 use Rattle.marker_diagrams.specs.Id.{place_of}
 use Rattle.marker_diagrams.specs.Diagram.{IsHeld}
-use Rattle.marker_conjunctions.specs.Contents.{contents, Contents, HoldsTheSame, IsKept, IsWellKept}
+use Rattle.marker_conjunctions.specs.Contents.{contents, Contents, HoldsTheSame, IsKept}
 use Rattle.marker_graph.specs.Mark.{released}
-use Rattle.marker_graph.proofs.KeptLaws.{released_is, released_held, released_kept, released_undone, released_well}
+use Rattle.marker_graph.specs.Texts.{IsInOrder}
+use Rattle.marker_graph.proofs.TextLaws.{released_in_order}
+use Rattle.marker_graph.proofs.KeptLaws.{released_is, released_held, released_kept, released_undone}
 use Rattle.marker_graph.proofs.interner.Interner.release.Goals as goal
 
 pub invariant_of-self : goal.invariant_of-self
@@ -12,7 +14,7 @@ invariant_of-self c =
     let old : Contents = contents c.self.inside.nodes c.self.inside.conjunctions in
     let new : Contents = contents c.truncate.new.self c.truncate-2.new.self in
     let is : new ≡ released c.args.mark old = released_is c.args.mark.nodes c.args.mark.known old _ _ _ c.truncate.ensures c.truncate-2.ensures.memo c.truncate-2.ensures.expansions in
-    subst IsWellKept (sym is) (released_well c.args.mark.nodes c.args.mark.known old c.self.invariant)
+    subst (λ (x : Contents). IsInOrder x c.forget_beyond.new.self) (sym is) (released_in_order c.args.mark old c.self.inside.texts c.forget_beyond.new.self c.self.invariant c.forget_beyond.ensures.left)
 
 pub returns-clause-released : goal.returns-clause-released
 returns-clause-released c =

@@ -1,0 +1,76 @@
+//! Trees that are sets of the values of one variable, joined as sets: the steps make no nodes.
+
+ghost use Rattle.std.specs.Prelude.{◌≡◌, ◌∷◌, IfOk, IfSome};
+ghost use Rattle.marker_environment.specs.Valuation.{Valuation};
+ghost use Rattle.marker_comparisons.specs.ValueSet.{contains};
+ghost use Rattle.pep508_markers.specs.Trees.{joins, AreHeld, SaysUnder};
+
+use crate::run::Connective;
+use marker_comparisons::ValueSet;
+use marker_graph::{Interner, MarkerTree};
+use std::alloc::{AllocError, Global};
+
+// The set of two sets under a connective, or `None` for sets of two variables.
+fn join_two_sets(
+    alloc: Global,
+    connective: Connective,
+    left: &ValueSet,
+    right: &ValueSet,
+) -> Result<Option<ValueSet>, AllocError>
+    ensures { IfOk result (λ found. IfSome found (λ set. (v : Valuation) → contains set v
+        ≡ joins connective (contains left.now v) (contains right.now v))) }
+{
+    match connective {
+        Connective::And => left.intersection(alloc, right),
+        Connective::Or => left.union(alloc, right),
+    }
+}
+
+// The set of trees under a connective, or `None` if there is no tree, one is no set, or they are
+// sets of two variables. It calls itself for each half, so its depth is the logarithm of how many
+// trees there are.
+fn joined_set(
+    interner: &Interner,
+    connective: Connective,
+    trees: &[MarkerTree],
+) -> Result<Option<ValueSet>, AllocError>
+    requires { AreHeld interner.now trees.now }
+    ensures { IfOk result (λ found. IfSome found (λ set.
+        SaysUnder interner.now connective trees.now (contains set))) }
+{
+    let middle = trees.len() / 2;
+    if middle == 0 {
+        return match trees.first() {
+            Some(tree) => tree.value_set(interner),
+            None => Ok(None),
+        };
+    }
+    let (left, right) = trees.split_at(middle);
+    let Some(left) = joined_set(interner, connective, left)? else {
+        return Ok(None);
+    };
+    let Some(right) = joined_set(interner, connective, right)? else {
+        return Ok(None);
+    };
+    join_two_sets(interner.allocator(), connective, &left, &right)
+}
+
+// The same of a tree and others, at least one.
+pub(crate) fn joined_set_of(
+    interner: &Interner,
+    connective: Connective,
+    first: MarkerTree,
+    others: &[MarkerTree],
+) -> Result<Option<ValueSet>, AllocError>
+    requires { AreHeld interner.now (first ∷ others.now) }
+    ensures { IfOk result (λ found. IfSome found (λ set.
+        SaysUnder interner.now connective (first ∷ others.now) (contains set))) }
+{
+    let Some(left) = first.value_set(interner)? else {
+        return Ok(None);
+    };
+    let Some(right) = joined_set(interner, connective, others)? else {
+        return Ok(None);
+    };
+    join_two_sets(interner.allocator(), connective, &left, &right)
+}

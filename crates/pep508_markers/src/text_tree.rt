@@ -1,0 +1,47 @@
+//! The tree of a text that was parsed.
+
+ghost use Rattle.std.specs.Prelude.{◌≤◌, IfOk, IfErr, OnErr};
+ghost use Rattle.marker_parts.specs.Expression.{Overflows};
+ghost use Rattle.marker_graph.specs.Contents.{HoldsTheSame, IsHeld, IsKept};
+ghost use Rattle.marker_grammar.specs.Flat.{formula_of};
+ghost use Rattle.marker_grammar.specs.Grammar.{Reads};
+ghost use Rattle.marker_grammar.specs.HasTest.{Says};
+ghost use Rattle.pep508_markers.specs.FormulaTree.{IsRefusal};
+ghost use Rattle.pep508_markers.specs.Text.{IsTreeOf};
+
+use crate::formula_tree::tree_of;
+use marker_grammar::Reading;
+use marker_graph::{Interner, MarkerTree};
+use pep508_errors::MarkerWarningKind;
+use refusal::Refusal;
+use std::convert::Infallible;
+
+// The tree of a text that was parsed, with the kinds of its warnings. The interner remembers the
+// tree of a text without warnings. The errors are those of `tree_of`; after one the interner holds
+// what it held before.
+pub(crate) fn tree_of_reading(
+    interner: &mut Interner,
+    text: &str,
+    reading: Reading,
+) -> Result<(MarkerTree, Vec<MarkerWarningKind>), Refusal<Infallible>>
+    requires { Reads text.now (formula_of reading.formula) reading.kinds.items }
+    ensures kept { IsKept interner.old interner.new }
+    ensures counts { interner.old.expansions ≤ interner.new.expansions }
+    ensures held { IfOk result (λ r. IsHeld interner.new r.0) }
+    ensures means { IfOk result (λ r. IsTreeOf interner.new text.now r.0 r.1.items) }
+    ensures err { IfErr result (IsRefusal (Says Overflows (formula_of reading.formula))) }
+    ensures released { OnErr result (HoldsTheSame interner.old interner.new) }
+{
+    let mark = interner.mark();
+    let tree = tree_of(interner, reading.formula)?;
+    if !reading.kinds.is_empty() {
+        return Ok((tree, reading.kinds));
+    }
+    match interner.remember_text(text, tree) {
+        Ok(()) => Ok((tree, reading.kinds)),
+        Err(error) => {
+            interner.release(mark);
+            Err(error.into())
+        }
+    }
+}
