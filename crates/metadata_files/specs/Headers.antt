@@ -1,6 +1,6 @@
 -- The headers of a metadata file, as Python's `email` reads them: up to an empty line, or a line
 -- that neither is a header nor continues one. The other lines are the body.
-use Rattle.std.specs.Prelude.{◌≡◌, ℕ, Bool, true, false, not, nat_le, ◌||◌, ◌&&◌, ◌==◌, List, [], ◌∷◌, Option, None, Some, map, option_map, reverse, if◌then◌else◌}
+use Rattle.std.specs.Prelude.{◌≡◌, ℕ, Bool, true, false, not, nat_le, ◌||◌, ◌&&◌, ◌==◌, List, [], ◌∷◌, Option, None, Some, MatchOption, map, option_map, reverse, if◌then◌else◌}
 use Rattle.std.specs.Char.{is_whitespace}
 use Rattle.requirement_lines.specs.Character.{Character, characters}
 use Rattle.requirement_lines.specs.Ends.{begins_with}
@@ -45,6 +45,10 @@ trimmed text = skip_space (skip_space_back text)
 abbrev pub IsHeader : List Character → Piece × Piece → Type 0
 IsHeader line parts = (name_of line ≡ characters_of parts.0)
     × (after_name line ≡ Some (characters_of parts.1))
+
+-- a header of the line, or it has none
+abbrev pub SplitsName : List Character → Option (Piece × Piece) → Type 0
+SplitsName line parts = MatchOption parts (after_name line ≡ None) (IsHeader line)
 
 -- an empty line
 abbrev pub is_empty : List Character → Bool

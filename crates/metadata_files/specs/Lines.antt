@@ -1,7 +1,7 @@
 -- The headers of a metadata file as folded lines, as in Python's `email`: a header is a line and
 -- those that continue it, with their line breaks. A line ends at LF, CR LF or CR.
-use Rattle.std.specs.Prelude.{ℕ, Bool, not, ◌||◌, ◌&&◌, List, [], ◌∷◌, if◌then◌else◌}
-use Rattle.requirement_lines.specs.Character.{Character}
+use Rattle.std.specs.Prelude.{◌≡◌, ℕ, Bool, not, ◌||◌, ◌&&◌, List, [], ◌∷◌, if◌then◌else◌}
+use Rattle.requirement_lines.specs.Character.{Character, characters}
 use Rattle.requirement_lines.specs.Ends.{begins_with}
 use Rattle.requirement_lines.specs.Physical.{with_first}
 use Rattle.requirement_lines.specs.Position.{ends_line}
@@ -20,3 +20,8 @@ folded_lines [] = []
 folded_lines (p ∷ ps) =
     if ends_folded p.char ps then (p ∷ []) ∷ folded_lines ps
     else with_first p (folded_lines ps)
+
+-- the text has this folded line, and then those of the rest
+abbrev pub HasFoldedLine : List ℕ → List Character → List ℕ → Type 0
+HasFoldedLine text line rest =
+    folded_lines (characters text) ≡ line ∷ folded_lines (characters rest)

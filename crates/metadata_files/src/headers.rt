@@ -1,13 +1,12 @@
 //! The headers of a metadata file.
 
-ghost use Rattle.std.specs.Prelude.{◌≡◌, ◌≢◌, ◌<◌, [], ◌∷◌, length, true, IfOk, MatchOption};
-ghost use Rattle.requirement_lines.specs.Character.{characters};
+ghost use Rattle.std.specs.Prelude.{◌≡◌, ◌≢◌, ◌<◌, [], length, IfOk};
 ghost use Rattle.requirement_lines.specs.Pieces.{characters_of};
 ghost use Rattle.requirement_lines.specs.Reports.{text_of};
 ghost use Rattle.pep508_text.specs.Suffix.{IsSuffix};
 ghost use Rattle.requirement_lines.specs.Ends as ends;
 ghost use Rattle.metadata_files.specs.Fields.{IsKind};
-ghost use Rattle.metadata_files.specs.Lines as lines;
+ghost use Rattle.metadata_files.specs.Lines.{ends_folded, HasFoldedLine};
 ghost use Rattle.metadata_files.specs.Headers as spec;
 
 use crate::field::{Field, kind_of};
@@ -38,7 +37,7 @@ fn begins_with(text: Piece<'_>, c: char) -> bool
 
 // Whether the character ends a header, which the rest of the file follows.
 fn ends_folded(c: char, rest: Piece<'_>) -> bool
-    ensures { result ≡ lines.ends_folded c (characters_of rest.entry) }
+    ensures { result ≡ ends_folded c (characters_of rest.entry) }
 {
     let ends_line = c == '\n' || c == '\r' && !begins_with(rest, '\n');
     ends_line && !(begins_with(rest, ' ') || begins_with(rest, '\t'))
@@ -46,8 +45,7 @@ fn ends_folded(c: char, rest: Piece<'_>) -> bool
 
 // The first folded line of a text, with its line breaks, and the text after it.
 fn split_folded(text: &str) -> (Piece<'_>, &str)
-    ensures lines { text.now ≢ [] → lines.folded_lines (characters text.now)
-        ≡ characters_of result.0 ∷ lines.folded_lines (characters result.1.now) }
+    ensures lines { text.now ≢ [] → HasFoldedLine text.now (characters_of result.0) result.1.now }
     ensures shorter { text.now ≢ [] → length result.1.now < length text.now }
     ensures suffix { IsSuffix text.now result.1.now }
 {
@@ -77,8 +75,7 @@ fn is_name_character(c: char) -> bool
 
 // The name of a header, and what follows its `:`.
 fn split_name<'a>(line: Piece<'a>) -> Option<(Piece<'a>, Piece<'a>)>
-    ensures { MatchOption result (spec.after_name (characters_of line.entry) ≡ None)
-        (spec.IsHeader (characters_of line.entry)) }
+    ensures { spec.SplitsName (characters_of line.entry) result }
 {
     let mut rest = line;
     while let Some((c, after)) = first_of(rest) {

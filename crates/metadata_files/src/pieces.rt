@@ -1,11 +1,10 @@
 //! Pieces of a file's text that are read character by character.
 
-ghost use Rattle.std.specs.Prelude.{◌≡◌, ◌≤◌, ◌<◌, [], ◌∷◌, ◌++◌, length, IfSome, MatchOption, encode_utf8_all};
+ghost use Rattle.std.specs.Prelude.{◌≡◌, ◌<◌, ◌++◌, length, IfSome, MatchOption, encode_utf8_all};
 ghost use Rattle.std.specs.Str.{chars};
 ghost use Rattle.requirement_lines.specs.Character.{after};
-ghost use Rattle.requirement_lines.specs.Pieces.{characters_of, IsEnd};
+ghost use Rattle.requirement_lines.specs.Pieces.{characters_of, HasFirst, HasLast, HasNoCharacter, IsEnd};
 ghost use Rattle.requirement_lines.specs.Reports.{text_of};
-ghost use Rattle.metadata_files.specs.Pieces.{BeginsWith, EndsWith};
 ghost use Rattle.metadata_files.specs.Headers.{skip_space, skip_space_back, trimmed};
 ghost use Rattle.pep508_text.specs.Suffix.{IsSuffix};
 
@@ -28,8 +27,7 @@ fn place_after(place: Place, size: usize) -> Place
 
 // The first character of a piece, and the rest.
 pub(crate) fn first_of<'a>(piece: Piece<'a>) -> Option<(char, Piece<'a>)>
-    ensures characters { MatchOption result (characters_of piece.entry ≡ [])
-        (BeginsWith piece.entry) }
+    ensures characters { MatchOption result (HasNoCharacter piece.entry) (HasFirst piece.entry) }
     ensures end { IfSome result (λ x. IsEnd piece.entry x.1) }
     ensures shorter { IfSome result (λ x. length x.1.text.now < length piece.entry.text.now) }
 {
@@ -43,8 +41,7 @@ pub(crate) fn first_of<'a>(piece: Piece<'a>) -> Option<(char, Piece<'a>)>
 
 // The piece before the last character, and that character.
 fn last_of<'a>(piece: Piece<'a>) -> Option<(Piece<'a>, char)>
-    ensures characters { MatchOption result (characters_of piece.entry ≡ [])
-        (EndsWith piece.entry) }
+    ensures characters { MatchOption result (HasNoCharacter piece.entry) (HasLast piece.entry) }
     ensures shorter { IfSome result (λ x. length x.0.text.now < length piece.entry.text.now) }
 {
     let Some((front, c)) = last(piece.text) else {

@@ -32,7 +32,7 @@ pub use crate::excerpts::{Excerpt, SHOWN, draw_excerpt, visible};
 pub use crate::failures::Failure;
 pub use crate::hosts::{EntryKind, FolderEntries, FolderEntry, Host};
 pub use crate::kinds::{FileKind, file_name, is_sought, kind_of_name};
-pub use crate::listing::write_listed;
+pub use crate::listing::{ListedPlace, write_listed};
 pub use crate::marks::{Mark, marks_of};
 pub use crate::notices::{Format, Notice, Page, Span, Style, Weight, write_notice};
 pub use crate::opened::{OpenFiles, Opening};

@@ -1,18 +1,20 @@
 //! The output of `list` for a requirement.
 
 use crate::excerpts::visible;
-use crate::notices::{Format, Span};
+use crate::notices::{Format, Span, text_or_null};
 use requirement_findings::Listed;
 use requirement_lines::{Mark, Piece, cut_line, text_of};
 use serde_json::{Value, json};
 use std::alloc::{AllocError, Global};
 
-// A text, or null.
-fn text_or_null(alloc: Global, text: Option<&str>) -> Result<Value, AllocError> {
-    match text {
-        Some(text) => json!(in alloc; (text)),
-        None => Ok(Value::Null),
-    }
+/// Where a requirement is.
+#[derive(Clone, Copy, Debug)]
+pub struct ListedPlace<'a> {
+    /// The name of its file, as [`visible`](crate::visible) shows it.
+    pub file: &'a str,
+    pub span: Span,
+    /// The string of a project that it is, as `project.dependencies[3]`.
+    pub key: Option<&'a str>,
 }
 
 // A list of texts.
@@ -25,11 +27,12 @@ fn list_of(alloc: Global, texts: &[String]) -> Result<Value, AllocError> {
 }
 
 // The JSON object of a requirement.
-fn object_of(alloc: Global, file: &str, span: Span, listed: &Listed) -> Result<Value, AllocError> {
+fn object_of(alloc: Global, place: &ListedPlace<'_>, listed: &Listed) -> Result<Value, AllocError> {
     json!(in alloc; {
-        "file": file,
-        "line": (span.position.line),
-        "column": (span.position.column),
+        "file": (place.file),
+        "line": (place.span.position.line),
+        "column": (place.span.position.column),
+        "key": (text_or_null(alloc, place.key)?),
         "name": (text_or_null(alloc, listed.name.as_deref())?),
         "extras": (list_of(alloc, listed.extras.as_slice())?),
         "specifiers": (list_of(alloc, listed.specifiers.as_slice())?),
@@ -69,15 +72,14 @@ pub fn write_listed(
     alloc: Global,
     out: &mut String,
     format: Format,
-    file: &str,
-    span: Span,
+    place: &ListedPlace<'_>,
     line: &[Piece<'_>],
     listed: &Listed,
 ) -> Result<(), AllocError> {
     match format {
         Format::Text => write_text(alloc, out, line, listed)?,
         Format::Json => {
-            let text = object_of(alloc, file, span, listed)?.to_string(alloc)?;
+            let text = object_of(alloc, place, listed)?.to_string(alloc)?;
             out.push_str(text.as_str())?;
         }
     }

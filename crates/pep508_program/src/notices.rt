@@ -3,7 +3,7 @@
 use crate::excerpts::{Excerpt, draw_excerpt};
 use crate::secrets::Password;
 use requirement_lines::Position;
-use serde_json::json;
+use serde_json::{Value, json};
 use std::alloc::{AllocError, Global};
 use std::fmt::Write;
 
@@ -148,12 +148,21 @@ fn write_text(
     write_excerpt(out, &shown, color)
 }
 
+// A text, or null.
+pub(crate) fn text_or_null(alloc: Global, text: Option<&str>) -> Result<Value, AllocError> {
+    match text {
+        Some(text) => json!(in alloc; (text)),
+        None => Ok(Value::Null),
+    }
+}
+
 // Writes a notice as JSON.
 fn write_json(
     alloc: Global,
     out: &mut String,
     page: &Page<'_>,
     notice: &Notice<'_>,
+    key: Option<&str>,
 ) -> Result<(), AllocError> {
     let value = json!(in alloc; {
         "file": (page.name),
@@ -161,6 +170,7 @@ fn write_json(
         "column": (notice.span.position.column),
         "start": (notice.span.start),
         "end": (notice.span.end),
+        "key": (text_or_null(alloc, key)?),
         "kind": (notice.weight.word()),
         "name": (notice.name),
         "message": (notice.message)
@@ -178,8 +188,20 @@ pub fn write_notice(
     page: &Page<'_>,
     notice: &Notice<'_>,
 ) -> Result<(), AllocError> {
+    write_notice_at(alloc, out, style, page, notice, None)
+}
+
+// Appends a notice that may be about a key of a project.
+pub(crate) fn write_notice_at(
+    alloc: Global,
+    out: &mut String,
+    style: Style,
+    page: &Page<'_>,
+    notice: &Notice<'_>,
+    key: Option<&str>,
+) -> Result<(), AllocError> {
     match style.format {
         Format::Text => write_text(alloc, out, page, notice, style.has_colors),
-        Format::Json => write_json(alloc, out, page, notice),
+        Format::Json => write_json(alloc, out, page, notice, key),
     }
 }

@@ -10,6 +10,8 @@ use std::alloc::{AllocError, Global};
 pub(crate) struct EntryReport {
     // Its first byte in the file.
     pub(crate) start: usize,
+    // Its key, as `project.dependencies[3]`.
+    pub(crate) key: String,
     // Its fault, and the findings in its string, at their places in the file.
     pub(crate) findings: Vec<Finding>,
     // The list entry of its requirement.
@@ -21,6 +23,11 @@ pub(crate) struct EntryReport {
 fn is_requirement(entry: &ProjectEntry) -> bool {
     let is_text = matches!(entry.content, Content::Text(_));
     is_text && entry.key.section != Section::RequiresPython
+}
+
+fn key_of(alloc: Global, entry: &ProjectEntry) -> Result<String, AllocError> {
+    let key = &entry.key;
+    format!(in alloc; "{key}")
 }
 
 // The reports of the entries of a project, in their order.
@@ -40,6 +47,7 @@ pub(crate) fn reports_of(
         if let (Some(entry), Some(place)) = (file.entries.get(number), places.get(number)) {
             reports.push(EntryReport {
                 start: place.part(entry).start,
+                key: key_of(alloc, entry)?,
                 findings: place_findings(alloc, text, entry, *place, findings)?,
                 listed,
                 is_requirement: is_requirement(entry),

@@ -6,7 +6,7 @@ ghost use Rattle.pep508_program.specs.Reporting.{failed_once, Grows, ReportsNoth
 
 use crate::failures::Failure;
 use crate::hosts::Host;
-use crate::notices::{Notice, Page, Style, Weight, write_notice};
+use crate::notices::{Notice, Page, Style, Weight, write_notice_at};
 use crate::totals::Tally;
 use std::alloc::{AllocError, Global};
 use std::io;
@@ -94,11 +94,27 @@ impl<'s> Report<'s> {
         ensures grows { Grows self.old.tally self.new.tally }
         ensures failed { OnErr result (ReportsNothing self.old self.new) }
     {
+        self.notice_at(alloc, page, notice, None)
+    }
+
+    // Reports a notice that may be about a key of a project.
+    pub(crate) fn notice_at(
+        &mut self,
+        alloc: Global,
+        page: &Page<'_>,
+        notice: &Notice<'_>,
+        key: Option<&str>,
+    ) -> Result<(), AllocError>
+        ensures counted { OnOk result
+            (self.new.tally ≡ spec.tally_after self.old notice.now) }
+        ensures grows { Grows self.old.tally self.new.tally }
+        ensures failed { OnErr result (ReportsNothing self.old self.new) }
+    {
         if !self.takes(notice) {
             return Ok(());
         }
         let mut lines = String::new(alloc);
-        write_notice(alloc, &mut lines, self.style, page, notice)?;
+        write_notice_at(alloc, &mut lines, self.style, page, notice, key)?;
         self.push(lines.as_str())?;
         self.count(notice.weight);
         Ok(())

@@ -11,7 +11,7 @@ use crate::excerpts::visible;
 use crate::failures::Failure;
 use crate::hosts::Host;
 use crate::kinds::{FileKind, file_name, kind_of_name};
-use crate::listing::write_listed;
+use crate::listing::{ListedPlace, write_listed};
 use crate::marks::{Mark, marks_of};
 use crate::notices::{Notice, Page, Span, Style, Weight};
 use crate::opened::{OpenFiles, Opening};
@@ -222,6 +222,7 @@ impl<'s, H: Host, C: CheckLines> Walk<'s, H, C> {
         page: &Page<'_>,
         finding: &Finding,
         span: Span,
+        key: Option<&str>,
     ) -> Result<(), AllocError>
         ensures { Grows self.old.report.tally self.new.report.tally }
     {
@@ -232,7 +233,7 @@ impl<'s, H: Host, C: CheckLines> Walk<'s, H, C> {
             message: message.as_str(),
             span,
         };
-        self.report.notice(self.alloc, page, &notice)
+        self.report.notice_at(self.alloc, page, &notice, key)
     }
 
     // Reports the findings of a line that are hints, or those that are not.
@@ -241,13 +242,14 @@ impl<'s, H: Host, C: CheckLines> Walk<'s, H, C> {
         page: &Page<'_>,
         marks: &[Mark],
         hints: bool,
+        key: Option<&str>,
     ) -> Result<(), AllocError>
         ensures { Grows self.old.report.tally self.new.report.tally }
     {
         for mark in marks {
             if let Some(finding) = &mark.finding {
                 if is_hint(finding) == hints {
-                    self.report_finding(page, finding, mark.span)?;
+                    self.report_finding(page, finding, mark.span, key)?;
                 }
             }
         }
@@ -327,12 +329,13 @@ impl<'s, H: Host, C: CheckLines> Walk<'s, H, C> {
         self.report.notice(self.alloc, &sheet.page(), &notice)
     }
 
-    // Lists the requirement of a line.
+    // Lists the requirement of a line, or of a key of a project.
     fn list_line(
         &mut self,
         sheet: &Sheet,
         line: &[Piece<'_>],
         span: Span,
+        key: Option<&str>,
         listed: Option<&Listed>,
     ) -> Result<(), AllocError>
         ensures { Grows self.old.report.tally self.new.report.tally }
@@ -343,16 +346,14 @@ impl<'s, H: Host, C: CheckLines> Walk<'s, H, C> {
         let Some(listed) = listed else {
             return Ok(());
         };
-        let mut text = String::new(self.alloc);
-        write_listed(
-            self.alloc,
-            &mut text,
-            self.request.format,
-            sheet.shown.as_str(),
+        let place = ListedPlace {
+            file: sheet.shown.as_str(),
             span,
-            line,
-            listed,
-        )?;
+            key,
+        };
+        let mut text = String::new(self.alloc);
+        let format = self.request.format;
+        write_listed(self.alloc, &mut text, format, &place, line, listed)?;
         self.report.print(text.as_str())
     }
 
@@ -379,9 +380,9 @@ impl<'s, H: Host, C: CheckLines> Walk<'s, H, C> {
         let path = included_path(&content);
         let positions = &mut reading.positions;
         let marks = marks_of(self.alloc, sheet.text(), findings, path, positions)?;
-        self.report_marks(&sheet.page(), marks.as_slice(), false)?;
-        self.report_marks(&sheet.page(), marks.as_slice(), true)?;
-        self.list_line(sheet, line, span, listed.as_ref())?;
+        self.report_marks(&sheet.page(), marks.as_slice(), false, None)?;
+        self.report_marks(&sheet.page(), marks.as_slice(), true, None)?;
+        self.list_line(sheet, line, span, None, listed.as_ref())?;
         include_of(self.alloc, &content, marks.as_slice())
     }
 

@@ -1,6 +1,6 @@
 -- Groups and extras by their names in normal form (PEP 503), and what groups include (PEP 735). A
 -- group is known by the place of its name among the entries of a file.
-use Rattle.std.specs.Prelude.{◌≡◌, ℕ, zero, suc, ◌+◌, ◌<◌, ◌≤◌, Bool, true, false, List, [], ◌∷◌, drop, slice_get, IsSomeAnd, unwrap_or, if◌then◌else◌}
+use Rattle.std.specs.Prelude.{◌≡◌, ℕ, zero, suc, ◌+◌, ◌<◌, ◌≤◌, Bool, true, false, List, [], ◌∷◌, drop, slice_get, Option, MatchOption, IsSomeAnd, unwrap_or, if◌then◌else◌}
 use Rattle.pep508_names.specs.Name.{NormalizesTo}
 use Rattle.project_files.specs.declared.key.Section.{Section}
 use Rattle.project_files.specs.declared.key.Section.TheVariants.{Group}
@@ -17,6 +17,11 @@ pub record Names (section : Section) (n : List ℕ) (e : EntryOf) : Type 0 where
   pub section_is : e.key.section ≡ section
   pub begins : e.content ≡ named
   pub normal : NormalizesTo (name_of e) n
+
+-- the normal form of the name, if the entry begins a group or extra of the section
+abbrev pub IsNameIn : Section → EntryOf → Option (List ℕ) → Type 0
+IsNameIn section e name =
+    MatchOption name ((n : List ℕ) → ¬ Names section n e) (λ n. Names section n e)
 
 abbrev pub IsNamed : List EntryOf → Section → ℕ → List ℕ → Type 0
 IsNamed es section k n = IsSomeAnd (slice_get es k) (Names section n)

@@ -1,5 +1,5 @@
 -- Which groups include which, and which of them end, as lists.
-use Rattle.std.specs.Prelude.{◌≡◌, ℕ, ◌<◌, ◌⊎◌, Bool, true, false, List, [], ◌∷◌, length, slice_index_or, slice_set, count_by, not, Decides, MatchOption, Option, None, Some, if◌then◌else◌}
+use Rattle.std.specs.Prelude.{◌≡◌, ℕ, ◌<◌, ◌⊎◌, ◌&&◌, Bool, true, false, List, [], ◌∷◌, length, slice_index_or, slice_set, count_by, not, Decides, Option, None, Some, if◌then◌else◌}
 use Rattle.project_files.specs.declared.includes.Link.{Link}
 use Rattle.project_files.specs.declared.groups.Role.{Role}
 use Rattle.project_files.specs.declared.groups.Role.TheVariants.{Head, Item, Other}
@@ -49,6 +49,14 @@ pub record Settled (old new waits : List Bool) (i : ℕ) (changed : Bool) : Type
 -- the flags, with one at this place if there is a reason to
 abbrev pub flag_if : Bool → List Bool → ℕ → List Bool
 flag_if reason flags place = if reason then slice_set flags place true else flags
+
+-- a group without a flag waits for none
+abbrev pub settles : List Bool → ℕ → Bool → Bool
+settles ended place waits = not (flag ended place) && not waits
+
+-- the group at a place has a flag then
+abbrev pub SettlesAt : ℕ → Bool → List Bool → List Bool → Type 0
+SettlesAt place waits old new = new ≡ flag_if (settles old place waits) old place
 
 -- the flags tell which groups of a file end
 pub record EndedIn (es : List EntryOf) (flags : List Bool) : Type 0 where

@@ -78,8 +78,12 @@ abbrev pub requires_entries : Option Data → List EntryOf
 requires_entries None = entry_of BuildSystem (wrong NoRequires) ∷ []
 requires_entries (Some d) = list_entries BuildRequires None d
 
+-- the entries of the keys of `build-system`
+abbrev pub build_keys : Members → List EntryOf
+build_keys ms = requires_entries (get_member (codes "requires") ms)
+
 abbrev pub build_entries : Data → List EntryOf
-build_entries (table ms) = requires_entries (get_member (codes "requires") ms)
+build_entries (table ms) = build_keys ms
 build_entries d = entry_of BuildSystem (wrong NotATable) ∷ []
 
 -- ---- the project
@@ -102,12 +106,16 @@ abbrev pub dynamic_entries : Members → Data → List EntryOf
 dynamic_entries project (array ds) = dynamic_faults project 0 ds
 dynamic_entries project d = entry_of Dynamic (wrong NotAList) ∷ []
 
+-- the entries of `project.dependencies`
+abbrev pub dependency_entries : Data → List EntryOf
+dependency_entries = list_entries Dependencies None
+
 abbrev pub python_entries : Data → List EntryOf
 python_entries d = entry_of RequiresPython (text_of d) ∷ []
 
 abbrev pub project_keys : Members → List EntryOf
 project_keys ms =
-    at_key (list_entries Dependencies None) (get_member (codes "dependencies") ms)
+    at_key dependency_entries (get_member (codes "dependencies") ms)
     ++ (at_key (dynamic_entries ms) (get_member (codes "dynamic") ms)
     ++ (at_key extra_entries (get_member (codes "optional-dependencies") ms)
     ++ at_key python_entries (get_member (codes "requires-python") ms)))

@@ -1,8 +1,8 @@
 //! Which groups end, and which include themselves.
 
-ghost use Rattle.std.specs.Prelude.{◌≡◌, ◌<◌, ◌&&◌, ◌||◌, ℕ, not, false, length, vec_len, IfOk};
+ghost use Rattle.std.specs.Prelude.{◌≡◌, ◌<◌, ◌&&◌, ◌||◌, ℕ, not, false, vec_len, IfOk};
 ghost use Rattle.project_files.specs.Links as spec;
-ghost use Rattle.project_files.specs.Links.{flag, AreBelow, Ended, Settled, Waits};
+ghost use Rattle.project_files.specs.Links.{flag, AreBelow, Ended, Settled, SettlesAt, Waits};
 
 use crate::includes::Link;
 use std::alloc::{AllocError, Global};
@@ -49,9 +49,8 @@ fn settles(ended: bool, waits: bool) -> bool
 // Sets the flag of a group that waits for none. Returns whether a flag was set, here or before.
 fn settle_at(ended: &mut Flags, place: usize, waits: bool, changed: bool) -> bool
     requires { place < vec_len ended.old }
-    ensures ended { ended.new.items ≡ spec.flag_if
-        (not (flag ended.old.items place) && not waits) ended.old.items place }
-    ensures changed { result ≡ ((not (flag ended.old.items place) && not waits) || changed) }
+    ensures ended { SettlesAt place waits ended.old.items ended.new.items }
+    ensures changed { result ≡ (spec.settles ended.old.items place waits || changed) }
 {
     let is_settled = settles(ended[place], waits);
     flag_if(ended, place, is_settled);

@@ -1,12 +1,9 @@
 //! The expansion of a group.
 
-ghost use Rattle.std.specs.Prelude.{IfOk, IfSome};
-ghost use Rattle.std.specs.BTreeMap.{get};
-ghost use Rattle.std.specs.Cmp.Lexicographic.{slice_cmp};
-ghost use Rattle.std.specs.Ordering.{nat_cmp};
+ghost use Rattle.std.specs.Prelude.{◌≤◌, IfOk, IfSome, vec_len};
 ghost use Rattle.project_files.specs.declared.key.Section.TheVariants.{Group};
 ghost use Rattle.project_files.specs.Expansion.{Expands, IsExpansion};
-ghost use Rattle.project_files.specs.Firsts.{KnowsFirsts};
+ghost use Rattle.project_files.specs.Firsts.{first_in, KnowsFirsts};
 ghost use Rattle.project_files.specs.Found.{entry_in, entries_in};
 ghost use Rattle.project_files.specs.Steps.{IsStep, IsStepAt, IsListOf};
 
@@ -62,8 +59,7 @@ struct Walk {
 
 // Where the list of a group begins, if there is such a group.
 fn list_of(alloc: Global, groups: &Firsts, name: &str) -> Result<Option<usize>, AllocError>
-    ensures { IfOk result (λ place. IfSome place
-        (IsListOf (get (slice_cmp nat_cmp) groups.now) name.now)) }
+    ensures { IfOk result (λ place. IfSome place (IsListOf (first_in groups.now) name.now)) }
 {
     match place_of(alloc, groups, name)? {
         Some(group) => Ok(group.checked_add(1)),
@@ -72,7 +68,7 @@ fn list_of(alloc: Global, groups: &Firsts, name: &str) -> Result<Option<usize>, 
 }
 
 fn step_of(alloc: Global, groups: &Firsts, entry: &ProjectEntry) -> Result<Step, AllocError>
-    ensures { IfOk result (IsStep (get (slice_cmp nat_cmp) groups.now) (entry_in entry.now)) }
+    ensures { IfOk result (IsStep (first_in groups.now) (entry_in entry.now)) }
 {
     match role_of(entry) {
         Role::Item => match &entry.content {
@@ -95,7 +91,7 @@ fn step_at(
     groups: &Firsts,
     place: usize,
 ) -> Result<Step, AllocError>
-    requires { KnowsFirsts (entries_in entries.now) Group (get (slice_cmp nat_cmp) groups.now) }
+    requires { KnowsFirsts (entries_in entries.now) Group (first_in groups.now) }
     ensures { IfOk result (IsStepAt (entries_in entries.now) place) }
 {
     if has_flag(faulty, place) {
@@ -114,8 +110,7 @@ impl Walk {
 
     // Takes a step. Returns whether the entry has an expansion.
     fn take(&mut self, place: usize, next: usize, step: Step) -> Result<bool, AllocError>
-        ensures { IfOk result (λ goes_on. goes_on ≡ true
-            → Takes self.old self.new place next step) }
+        ensures { IfOk result (λ more. more ≡ true → Takes self.old self.new place next step) }
     {
         match step {
             Step::End => {}
@@ -141,14 +136,15 @@ fn expand_list(
     groups: &Firsts,
     start: usize,
 ) -> Result<Vec<usize>, Refusal<ExpansionFault>>
-    requires { KnowsFirsts (entries_in entries.now) Group (get (slice_cmp nat_cmp) groups.now) }
-    ensures { IfOk result (λ found. Expands (entries_in entries.now) start found.items) }
+    requires { KnowsFirsts (entries_in entries.now) Group (first_in groups.now) }
+    ensures expands { IfOk result (λ found. Expands (entries_in entries.now) start found.items) }
+    ensures within { IfOk result (λ found. vec_len found ≤ MOST_STRINGS) }
 {
     let mut walk = Walk {
         found: Vec::new(alloc),
         places: vec![in alloc; start]?,
     };
-    for _step in 0..MOST_STEPS {
+    for _step in 0..=MOST_STEPS {
         let Some(place) = walk.places.pop() else {
             return Ok(walk.found);
         };
@@ -173,7 +169,8 @@ pub(crate) fn expand(
     faulty: &[bool],
     name: &str,
 ) -> Result<Vec<usize>, Refusal<ExpansionFault>>
-    ensures { IfOk result (λ found. IsExpansion (entries_in entries.now) name.now found.items) }
+    ensures expands { IfOk result (λ v. IsExpansion (entries_in entries.now) name.now v.items) }
+    ensures within { IfOk result (λ found. vec_len found ≤ MOST_STRINGS) }
 {
     let groups = firsts_of(alloc, entries, Section::Group)?;
     match list_of(alloc, &groups, name)? {

@@ -6,7 +6,7 @@ ghost use Rattle.toml.specs.View.{table_view};
 ghost use Rattle.project_files.specs.Reading.{IsTomlRefusal};
 
 use crate::entry::ProjectEntry;
-use crate::expansion::{ExpansionFault, expand};
+use crate::expansion::{ExpansionFault, MOST_STRINGS, expand};
 use crate::judging::{ProjectFault, faults_of};
 use crate::tables::entries_of;
 use refusal::Refusal;
@@ -51,10 +51,9 @@ fn faulty_of(
 }
 
 impl ProjectFile {
-    ghost use Rattle.std.specs.Prelude.{IfErr, IfOk, vec_len};
+    ghost use Rattle.std.specs.Prelude.{◌≤◌, IfErr, IfOk, vec_len};
     ghost use Rattle.project_files.specs.Expansion.{IsExpansion};
-    ghost use Rattle.project_files.specs.Faults.{Judged};
-    ghost use Rattle.project_files.specs.Found.{entries_in};
+    ghost use Rattle.project_files.specs.Found.{entries_of, AreFaultsOf};
     ghost use Rattle.project_files.specs.Reading.{HasEntries, IsTomlRefusal};
 
     /// Reads a `pyproject.toml`. A byte order mark is allowed.
@@ -63,10 +62,8 @@ impl ProjectFile {
     /// - [`Refusal::Fault`] if the text is invalid TOML: `message()` says why, and `span()` where.
     /// - [`Refusal::OutOfMemory`] when memory runs out.
     pub fn read(alloc: Global, text: &str) -> Result<ProjectFile, Refusal<Error>>
-        ensures entries { IfOk result (λ file.
-            HasEntries text.now (entries_in file.entries.items)) }
-        ensures faults { IfOk result (λ file.
-            Judged (entries_in file.entries.items) (vec_len file.entries) file.faults.items) }
+        ensures entries { IfOk result (λ file. HasEntries text.now (entries_of file)) }
+        ensures faults { IfOk result (λ file. AreFaultsOf file.entries.items file.faults.items) }
         ensures refused { IfErr result (λ refusal. IsTomlRefusal text.now refusal) }
     {
         let table = table_of(alloc, text)?;
@@ -86,8 +83,8 @@ impl ProjectFile {
         alloc: Global,
         name: &str,
     ) -> Result<Vec<usize>, Refusal<ExpansionFault>>
-        ensures { IfOk result (λ strings.
-            IsExpansion (entries_in self.now.entries.items) name.now strings.items) }
+        ensures expands { IfOk result (λ v. IsExpansion (entries_of self.now) name.now v.items) }
+        ensures within { IfOk result (λ strings. vec_len strings ≤ MOST_STRINGS) }
     {
         let faulty = faulty_of(alloc, &self.faults, self.entries.len())?;
         expand(alloc, &self.entries, &faulty, name)

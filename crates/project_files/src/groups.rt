@@ -46,8 +46,7 @@ pub(crate) fn name_of(entry: &ProjectEntry) -> &str
 
 // The normal form of a name.
 pub(crate) fn normal_form(alloc: Global, text: &str) -> Result<Option<ExtraName>, AllocError>
-    ensures { IfOk result (λ name.
-        MatchOption name (¬ IsName text.now) (λ n. NormalizesTo text.now n)) }
+    ensures { IfOk result (λ n. MatchOption n (¬ IsName text.now) (NormalizesTo text.now)) }
 {
     unless_fault(ExtraName::parse(alloc, text))
 }

@@ -1,11 +1,8 @@
 //! Which groups include which.
 
 ghost use Rattle.std.specs.Prelude.{◌≡◌, ◌++◌, IfOk};
-ghost use Rattle.std.specs.BTreeMap.{get};
-ghost use Rattle.std.specs.Cmp.Lexicographic.{slice_cmp};
-ghost use Rattle.std.specs.Ordering.{nat_cmp};
 ghost use Rattle.project_files.specs.declared.key.Section.TheVariants.{Group};
-ghost use Rattle.project_files.specs.Firsts.{KnowsFirsts};
+ghost use Rattle.project_files.specs.Firsts.{first_in, KnowsFirsts};
 ghost use Rattle.project_files.specs.Found.{entry_in, entries_in};
 ghost use Rattle.project_files.specs.Groups.{role_of};
 ghost use Rattle.project_files.specs.Links as spec;
@@ -40,8 +37,7 @@ fn target_of(
     groups: &Firsts,
     entry: &ProjectEntry,
 ) -> Result<Option<usize>, AllocError>
-    ensures { IfOk result (λ place. spec.Targets (get (slice_cmp nat_cmp) groups.now)
-        (entry_in entry.now).content place) }
+    ensures { IfOk result (spec.Targets (first_in groups.now) (entry_in entry.now).content) }
 {
     match &entry.content {
         Content::Include(name) => place_of(alloc, groups, name.as_str()),
@@ -69,7 +65,7 @@ pub(crate) fn links_of(
     entries: &[ProjectEntry],
     groups: &Firsts,
 ) -> Result<Vec<Link>, AllocError>
-    requires { KnowsFirsts (entries_in entries.now) Group (get (slice_cmp nat_cmp) groups.now) }
+    requires { KnowsFirsts (entries_in entries.now) Group (first_in groups.now) }
     ensures { IfOk result (λ links. Links (entries_in entries.now) links.items) }
 {
     let mut links = Vec::new(alloc);

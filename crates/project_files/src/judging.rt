@@ -1,12 +1,10 @@
 //! What is wrong with entries.
 
-ghost use Rattle.std.specs.Prelude.{◌≡◌, ◌++◌, length, IfOk};
-ghost use Rattle.std.specs.BTreeMap.{get};
-ghost use Rattle.std.specs.Cmp.Lexicographic.{slice_cmp};
-ghost use Rattle.std.specs.Ordering.{nat_cmp};
-ghost use Rattle.project_files.specs.Faults.{fault_at, repeat_at, Judged};
+ghost use Rattle.std.specs.Prelude.{◌≡◌, ◌++◌, IfOk};
+ghost use Rattle.project_files.specs.Faults.{fault_at, repeat_at};
+ghost use Rattle.project_files.specs.Firsts.{first_in};
 ghost use Rattle.project_files.specs.Judging.{EntryIs, IncludeIs, NameIs};
-ghost use Rattle.project_files.specs.Found.{entry_in, entries_in};
+ghost use Rattle.project_files.specs.Found.{entry_in, AreFaultsOf};
 ghost use Rattle.project_files.specs.Links.{flag};
 
 use crate::endings::ended_of;
@@ -43,7 +41,7 @@ fn judge_name(
     place: usize,
     name: &str,
 ) -> Result<Option<ProjectFaultKind>, AllocError>
-    ensures { IfOk result (NameIs (get (slice_cmp nat_cmp) firsts.now) place name.now) }
+    ensures { IfOk result (NameIs (first_in firsts.now) place name.now) }
 {
     match normal_form(alloc, name)? {
         Some(normal) => Ok(repeat_at(firsts.get(&normal).copied(), place)),
@@ -65,8 +63,7 @@ fn judge_include(
     ended: &[bool],
     name: &str,
 ) -> Result<Option<ProjectFaultKind>, AllocError>
-    ensures { IfOk result
-        (IncludeIs (get (slice_cmp nat_cmp) groups.now) ended.now name.now) }
+    ensures { IfOk result (IncludeIs (first_in groups.now) ended.now name.now) }
 {
     match place_of(alloc, groups, name)? {
         Some(place) if has_flag(ended, place) => Ok(None),
@@ -84,8 +81,7 @@ fn judge(
     place: usize,
     entry: &ProjectEntry,
 ) -> Result<Option<ProjectFaultKind>, AllocError>
-    ensures { IfOk result (EntryIs (get (slice_cmp nat_cmp) groups.now)
-        (get (slice_cmp nat_cmp) extras.now) ended.now place (entry_in entry.now)) }
+    ensures { IfOk result (EntryIs groups.now extras.now ended.now place (entry_in entry.now)) }
 {
     match &entry.content {
         Content::Text(_) => Ok(None),
@@ -116,8 +112,7 @@ pub(crate) fn faults_of(
     alloc: Global,
     entries: &[ProjectEntry],
 ) -> Result<Vec<ProjectFault>, AllocError>
-    ensures { IfOk result (λ faults.
-        Judged (entries_in entries.now) (length entries.now) faults.items) }
+    ensures { IfOk result (λ faults. AreFaultsOf entries.now faults.items) }
 {
     let groups = firsts_of(alloc, entries, Section::Group)?;
     let extras = firsts_of(alloc, entries, Section::Extra)?;

@@ -1,12 +1,9 @@
 //! The first group or extra of each name.
 
-ghost use Rattle.std.specs.Prelude.{◌≡◌, ℕ, List, IfOk, MatchOption};
-ghost use Rattle.std.specs.BTreeMap.{get};
-ghost use Rattle.std.specs.Cmp.Lexicographic.{slice_cmp};
-ghost use Rattle.std.specs.Ordering.{nat_cmp};
+ghost use Rattle.std.specs.Prelude.{IfOk};
 ghost use Rattle.project_files.specs.Found.{entry_in, entries_in};
-ghost use Rattle.project_files.specs.Groups.{Names};
-ghost use Rattle.project_files.specs.Firsts.{kept, Finds, KnowsFirsts};
+ghost use Rattle.project_files.specs.Groups.{IsNameIn};
+ghost use Rattle.project_files.specs.Firsts.{first_in, Finds, KeepsFirst, KnowsFirsts};
 
 use crate::entry::{Content, ProjectEntry};
 use crate::groups::{name_of, normal_form};
@@ -24,9 +21,7 @@ fn named(
     entry: &ProjectEntry,
     section: Section,
 ) -> Result<Option<ExtraName>, AllocError>
-    ensures { IfOk result (λ name. MatchOption name
-        ((n : List ℕ) → ¬ Names section n (entry_in entry.now))
-        (λ n. Names section n (entry_in entry.now))) }
+    ensures { IfOk result (IsNameIn section (entry_in entry.now)) }
 {
     match entry.content {
         Content::Name if entry.key.section == section => normal_form(alloc, name_of(entry)),
@@ -36,8 +31,7 @@ fn named(
 
 // Keeps a place of a name, unless it has one.
 fn keep(firsts: &mut Firsts, name: ExtraName, place: usize) -> Result<(), AllocError>
-    ensures { IfOk result (λ _. (n : List ℕ) → get (slice_cmp nat_cmp) firsts.new n
-        ≡ kept name place (get (slice_cmp nat_cmp) firsts.old) n) }
+    ensures { IfOk result (λ _. KeepsFirst name place firsts.old firsts.new) }
 {
     if !firsts.contains_key(&name) {
         firsts.insert(name, place)?;
@@ -51,8 +45,7 @@ pub(crate) fn firsts_of(
     entries: &[ProjectEntry],
     section: Section,
 ) -> Result<Firsts, AllocError>
-    ensures { IfOk result (λ firsts. KnowsFirsts (entries_in entries.now) section
-        (get (slice_cmp nat_cmp) firsts)) }
+    ensures { IfOk result (λ v. KnowsFirsts (entries_in entries.now) section (first_in v)) }
 {
     let mut firsts = BTreeMap::new(alloc);
     for place in 0..entries.len() {
@@ -69,7 +62,7 @@ pub(crate) fn place_of(
     firsts: &Firsts,
     name: &str,
 ) -> Result<Option<usize>, AllocError>
-    ensures { IfOk result (Finds (get (slice_cmp nat_cmp) firsts.now) name.now) }
+    ensures { IfOk result (Finds (first_in firsts.now) name.now) }
 {
     match normal_form(alloc, name)? {
         Some(name) => Ok(firsts.get(&name).copied()),

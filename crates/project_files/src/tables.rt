@@ -1,11 +1,12 @@
 //! Reading the entries of a table.
 
 ghost use Rattle.std.specs.Prelude.{◌≡◌, [], ◌∷◌, IfOk, option_map, string_bytes};
-ghost use Rattle.toml.specs.Data.{get_member, table};
-ghost use Rattle.toml.specs.View.{array_view, table_view, view};
-ghost use Rattle.project_files.specs.Entries.{entry, entry_of, wrong};
-ghost use Rattle.project_files.specs.Found.{content_in, entries_in, name_in, value_in, Adds};
+ghost use Rattle.toml.specs.Data.{get_member};
+ghost use Rattle.toml.specs.View.{table_view, view};
+ghost use Rattle.project_files.specs.Entries.{entry_of, wrong};
+ghost use Rattle.project_files.specs.Found.{content_in, entries_in, name_in, Adds, AddsAt, AddsFaults, AddsItems, AddsList, AddsOf, AddsOne};
 ghost use Rattle.project_files.specs.Tables as spec;
+ghost use Rattle.project_files.specs.Tables.{dependency_entries, dynamic_entries, member_entries};
 
 use crate::entry::{Content, ProjectEntry, ProjectFaultKind};
 use crate::key::{ProjectKey, Section};
@@ -42,9 +43,7 @@ fn add(
     index: Option<usize>,
     content: Content,
 ) -> Result<(), AllocError>
-    ensures { IfOk result (λ _. Adds
-        (entry section (name_in name.entry) index (content_in content) ∷ [])
-        entries.old entries.new) }
+    ensures { IfOk result (λ _. AddsOne section name.entry index content entries.old entries.new) }
 {
     let name = copied(alloc, name)?;
     let key = ProjectKey {
@@ -63,8 +62,7 @@ fn add_wrong(
     section: Section,
     kind: ProjectFaultKind,
 ) -> Result<(), AllocError>
-    ensures { IfOk result (λ _. Adds
-        (entry_of section (wrong kind) ∷ []) entries.old entries.new) }
+    ensures { IfOk result (λ _. Adds (entry_of section (wrong kind) ∷ []) entries.old entries.new) }
 {
     add(alloc, entries, section, None, None, Content::Wrong(kind))
 }
@@ -121,9 +119,7 @@ fn add_items(
     name: Option<&str>,
     items: &Array,
 ) -> Result<(), AllocError>
-    ensures { IfOk result (λ _. Adds
-        (spec.item_entries section (name_in name.entry) 0 (array_view items.now))
-        entries.old entries.new) }
+    ensures { IfOk result (λ _. AddsItems section name.entry items.now entries.old entries.new) }
 {
     for index in 0..items.len() {
         let content = item_of(alloc, section, &items[index])?;
@@ -140,9 +136,7 @@ fn add_list(
     name: Option<&str>,
     value: &Value,
 ) -> Result<(), AllocError>
-    ensures { IfOk result (λ _. Adds
-        (spec.list_entries section (name_in name.entry) (view value.now))
-        entries.old entries.new) }
+    ensures { IfOk result (λ _. AddsList section name.entry value.now entries.old entries.new) }
 {
     match value {
         Value::Array(items) => add_items(alloc, entries, section, name, items),
@@ -160,8 +154,8 @@ fn add_members(
     section: Section,
     members: &Table,
 ) -> Result<(), AllocError>
-    ensures { IfOk result (λ _. Adds
-        (spec.member_entries section (table_view members.now)) entries.old entries.new) }
+    ensures { IfOk result
+        (λ _. AddsOf (member_entries section) members.now entries.old entries.new) }
 {
     for (key, value) in members.iter() {
         let name = Some(key.as_str());
@@ -175,9 +169,7 @@ fn add_members(
 type AtKey<'a> = Option<&'a Value>;
 
 fn add_extras(alloc: Global, entries: &mut Entries, value: AtKey<'_>) -> Result<(), AllocError>
-    ensures { IfOk result (λ _. Adds
-        (spec.at_key spec.extra_entries (value_in value.entry))
-        entries.old entries.new) }
+    ensures { IfOk result (λ _. AddsAt spec.extra_entries value.entry entries.old entries.new) }
 {
     match value {
         None => Ok(()),
@@ -187,9 +179,7 @@ fn add_extras(alloc: Global, entries: &mut Entries, value: AtKey<'_>) -> Result<
 }
 
 fn add_groups(alloc: Global, entries: &mut Entries, value: AtKey<'_>) -> Result<(), AllocError>
-    ensures { IfOk result (λ _. Adds
-        (spec.at_key spec.group_entries (value_in value.entry))
-        entries.old entries.new) }
+    ensures { IfOk result (λ _. AddsAt spec.group_entries value.entry entries.old entries.new) }
 {
     match value {
         None => Ok(()),
@@ -199,8 +189,7 @@ fn add_groups(alloc: Global, entries: &mut Entries, value: AtKey<'_>) -> Result<
 }
 
 fn add_requires(alloc: Global, entries: &mut Entries, build: &Table) -> Result<(), AllocError>
-    ensures { IfOk result (λ _. Adds
-        (spec.build_entries (table (table_view build.now))) entries.old entries.new) }
+    ensures { IfOk result (λ _. AddsOf spec.build_keys build.now entries.old entries.new) }
 {
     match value_at(build, "requires") {
         Some(value) => add_list(alloc, entries, Section::BuildRequires, None, value),
@@ -214,9 +203,7 @@ fn add_requires(alloc: Global, entries: &mut Entries, build: &Table) -> Result<(
 }
 
 fn add_build(alloc: Global, entries: &mut Entries, value: AtKey<'_>) -> Result<(), AllocError>
-    ensures { IfOk result (λ _. Adds
-        (spec.at_key spec.build_entries (value_in value.entry))
-        entries.old entries.new) }
+    ensures { IfOk result (λ _. AddsAt spec.build_entries value.entry entries.old entries.new) }
 {
     match value {
         None => Ok(()),
@@ -267,9 +254,7 @@ fn add_dynamic_faults(
     project: &Table,
     items: &Array,
 ) -> Result<(), AllocError>
-    ensures { IfOk result (λ _. Adds
-        (spec.dynamic_faults (table_view project.now) 0 (array_view items.now))
-        entries.old entries.new) }
+    ensures { IfOk result (λ _. AddsFaults project.now items.now entries.old entries.new) }
 {
     for index in 0..items.len() {
         let fault = dynamic_fault(project, &items[index]);
@@ -284,9 +269,7 @@ fn add_dynamic(
     project: &Table,
     value: AtKey<'_>,
 ) -> Result<(), AllocError>
-    ensures { IfOk result (λ _. Adds
-        (spec.at_key (spec.dynamic_entries (table_view project.now))
-        (value_in value.entry))
+    ensures { IfOk result (λ _. AddsAt (dynamic_entries (table_view project.now)) value.entry
         entries.old entries.new) }
 {
     match value {
@@ -301,10 +284,7 @@ fn add_dependencies(
     entries: &mut Entries,
     value: AtKey<'_>,
 ) -> Result<(), AllocError>
-    ensures { IfOk result (λ _. Adds
-        (spec.at_key (spec.list_entries Section.Dependencies None)
-        (value_in value.entry))
-        entries.old entries.new) }
+    ensures { IfOk result (λ _. AddsAt dependency_entries value.entry entries.old entries.new) }
 {
     match value {
         None => Ok(()),
@@ -313,9 +293,7 @@ fn add_dependencies(
 }
 
 fn add_python(alloc: Global, entries: &mut Entries, value: AtKey<'_>) -> Result<(), AllocError>
-    ensures { IfOk result (λ _. Adds
-        (spec.at_key spec.python_entries (value_in value.entry))
-        entries.old entries.new) }
+    ensures { IfOk result (λ _. AddsAt spec.python_entries value.entry entries.old entries.new) }
 {
     match value {
         None => Ok(()),
@@ -327,8 +305,7 @@ fn add_python(alloc: Global, entries: &mut Entries, value: AtKey<'_>) -> Result<
 }
 
 fn add_project_keys(alloc: Global, entries: &mut Entries, project: &Table) -> Result<(), AllocError>
-    ensures { IfOk result (λ _. Adds
-        (spec.project_keys (table_view project.now)) entries.old entries.new) }
+    ensures { IfOk result (λ _. AddsOf spec.project_keys project.now entries.old entries.new) }
 {
     add_dependencies(alloc, entries, value_at(project, "dependencies"))?;
     add_dynamic(alloc, entries, project, value_at(project, "dynamic"))?;
@@ -337,9 +314,7 @@ fn add_project_keys(alloc: Global, entries: &mut Entries, project: &Table) -> Re
 }
 
 fn add_project(alloc: Global, entries: &mut Entries, value: AtKey<'_>) -> Result<(), AllocError>
-    ensures { IfOk result (λ _. Adds
-        (spec.at_key spec.project_entries (value_in value.entry))
-        entries.old entries.new) }
+    ensures { IfOk result (λ _. AddsAt spec.project_entries value.entry entries.old entries.new) }
 {
     match value {
         None => Ok(()),
@@ -355,8 +330,7 @@ fn add_project(alloc: Global, entries: &mut Entries, value: AtKey<'_>) -> Result
 
 // The entries of a file.
 pub(crate) fn entries_of(alloc: Global, file: &Table) -> Result<Vec<ProjectEntry>, AllocError>
-    ensures { IfOk result (λ entries.
-        entries_in entries.items ≡ spec.file_entries (table_view file.now)) }
+    ensures { IfOk result (λ v. entries_in v.items ≡ spec.file_entries (table_view file.now)) }
 {
     let mut entries = Vec::new(alloc);
     add_build(alloc, &mut entries, value_at(file, "build-system"))?;

@@ -1,14 +1,13 @@
 -- How a project is checked: entry by entry and in their order, by a checker who says what a
 -- requirement is checked as, and what is found in version specifiers.
-use Rattle.std.specs.Prelude.{◌≡◌, ℕ, List, [], ◌∷◌, vec_len}
+use Rattle.std.specs.Prelude.{◌≡◌, ℕ, List, [], ◌∷◌}
 use Rattle.requirement_lines.specs.Character.{Character, characters}
 use Rattle.requirement_findings.specs.declared.finding.CheckedText.{CheckedText}
 use Rattle.requirement_findings.specs.declared.finding.Finding.{Finding}
 use Rattle.project_files.specs.declared.key.Section.{Section}
 use Rattle.project_files.specs.declared.key.Section.TheVariants.{RequiresPython}
 use Rattle.project_files.specs.Entries.{ContentOf, text, include, named, wrong, EntryOf}
-use Rattle.project_files.specs.Faults.{Judged}
-use Rattle.project_files.specs.Found.{entries_in}
+use Rattle.project_files.specs.Found.{entries_in, AreFaultsOf}
 use Rattle.project_files.specs.Reading.{HasEntries}
 use Rattle.project_findings.specs.Places.{HoldEach}
 use Rattle.project_findings.specs.declared.check.CheckedProject.{CheckedProject}
@@ -43,8 +42,7 @@ module _ {State : Type 0} (Text : State → List Character → CheckedText → S
   pub record ChecksProject (file : List ℕ) (old : State) (project : CheckedProject) (new : State)
       : Type 0 where
     pub entries : HasEntries file (entries_in project.file.entries.items)
-    pub faults : Judged (entries_in project.file.entries.items)
-        (vec_len project.file.entries) project.file.faults.items
+    pub faults : AreFaultsOf project.file.entries.items project.file.faults.items
     pub each : ChecksEntries old (entries_in project.file.entries.items)
         project.checked.items new
     pub places : HoldEach file (entries_in project.file.entries.items) project.places.items

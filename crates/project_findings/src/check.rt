@@ -42,8 +42,8 @@ fn check_string<C: CheckLines>(
     text: &str,
     checker: &mut C,
 ) -> Result<CheckedText, AllocError>
-    ensures { IfOk result (λ checked. ChecksString C.checks_text C.finds section text.now
-        checker.old checked checker.new) }
+    ensures { IfOk result
+        (λ c. ChecksString C.checks_text C.finds section text.now checker.old c checker.new) }
 {
     let pieces = [Piece::whole(text)];
     match section {
@@ -61,8 +61,8 @@ fn check_entry<C: CheckLines>(
     entry: &ProjectEntry,
     checker: &mut C,
 ) -> Result<CheckedText, AllocError>
-    ensures { IfOk result (λ checked. ChecksEntry C.checks_text C.finds (entry_in entry.now)
-        checker.old checked checker.new) }
+    ensures { IfOk result
+        (λ c. ChecksEntry C.checks_text C.finds (entry_in entry.now) checker.old c checker.new) }
 {
     match &entry.content {
         Content::Text(text) => check_string(alloc, entry.key.section, text.as_str(), checker),
@@ -81,8 +81,8 @@ pub fn check_project<C: CheckLines>(
     text: &str,
     checker: &mut C,
 ) -> Result<CheckedProject, Refusal<Error>>
-    ensures checked { IfOk result (λ project. ChecksProject C.checks_text C.finds text.now
-        checker.old project checker.new) }
+    ensures checked { IfOk result
+        (λ p. ChecksProject C.checks_text C.finds text.now checker.old p checker.new) }
     ensures refused { IfErr result (λ refusal. IsTomlRefusal text.now refusal) }
 {
     let file = ProjectFile::read(alloc, text)?;

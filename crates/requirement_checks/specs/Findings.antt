@@ -1,5 +1,6 @@
 -- What is found in a line of a requirements file, by name.
-use Rattle.std.specs.Prelude.{◌≡◌, ⊤, List, [], ◌∷◌, ◌++◌, All, map, Option, None, Some}
+use Rattle.std.specs.Prelude.{◌≡◌, ⊤, List, [], ◌∷◌, ◌++◌, All, map, Option, None, Some, Vec}
+use Rattle.std.specs.declared.alloc.Global.{Global}
 use Rattle.marker_graph.specs.Contents.{Contents, IsHeld}
 use Rattle.pep508_errors.specs.declared.warning.MarkerWarningKind.{MarkerWarningKind}
 use Rattle.pep508_errors.specs.declared.warning.MarkerWarningKind.TheVariants as kinds
@@ -71,3 +72,7 @@ HoldsMarker c readings.NumberTooLarge = ⊤
 -- the findings are these and those of before
 abbrev pub AddsNames : List FindingName → List Finding → List Finding → Type 0
 AddsNames names old new = names_of new ≡ names_of old ++ names
+
+-- the same of vectors
+abbrev pub Gains : List FindingName → Vec Finding Global → Vec Finding Global → Type 0
+Gains names old new = AddsNames names old.items new.items

@@ -1,7 +1,8 @@
 -- What is found in a line of a requirements file, and in which order: in its requirement, then in
 -- its options, and then hints.
-use Rattle.std.specs.Prelude.{◌≡◌, ℕ, List, [], ◌++◌, All, Option, None, Some, option_copied}
+use Rattle.std.specs.Prelude.{◌≡◌, ℕ, List, [], ◌++◌, All, Option, None, Some, option_copied, Vec}
 use Rattle.std.specs.Borrow.{Bor}
+use Rattle.std.specs.declared.alloc.Global.{Global}
 use Rattle.marker_graph.specs.Contents.{Contents}
 use Rattle.pep508_errors.specs.declared.surroundings.Surroundings.{Surroundings}
 use Rattle.pep508_urls.specs.Fault.{tells_size, TextMayOverflow}
@@ -24,6 +25,7 @@ use Rattle.requirement_options.specs.declared.fault.OptionFault.{OptionFault}
 use Rattle.requirement_options.specs.declared.line.FileLine.{FileLine}
 use Rattle.requirement_checks.specs.Findings.{fault_names, names_of, names_told, AddsNames}
 use Rattle.requirement_checks.specs.Reading.{ReadsWithin}
+use Rattle.requirement_checks.specs.declared.checker.Checker.{Checker}
 use Rattle.requirement_checks.specs.declared.checker.Job.{Job}
 use Rattle.requirement_checks.specs.declared.reading.Form.{Form}
 use Rattle.requirement_checks.specs.declared.reading.Form.TheVariants as forms
@@ -86,18 +88,21 @@ pub record AddsHints (old new : List Finding) : Type 0 where
   pub added : AddsNames hints old new
 
 -- the findings of the requirement of a line are added, in these surroundings
-abbrev pub AddsIn : Surroundings → Job → List Finding → List Finding → Type 0
-AddsIn surroundings job =
-    Adds (IsJudgedIn surroundings job.form job.text.now) job.line.now.faults.items
+abbrev pub AddsIn : Surroundings → Job → Vec Finding Global → Vec Finding Global → Type 0
+AddsIn surroundings job old new = Adds (IsJudgedIn surroundings job.form job.text.now)
+    job.line.now.faults.items old.items new.items
 
--- the same, where no variable has a value, and paths start from the folder
-abbrev pub AddsFrom : List ℕ → Job → List Finding → List Finding → Type 0
-AddsFrom folder job =
-    Adds (IsJudged folder job.form job.text.now) job.line.now.faults.items
+-- the same, where no variable has a value, and paths start from the checker's folder
+abbrev pub AddsFrom : Checker → Job → Vec Finding Global → Vec Finding Global → Type 0
+AddsFrom checker job old new =
+    Adds (IsJudged checker.settings.folder.now job.form job.text.now)
+    job.line.now.faults.items old.items new.items
 
 -- the findings of a line are added
-abbrev pub AddsLine : List ℕ → FileLine → List Finding → List Finding → Type 0
-AddsLine folder line = Adds (IsJudgedOf folder (said_in line.content)) line.faults.items
+abbrev pub AddsLine : Checker → FileLine → Vec Finding Global → Vec Finding Global → Type 0
+AddsLine checker line old new =
+    Adds (IsJudgedOf checker.settings.folder.now (said_in line.content))
+    line.faults.items old.items new.items
 
 -- the requirement in pieces
 abbrev pub requirement_of : Option (Bor (List Piece) × Form) → Option (List Character × Form)

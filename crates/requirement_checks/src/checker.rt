@@ -117,8 +117,7 @@ fn check_within(
     earlier: &mut Earlier,
     findings: &mut Vec<Finding>,
 ) -> Result<Option<Listed>, AllocError>
-    ensures { OnOk result
-        (AddsIn surroundings.now job.entry findings.old.items findings.new.items) }
+    ensures { OnOk result (AddsIn surroundings.now job.entry findings.old findings.new) }
 {
     let read = judge::<VerbatimUrl>(
         &job.page,
@@ -186,8 +185,7 @@ impl<'s> Checker<'s> {
         findings: &mut Vec<Finding>,
     ) -> Result<Option<Listed>, AllocError>
         ensures settings { self.new.settings ≡ self.old.settings }
-        ensures found { OnOk result (AddsFrom self.old.settings.folder.now job.entry
-            findings.old.items findings.new.items) }
+        ensures found { OnOk result (AddsFrom self.old job.entry findings.old findings.new) }
     {
         let settings = self.settings;
         let none = BTreeMap::new(alloc);
@@ -214,8 +212,7 @@ impl<'s> Checker<'s> {
         findings: &mut Vec<Finding>,
     ) -> Result<Option<Listed>, AllocError>
         ensures settings { self.new.settings ≡ self.old.settings }
-        ensures found { OnOk result (AddsLine self.old.settings.folder.now line.now
-            findings.old.items findings.new.items) }
+        ensures found { OnOk result (AddsLine self.old line.now findings.old findings.new) }
     {
         let number = self.count;
         self.count = number.saturating_add(1);

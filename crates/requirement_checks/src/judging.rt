@@ -1,7 +1,7 @@
 //! Checking the requirement of a line by the library's parsers.
 
 ghost use Rattle.std.specs.Prelude.{IfOk, IfSome};
-ghost use Rattle.requirement_checks.specs.Findings.{names_told, AddsNames, HoldsMarker};
+ghost use Rattle.requirement_checks.specs.Findings.{names_told, Gains, HoldsMarker};
 ghost use Rattle.requirement_checks.specs.Reading.{ReadsWithin};
 
 use crate::messages::{add_findings, add_too_complex};
@@ -50,8 +50,7 @@ pub(crate) fn judge<T: UnnamedRequirementUrl>(
     ensures held { IfOk result (λ read. IfSome read (HoldsMarker interner.new)) }
     ensures read { IfOk result (ReadsWithin T.names T.tells_size T.may_overflow T.given_text
         surroundings.now form interner.new text.now) }
-    ensures told { IfOk result
-        (λ read. AddsNames (names_told read) findings.old.items findings.new.items) }
+    ensures told { IfOk result (λ read. Gains (names_told read) findings.old findings.new) }
 {
     let alloc = interner.allocator();
     match read_within(text, form, surroundings, interner)? {

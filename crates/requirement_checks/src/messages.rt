@@ -1,7 +1,7 @@
 //! Findings of the parsers, with their messages.
 
 ghost use Rattle.std.specs.Prelude.{◌≡◌, ◌∷◌, [], IfOk, OnOk};
-ghost use Rattle.requirement_checks.specs.Findings.{names_in, warning_name, warning_names, AddsNames, HasName};
+ghost use Rattle.requirement_checks.specs.Findings.{names_in, warning_name, warning_names, Gains, HasName};
 ghost use Rattle.requirement_checks.specs.Reading.{kinds_of};
 ghost use Rattle.requirement_findings.specs.declared.name.FindingName.TheVariants.{InvalidRequirement, TooComplex};
 
@@ -93,8 +93,8 @@ fn add_warnings(
     warnings: &[(MarkerWarningKind, String)],
     findings: &mut Vec<Finding>,
 ) -> Result<(), AllocError>
-    ensures { OnOk result (AddsNames (warning_names (kinds_of warnings.now))
-        findings.old.items findings.new.items) }
+    ensures { OnOk result
+        (Gains (warning_names (kinds_of warnings.now)) findings.old findings.new) }
 {
     for index in 0..warnings.len() {
         let (kind, message) = &warnings[index];
@@ -111,8 +111,7 @@ pub(crate) fn add_findings<T: UnnamedRequirementUrl>(
     reading: &Reading<T>,
     findings: &mut Vec<Finding>,
 ) -> Result<(), AllocError>
-    ensures { OnOk result
-        (AddsNames (names_in reading.now) findings.old.items findings.new.items) }
+    ensures { OnOk result (Gains (names_in reading.now) findings.old findings.new) }
 {
     match reading {
         Reading::Named(_, warnings) => add_warnings(alloc, page, warnings.as_slice(), findings),
@@ -137,8 +136,7 @@ pub(crate) fn add_too_complex(
     part: Part<'_>,
     findings: &mut Vec<Finding>,
 ) -> Result<(), AllocError>
-    ensures { OnOk result
-        (AddsNames (TooComplex ∷ []) findings.old.items findings.new.items) }
+    ensures { OnOk result (Gains (TooComplex ∷ []) findings.old findings.new) }
 {
     let message = "The marker is too complex";
     findings.push(fixed_at(alloc, FindingName::TooComplex, message, part)?)?;

@@ -2,7 +2,7 @@
 
 ghost use Rattle.std.specs.Prelude.{◌≡◌, IfOk, OnOk};
 ghost use Rattle.requirement_checks.specs.Findings as spec;
-ghost use Rattle.requirement_checks.specs.Findings.{fault_names, AddsNames, HasName};
+ghost use Rattle.requirement_checks.specs.Findings.{fault_names, Gains, HasName};
 
 use crate::secrets::from_byte;
 use requirement_findings::{Finding, FindingName};
@@ -87,8 +87,7 @@ pub(crate) fn add_faults(
     faults: &[OptionFault],
     findings: &mut Vec<Finding>,
 ) -> Result<(), AllocError>
-    ensures { OnOk result
-        (AddsNames (fault_names faults.now) findings.old.items findings.new.items) }
+    ensures { OnOk result (Gains (fault_names faults.now) findings.old findings.new) }
 {
     for index in 0..faults.len() {
         let fault = fault_at(alloc, file, faults[index])?;

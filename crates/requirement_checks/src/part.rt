@@ -1,6 +1,7 @@
 //! Parts of the requirement of a line, and where they are in the file.
 
 use crate::secrets::{from_byte, up_to_byte};
+use requirement_hints::{marker_start, may_have_url};
 use requirement_lines::{Piece, Place, Source, place_at};
 
 // The requirement of a line of a file.
@@ -100,10 +101,10 @@ impl<'f> Page<'_, 'f> {
         self.part(0, self.size)
     }
 
-    // The marker of the text: the part after the first `;`, or all of it.
+    // The marker of the text, or all of it.
     pub(crate) fn marker(&self, text: &str) -> Part<'f> {
-        match text.split_once(';') {
-            Some((front, marker)) => self.part(front.len().saturating_add(1), marker.len()),
+        match marker_start(text, may_have_url(text)) {
+            Some(start) => self.part(start, text.len().saturating_sub(start)),
             None => self.whole(),
         }
     }

@@ -1,5 +1,6 @@
 //! Requirements of one name, whose markers may be true together.
 
+use indexmap::IndexSet;
 use marker_graph::{Interner, MarkerTree};
 use pep508_errors::Surroundings;
 use pep508_requirements::Requirement;
@@ -21,13 +22,17 @@ struct Member {
     marker: MarkerTree,
 }
 
-// Several requirements of a name.
+// Several requirements of a name. Those that are the same count once.
 #[derive(Debug, Drop)]
 struct Members {
     // The first of them.
     first: Vec<Member>,
-    // The disjunction of all their markers.
+    // The markers of those with a text.
+    markers: BTreeMap<String, IndexSet<MarkerTree>>,
+    // True where the marker of one of them is.
     any: MarkerTree,
+    // True where the markers of two of them are.
+    two: MarkerTree,
 }
 
 // The requirements of a name.
@@ -107,6 +112,23 @@ fn widen(
     }
 }
 
+// Where both markers are true, if the interner has room for that.
+fn overlap(
+    interner: &mut Interner,
+    a: MarkerTree,
+    b: MarkerTree,
+) -> Result<MarkerTree, AllocError> {
+    if !interner.holds(&a) || !interner.holds(&b) {
+        return Ok(MarkerTree::FALSE);
+    }
+    let mut both = a;
+    match both.and(interner, b) {
+        Ok(()) => Ok(both),
+        Err(error) if !interner.has_met_room() => Err(error),
+        Err(_) => Ok(MarkerTree::FALSE),
+    }
+}
+
 impl Member {
     fn is_same(&self, other: &Member) -> bool {
         self.marker == other.marker && self.text.as_str() == other.text.as_str()
@@ -117,13 +139,24 @@ impl Members {
     fn new(alloc: Global) -> Members {
         Members {
             first: Vec::new(alloc),
+            markers: BTreeMap::new(alloc),
             any: MarkerTree::FALSE,
+            two: MarkerTree::FALSE,
+        }
+    }
+
+    // Whether the same requirement is among them.
+    fn has(&self, new: &Member) -> bool {
+        match self.markers.get(new.text.as_str()) {
+            Some(markers) => markers.contains(&new.marker),
+            None => false,
         }
     }
 
     // The earlier requirement that a new one may hold together with; not one that is the same.
     fn repeat_of(&self, interner: &Interner, looks: usize, new: &Member) -> Option<Repeat> {
-        if !may_meet(interner, self.any, new.marker, looks) {
+        let others = if self.has(new) { self.two } else { self.any };
+        if !may_meet(interner, others, new.marker, looks) {
             return None;
         }
         for index in 0..self.first.len() {
@@ -134,15 +167,37 @@ impl Members {
                 });
             }
         }
-        if self.first.len() < NAMED {
-            None
-        } else {
-            Some(Repeat { earlier: None })
-        }
+        Some(Repeat { earlier: None })
     }
 
-    // Remembers a requirement.
-    fn keep(&mut self, interner: &mut Interner, new: Member) -> Result<(), AllocError> {
+    // Notes the text and the marker of a requirement.
+    fn note(&mut self, alloc: Global, new: &Member) -> Result<(), AllocError> {
+        if let Some(markers) = self.markers.get_mut(new.text.as_str()) {
+            markers.insert(new.marker)?;
+            return Ok(());
+        }
+        let mut markers = IndexSet::new(alloc);
+        markers.insert(new.marker)?;
+        self.markers.insert(new.text.clone()?, markers)?;
+        Ok(())
+    }
+
+    // Remembers a requirement, if the same one is not among them.
+    fn keep(
+        &mut self,
+        alloc: Global,
+        interner: &mut Interner,
+        looks: usize,
+        new: Member,
+    ) -> Result<(), AllocError> {
+        if self.has(&new) {
+            return Ok(());
+        }
+        self.note(alloc, &new)?;
+        if may_meet(interner, self.any, new.marker, looks) {
+            let both = overlap(interner, self.any, new.marker)?;
+            widen(interner, &mut self.two, both)?;
+        }
         widen(interner, &mut self.any, new.marker)?;
         if self.first.len() < NAMED {
             self.first.push(new)?;
@@ -156,6 +211,7 @@ fn members_of(
     alloc: Global,
     interner: &mut Interner,
     surroundings: &Surroundings<'_>,
+    looks: usize,
     group: Group,
 ) -> Result<Option<Members>, AllocError> {
     match group {
@@ -165,7 +221,7 @@ fn members_of(
                 return Ok(None);
             };
             let mut members = Members::new(alloc);
-            members.keep(interner, one)?;
+            members.keep(alloc, interner, looks, one)?;
             Ok(Some(members))
         }
     }
@@ -221,14 +277,14 @@ impl Earlier {
     ) -> Result<Option<(Members, Option<Repeat>)>, AllocError> {
         let looks = self.looks;
         let interner = &mut self.interner;
-        let Some(mut members) = members_of(alloc, interner, surroundings, group)? else {
+        let Some(mut members) = members_of(alloc, interner, surroundings, looks, group)? else {
             return Ok(None);
         };
         let Some(new) = member_of(interner, surroundings, number, text)? else {
             return Ok(None);
         };
         let repeat = members.repeat_of(interner, looks, &new);
-        members.keep(interner, new)?;
+        members.keep(alloc, interner, looks, new)?;
         Ok(Some((members, repeat)))
     }
 }

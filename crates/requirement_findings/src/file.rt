@@ -1,8 +1,7 @@
 //! The lines of a file, checked one after another.
 
 ghost use Rattle.std.specs.Prelude.{IfOk};
-ghost use Rattle.requirement_lines.specs.Variables.{value_of, replaced_lines};
-ghost use Rattle.requirement_findings.specs.Checks.{ChecksAll};
+ghost use Rattle.requirement_findings.specs.Checks.{ChecksFile};
 
 use crate::finding::{CheckLines, CheckedLine};
 use requirement_lines::{next_line, replace_variables, without_mark};
@@ -19,8 +18,7 @@ pub fn check_file<'f, C: CheckLines>(
     is_constraint: bool,
     checker: &mut C,
 ) -> Result<Vec<CheckedLine<'f>>, AllocError>
-    ensures { IfOk result (λ lines. ChecksAll C.checks checker.old
-        (replaced_lines (value_of variables.now) file.now) lines.items checker.new) }
+    ensures { IfOk result (ChecksFile C.checks checker.old checker.new variables.now file.now) }
 {
     let mut lines = Vec::new(alloc);
     let mut rest = without_mark(file);

@@ -99,8 +99,7 @@ pub trait CheckLines {
         line: &[Piece<'f>],
         is_constraint: bool,
     ) -> Result<CheckedLine<'f>, AllocError>
-        ensures { IfOk result
-            (λ checked. checks self.old (line_of line.now) checked self.new) };
+        ensures { IfOk result (λ c. checks self.old (line_of line.now) c self.new) };
 
     /// In the first state the requirement is checked as this, and the last state comes of it.
     ghost checks_text: { Self → List Character → CheckedText → Self → Type 0 };
@@ -113,8 +112,7 @@ pub trait CheckLines {
         text: &[Piece<'f>],
         origin: Origin<'_>,
     ) -> Result<CheckedText, AllocError>
-        ensures { IfOk result
-            (λ checked. checks_text self.old (line_of text.now) checked self.new) };
+        ensures { IfOk result (λ c. checks_text self.old (line_of text.now) c self.new) };
 
     /// These are the findings in the version specifiers.
     ghost finds: { List Character → List Finding → Type 0 };

@@ -1,7 +1,8 @@
 //! The metadata of a package, checked field by field.
 
-ghost use Rattle.std.specs.Prelude.{◌≡◌, ◌∷◌, [], IfOk, is_some};
+ghost use Rattle.std.specs.Prelude.{◌≡◌, IfOk, is_some};
 ghost use Rattle.requirement_findings.specs.Metadata as spec;
+ghost use Rattle.requirement_findings.specs.Metadata.{ChecksField, ChecksMetadata};
 ghost use Rattle.requirement_findings.specs.declared.name.FindingName.TheVariants.{InvalidName, RepeatedField};
 
 use crate::finding::{CheckLines, CheckedText, Finding, Origin};
@@ -138,8 +139,8 @@ fn check_field<'f, C: CheckLines>(
     seen: &mut Seen,
     checker: &mut C,
 ) -> Result<CheckedText, AllocError>
-    ensures { IfOk result (λ checked. spec.ChecksField C.checks_text C.finds field.now
-        checker.old checked checker.new) }
+    ensures { IfOk result
+        (λ c. ChecksField C.checks_text C.finds field.now checker.old c checker.new) }
 {
     let value = [field.value];
     match field.kind {
@@ -211,8 +212,8 @@ pub fn check_metadata<'f, C: CheckLines>(
     file: &'f str,
     checker: &mut C,
 ) -> Result<CheckedMetadata<'f>, AllocError>
-    ensures { IfOk result (λ checked. spec.ChecksMetadata C.checks_text C.finds file.now
-        checker.old checked checker.new) }
+    ensures { IfOk result
+        (λ c. ChecksMetadata C.checks_text C.finds file.now checker.old c checker.new) }
 {
     let headers = read_headers(alloc, file)?;
     let provided = extras_of(alloc, headers.fields.as_slice())?;

@@ -8,5 +8,5 @@ mod parts;
 mod texts;
 
 pub use crate::messages::hint_message;
-pub use crate::parts::{marker_start, url_of};
+pub use crate::parts::{marker_start, may_have_url, url_of};
 pub use crate::texts::{ExtraRequest, TextHint, extra_requests, text_hints};

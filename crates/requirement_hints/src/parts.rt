@@ -33,6 +33,13 @@ pub(crate) fn marker_of(text: &str, has_url: bool) -> &str {
     }
 }
 
+/// Returns whether a requirement that is not parsed may have a URL or be one: a character before
+/// the first `;` is one of URLs and paths, and not of specifiers.
+pub fn may_have_url(text: &str) -> bool {
+    let front = text.split_once(';').map_or(text, |halves| halves.0);
+    front.chars().any(|c| matches!(c, '@' | '/' | '\\' | ':'))
+}
+
 /// Returns the byte at which the marker of a requirement begins, if it has one. `has_url` says that
 /// the requirement has a URL or is one.
 pub fn marker_start(text: &str, has_url: bool) -> Option<usize> {

@@ -11,6 +11,10 @@ pub record Character : Type 0 where
   pub char : ℕ
   pub place : Place
 
+-- a character at a place
+abbrev pub character_at : Place → ℕ → Character
+character_at place c = record { char = c; place = place }
+
 -- how many bytes are left after so many of them
 abbrev pub left_after : Source → ℕ → ℕ → ℕ
 left_after File to_end size = to_end - size
@@ -26,6 +30,10 @@ abbrev pub characters_at : Place → List ℕ → List Character
 characters_at place [] = []
 characters_at place (c ∷ cs) =
     record { char = c; place = place } ∷ characters_at (after place (len_utf8 c)) cs
+
+-- the place after the last character of a file
+abbrev pub end_of_file : Place
+end_of_file = record { to_end = 0; source = File }
 
 -- the place of the first character of a file
 abbrev pub start_of : List ℕ → Place

@@ -1,11 +1,15 @@
 -- Logical lines, as in pip: a line that ends in a backslash is continued in the next one, unless it
 -- is a comment; comments are removed from the joined line, and white space at both ends; blank
 -- lines do not count.
-use Rattle.std.specs.Prelude.{ℕ, Bool, true, not, List, [], ◌∷◌, ◌++◌, ◌&&◌, ◌==◌, reverse, if◌then◌else◌}
+use Rattle.std.specs.Prelude.{◌≡◌, ℕ, Bool, true, not, List, [], ◌∷◌, ◌++◌, ◌&&◌, ◌==◌, reverse, Option, MatchOption, Vec, if◌then◌else◌}
+use Rattle.std.specs.Borrow.{Bor}
+use Rattle.std.specs.declared.alloc.Global.{Global}
 use Rattle.requirement_lines.specs.Character.{Character, characters}
 use Rattle.requirement_lines.specs.Ends.{skip, skip_back, begins_with}
 use Rattle.requirement_lines.specs.Physical.{physical_lines}
 use Rattle.requirement_lines.specs.Marks.{before}
+use Rattle.requirement_lines.specs.Pieces.{line_of}
+use Rattle.requirement_lines.specs.declared.pieces.Piece.{Piece}
 use Rattle.requirement_lines.specs.declared.sets.CharacterSet.TheVariants.{Space, Backslash}
 use Rattle.requirement_lines.specs.declared.sets.Mark.TheVariants.{Comment}
 
@@ -51,6 +55,17 @@ trimmed_lines (line ∷ lines) = with_text (trimmed line) (trimmed_lines lines)
 -- the logical lines of these characters
 abbrev pub logical_lines : List Character → List (List Character)
 logical_lines ps = trimmed_lines (joined (physical_lines ps))
+
+-- the text has the logical lines of the rest, after this line with its continuations unless blank
+abbrev pub HasJoinedLine : List ℕ → List Piece → List ℕ → Type 0
+HasJoinedLine text line rest = logical_lines (characters text)
+    ≡ with_text (trimmed (line_of line)) (logical_lines (characters rest))
+
+-- the first logical line of the text, and the rest of the text, which has the others
+abbrev pub IsNextLine : List ℕ → Option (Vec Piece Global × Bor (List ℕ)) → Type 0
+IsNextLine text next = MatchOption next (logical_lines (characters text) ≡ [])
+    (λ x. logical_lines (characters text)
+    ≡ line_of x.0.items ∷ logical_lines (characters x.1.now))
 
 -- a byte order mark at the front does not belong to the text
 abbrev pub without_mark : List Character → List Character

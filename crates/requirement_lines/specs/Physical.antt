@@ -1,7 +1,7 @@
 -- Physical lines, as Python's `str.splitlines` has them: a line ends at a break, and a last line
 -- without one counts if it is not empty.
-use Rattle.std.specs.Prelude.{ℕ, Bool, List, [], ◌∷◌, ◌||◌, ◌&&◌, ◌==◌, if◌then◌else◌}
-use Rattle.requirement_lines.specs.Character.{Character}
+use Rattle.std.specs.Prelude.{◌≡◌, ℕ, Bool, true, List, [], ◌∷◌, ◌||◌, ◌&&◌, ◌==◌, if◌then◌else◌}
+use Rattle.requirement_lines.specs.Character.{Character, characters}
 use Rattle.requirement_lines.specs.Ends.{begins_with}
 
 -- line feed, vertical tab, form feed, carriage return, three separators, NEL, and U+2028 and U+2029
@@ -27,3 +27,13 @@ broken_lines (p ∷ ps) =
 
 abbrev pub physical_lines : List Character → List (List Character)
 physical_lines ps = broken_lines (single_breaks ps)
+
+-- a break ends a line, and the rest after it has the other lines
+abbrev pub EndsAtBreak : ℕ → List Character → List Character → Type 0
+EndsAtBreak c after rest = (p : Character) → p.char ≡ c → is_break c ≡ true
+    → physical_lines (p ∷ after) ≡ [] ∷ physical_lines rest
+
+-- the text has this physical line, and then those of the rest
+abbrev pub HasFirstLine : List ℕ → List Character → List ℕ → Type 0
+HasFirstLine text line rest =
+    physical_lines (characters text) ≡ line ∷ physical_lines (characters rest)

@@ -33,6 +33,16 @@ abbrev pub position_in : List ℕ → ℕ → Position
 position_in file to_end =
     position_from first_position to_end (without_mark (characters file))
 
+-- the position of a place of the file, which is in its rest, counted from the front of the rest
+abbrev pub IsCountedFrom : Position → List ℕ → List ℕ → ℕ → Type 0
+IsCountedFrom here rest file to_end =
+    position_in file to_end ≡ position_from here to_end (characters rest)
+
+-- places in the rest have the same positions, counted from the front of the text or of the rest
+abbrev pub GoesOnFrom : Position → List ℕ → Position → List ℕ → Type 0
+GoesOnFrom here text there rest = (to_end : ℕ) → to_end ≤ length rest
+    → position_from here to_end (characters text) ≡ position_from there to_end (characters rest)
+
 -- `rest` is what is left of the file after a place with this position
 pub record StandsAt (file rest : List ℕ) (position : Position) : Type 0 where
   pub suffix : IsSuffix file rest

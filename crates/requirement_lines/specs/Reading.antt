@@ -1,8 +1,9 @@
 -- The state of splitting a text into words.
-use Rattle.std.specs.Prelude.{Bool, true, false, List, [], ◌∷◌, ◌++◌, map}
-use Rattle.requirement_lines.specs.Character.{Character}
+use Rattle.std.specs.Prelude.{◌≡◌, ℕ, Bool, true, false, List, [], ◌∷◌, ◌++◌, map}
+use Rattle.requirement_lines.specs.Character.{Character, character_at}
 use Rattle.requirement_lines.specs.Pieces.{line_of}
-use Rattle.requirement_lines.specs.Words.{Spelled, Parted, unclosed, parts}
+use Rattle.requirement_lines.specs.Words.{Spelled, Parted, keep, put, unclosed, parts}
+use Rattle.requirement_lines.specs.declared.pieces.Piece.{Piece}
 use Rattle.requirement_lines.specs.declared.places.Place.{Place}
 use Rattle.requirement_lines.specs.declared.quoting.Quoting.{Quoting}
 use Rattle.requirement_lines.specs.declared.quoting.Quoting.TheVariants.{Between, Bare, Escaped, Single, Double, DoubleEscaped}
@@ -19,6 +20,16 @@ spelled_of word = record { place = word.place; characters = line_of word.pieces.
 abbrev pub split_of : Words → Parted
 split_of (All found) = parts [] (map spelled_of found.items)
 split_of (Unclosed place) = unclosed place
+
+-- the current word is complete: it is one more of the words
+abbrev pub CompletesWord : Reading → Reading → Type 0
+CompletesWord old new = map spelled_of new.words.items ≡ map spelled_of old.words.items
+    ++ (record { place = old.place; characters = line_of old.pieces.items } ∷ [])
+
+-- the current word has one more character, if that is kept
+abbrev pub AddsKept : Bool → ℕ → Piece → Reading → Reading → Type 0
+AddsKept kept c piece old new = line_of new.pieces.items
+    ≡ line_of old.pieces.items ++ keep kept (character_at piece.place c) []
 
 -- a word is not complete
 abbrev pub goes_on : Quoting → Bool
@@ -53,3 +64,8 @@ abbrev pub resumed : Reading → Parted → Parted
 resumed reading split =
     resume reading.inside (map spelled_of reading.words.items) reading.place
     (line_of reading.pieces.items) split
+
+-- the new state is the old one after a character
+abbrev pub TakesOne : Step → Bool → ℕ → Piece → Reading → Reading → Type 0
+TakesOne now kept c piece old new = (rest : Parted)
+    → resumed old (put now kept (character_at piece.place c) rest) ≡ resumed new rest

@@ -1,10 +1,14 @@
 -- What is reported of the requirements of a file: of each line in turn, by a judge who says which
 -- findings a text has.
-use Rattle.std.specs.Prelude.{◌≡◌, ◌≢◌, ℕ, ◌-◌, nat_lt, true, List, [], ◌∷◌, map, Option, None, Some, encode_utf8_all, if◌then◌else◌}
+use Rattle.std.specs.Prelude.{◌≡◌, ◌≢◌, ℕ, ◌-◌, nat_lt, true, List, [], ◌∷◌, map, Option, None, Some, option_map, encode_utf8_all, String, Vec, if◌then◌else◌}
 use Rattle.std.specs.Char.{len_utf8}
+use Rattle.std.specs.BTreeMap.{BTreeMap}
+use Rattle.std.specs.declared.alloc.Global.{Global}
 use Rattle.requirement_lines.specs.Character.{Character, after}
 use Rattle.requirement_lines.specs.Marks.{before}
 use Rattle.requirement_lines.specs.Pieces.{line_of}
+use Rattle.requirement_lines.specs.Variables.{replaced_lines, value_of}
+use Rattle.requirement_lines.specs.declared.pieces.Piece.{Piece}
 use Rattle.requirement_lines.specs.declared.places.Place.{Place}
 use Rattle.requirement_lines.specs.declared.sets.Mark.TheVariants.{Options}
 use Rattle.requirement_lines.specs.declared.reports.LineReport.{LineReport}
@@ -43,6 +47,11 @@ module _ {State Finding : Type 0} (Finds : State → List ℕ → List Finding �
       × (requirement_of line ≢ [])
       × Finds old (text_of (requirement_of line)) report.findings new
 
+  -- the same of a line in pieces
+  abbrev pub ReportsPieces : State → List Piece → Option (LineReport Finding) → State → Type 0
+  ReportsPieces old line report new =
+      ReportsLine old (line_of line) (option_map report_of report) new
+
   -- from the state `old` this is reported of the lines, one by one and in their order, and the
   -- state is `new` then
   pub data Reports : State → List (List Character) → List (Report Finding) → State → Type 0 where
@@ -58,3 +67,9 @@ module _ {State Finding : Type 0} (Finds : State → List ℕ → List Finding �
         → Finds old (text_of (requirement_of line)) first.findings middle
         → Reports middle lines reports new
         → Reports old (line ∷ lines) (first ∷ reports) new
+
+  -- the same of the lines of a file, with the values of a table in place of variables
+  abbrev pub ReportsFile : {A : Type 0} → State → State → BTreeMap (String A) (String A) → List ℕ
+      → Vec (LineReport Finding) Global → Type 0
+  ReportsFile old new variables text reports =
+      Reports old (replaced_lines (value_of variables) text) (map report_of reports.items) new

@@ -1,10 +1,14 @@
 -- Variables of a line, such as `${NAME}`, and the line with their values. A variable is replaced
 -- wherever it is, and a value is not expanded again.
-use Rattle.std.specs.Prelude.{ℕ, Bool, true, false, not, ◌||◌, ◌==◌, List, [], ◌∷◌, ◌++◌, Option, None, Some, is_some, map, option_map, option_and_then, encode_utf8_all, String, string_bytes, if◌then◌else◌}
+use Rattle.std.specs.Prelude.{◌≡◌, ℕ, Bool, true, false, not, ◌||◌, ◌==◌, List, [], ◌∷◌, ◌++◌, Option, None, Some, is_some, map, option_map, option_and_then, encode_utf8_all, String, string_bytes, Vec, if◌then◌else◌}
 use Rattle.std.specs.Char.{is_ascii_digit, is_ascii_uppercase}
 use Rattle.std.specs.Str.{chars}
 use Rattle.std.specs.BTreeMap.{BTreeMap, get_by_text}
-use Rattle.requirement_lines.specs.Character.{Character, characters_at}
+use Rattle.std.specs.Borrow.{Bor}
+use Rattle.std.specs.declared.alloc.Global.{Global}
+use Rattle.requirement_lines.specs.Character.{Character, character_at, characters_at}
+use Rattle.requirement_lines.specs.Pieces.{characters_of, line_of}
+use Rattle.requirement_lines.specs.declared.pieces.Piece.{Piece}
 use Rattle.requirement_lines.specs.Logical.{lines_of_file}
 use Rattle.requirement_lines.specs.declared.places.Place.{Place}
 use Rattle.requirement_lines.specs.declared.places.Source.TheVariants.{Variable}
@@ -61,6 +65,31 @@ replaced value_of false (p ∷ ps) = in_place_of p (value_at value_of (p ∷ ps)
 abbrev pub value_of : {A : Type 0} → BTreeMap (String A) (String A) → List ℕ → Option (List ℕ)
 value_of variables name =
     option_and_then (λ value. not_empty (string_bytes value)) (get_by_text variables name)
+
+-- the name of a variable after its `$`
+abbrev pub IsBracedName : {A : Type 0} → List Character → Option (String A) → Type 0
+IsBracedName rest name =
+    option_map string_bytes name ≡ option_map encode_utf8_all (braced_name rest)
+
+-- the value of the variable that begins with this character, before the rest of a line
+abbrev pub IsValueAfter : {A : Type 0} → BTreeMap (String A) (String A) → ℕ → Piece → List Piece
+    → Option (Bor (List ℕ)) → Type 0
+IsValueAfter variables c after others value = (place : Place) → option_map (λ v. v.now) value
+    ≡ value_at (value_of variables)
+    (character_at place c ∷ (characters_of after ++ line_of others))
+
+-- The line made of what was kept, and of the rest with its values, stays the same as the piece is
+-- read: the rest is the piece and the others before, and the others after.
+abbrev pub FillsIn : {A : Type 0} → BTreeMap (String A) (String A) → Bool → Piece → List Piece
+    → Vec Piece Global → Vec Piece Global → Bool → Type 0
+FillsIn variables inside piece others old new still = line_of old.items
+    ++ replaced (value_of variables) inside (characters_of piece ++ line_of others)
+    ≡ line_of new.items ++ replaced (value_of variables) still (line_of others)
+
+-- the line with the values of the table in place of its variables
+abbrev pub with_values : {A : Type 0} → BTreeMap (String A) (String A) → List Character
+    → List Character
+with_values variables line = replaced (value_of variables) false line
 
 -- the logical lines of a file, with values in place of variables
 abbrev pub replaced_lines : (List ℕ → Option (List ℕ)) → List ℕ → List (List Character)

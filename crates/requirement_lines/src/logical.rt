@@ -1,12 +1,13 @@
 //! Logical lines.
 
-ghost use Rattle.std.specs.Prelude.{◌≡◌, ◌≢◌, [], ◌∷◌, ◌<◌, length, true, IfOk, OnOk, IfSome, MatchOption};
+ghost use Rattle.std.specs.Prelude.{◌≡◌, ◌≢◌, [], ◌<◌, length, true, IfOk, OnOk, IfSome};
 ghost use Rattle.pep508_text.specs.Suffix.{IsSuffix};
 ghost use Rattle.requirement_lines.specs.Character.{characters};
 ghost use Rattle.requirement_lines.specs.Pieces.{line_of};
-ghost use Rattle.requirement_lines.specs.Ends.{skip, skip_back, without_last};
+ghost use Rattle.requirement_lines.specs.Ends.{skip, without_last, LosesSpace};
 ghost use Rattle.requirement_lines.specs.Marks.{before, from_mark};
 ghost use Rattle.requirement_lines.specs.Logical as spec;
+ghost use Rattle.requirement_lines.specs.Logical.{HasJoinedLine};
 ghost use Rattle.requirement_lines.specs.declared.sets.CharacterSet.TheVariants.{Space};
 ghost use Rattle.requirement_lines.specs.declared.sets.Mark.TheVariants.{Options};
 
@@ -18,9 +19,7 @@ use std::alloc::{AllocError, Global};
 // The parts of the physical lines of the first logical line, and the rest of the text. A logical
 // line is a physical line and each one in which the one before is continued.
 fn join<'a>(alloc: Global, text: &'a str) -> Result<(Vec<Piece<'a>>, &'a str), AllocError>
-    ensures line { IfOk result (λ r. text.now ≢ [] → spec.logical_lines (characters text.now)
-        ≡ spec.with_text (spec.trimmed (line_of r.0.items))
-        (spec.logical_lines (characters r.1.now))) }
+    ensures line { IfOk result (λ r. text.now ≢ [] → HasJoinedLine text.now r.0.items r.1.now) }
     ensures shorter { IfOk result (λ r. text.now ≢ [] → length r.1.now < length text.now) }
     ensures suffix { IfOk result (λ r. IsSuffix text.now r.1.now) }
 {
@@ -100,8 +99,7 @@ fn skip_front<'a>(alloc: Global, pieces: &[Piece<'a>]) -> Result<Vec<Piece<'a>>,
 
 // Takes white space off the back.
 fn skip_end(pieces: &mut Vec<Piece<'_>>) -> Result<(), AllocError>
-    ensures line { OnOk result
-        (line_of pieces.new.items ≡ skip_back Space (line_of pieces.old.items)) }
+    ensures line { OnOk result (LosesSpace (line_of pieces.old.items) (line_of pieces.new.items)) }
     ensures some { OnOk result (pieces.new.items ≢ [] → line_of pieces.new.items ≢ []) }
 {
     while let Some(last) = pieces.pop() {
@@ -146,10 +144,7 @@ pub fn next_line<'a>(
     alloc: Global,
     text: &'a str,
 ) -> Result<Option<(Vec<Piece<'a>>, &'a str)>, AllocError>
-    ensures line { IfOk result (λ r. MatchOption r
-        (spec.logical_lines (characters text.now) ≡ [])
-        (λ x. spec.logical_lines (characters text.now)
-        ≡ line_of x.0.items ∷ spec.logical_lines (characters x.1.now))) }
+    ensures line { IfOk result (spec.IsNextLine text.now) }
     ensures shorter { IfOk result (λ r. IfSome r (λ x. length x.1.now < length text.now)) }
     ensures suffix { IfOk result (λ r. IfSome r (λ x. IsSuffix text.now x.1.now)) }
 {

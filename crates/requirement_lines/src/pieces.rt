@@ -1,15 +1,15 @@
 //! Pieces of lines, with their places in the file.
 
-ghost use Rattle.std.specs.Prelude.{◌≡◌, ◌≢◌, ◌↔◌, IsTrue, encode_utf8_all, map, ◌∷◌, ◌++◌, [], ◌<◌, ◌≤◌, length, reverse, true, IfSome, MatchOption};
+ghost use Rattle.std.specs.Prelude.{◌≡◌, ◌≢◌, ◌↔◌, IsTrue, encode_utf8_all, ◌++◌, [], ◌<◌, ◌≤◌, length, reverse, IfSome, MatchOption};
 ghost use Rattle.std.specs.Str.{chars};
 ghost use Rattle.pep508_text.specs.Suffix.{IsSuffix};
-ghost use Rattle.requirement_lines.specs.Character.{Character, characters, start_of};
-ghost use Rattle.requirement_lines.specs.Pieces.{IsEnd, characters_of};
+ghost use Rattle.requirement_lines.specs.Character.{characters, start_of};
+ghost use Rattle.requirement_lines.specs.Pieces.{HasFirst, HasLast, HasNoCharacter, IsEnd, IsMadeOf, characters_of};
 ghost use Rattle.requirement_lines.specs.Ends as ends;
 ghost use Rattle.requirement_lines.specs.Marks as marks;
-ghost use Rattle.requirement_lines.specs.Physical as physical;
+ghost use Rattle.requirement_lines.specs.Physical.{EndsAtBreak, HasFirstLine};
 ghost use Rattle.requirement_lines.specs.Logical as logical;
-ghost use Rattle.requirement_lines.specs.declared.places.Place.{Place};
+ghost use Rattle.requirement_lines.specs.Reports.{text_of};
 
 use crate::places::{Place, Source};
 use crate::sets::{CharacterSet, Mark, is_break};
@@ -58,8 +58,7 @@ impl<'a> Piece<'a> {
 
     // The bytes of the piece.
     pub(crate) fn bytes(self) -> &'a str
-        ensures { result.now
-            ≡ encode_utf8_all (map (λ (p : Character). p.char) (characters_of self.entry)) }
+        ensures { result.now ≡ text_of (characters_of self.entry) }
     {
         text_itself(self.text)
     }
@@ -73,16 +72,14 @@ impl<'a> Piece<'a> {
 
     // Whether the piece has no character.
     pub(crate) fn is_empty(self) -> bool
-        ensures { IsTrue result ↔ (characters_of self.entry ≡ []) }
+        ensures { IsTrue result ↔ HasNoCharacter self.entry }
     {
         self.first().is_none()
     }
 
     // The first character, and the rest.
     pub(crate) fn first(self) -> Option<(char, Piece<'a>)>
-        ensures characters { MatchOption result (characters_of self.entry ≡ [])
-            (λ x. characters_of self.entry
-            ≡ record { char = x.0; place = self.entry.place } ∷ characters_of x.1) }
+        ensures characters { MatchOption result (HasNoCharacter self.entry) (HasFirst self.entry) }
         ensures end { IfSome result (λ x. IsEnd self.entry x.1) }
         ensures shorter { IfSome result
             (λ x. length x.1.text.now < length self.entry.text.now) }
@@ -97,9 +94,7 @@ impl<'a> Piece<'a> {
 
     // The piece before the last character, and that character.
     pub(crate) fn last(self) -> Option<(Piece<'a>, char)>
-        ensures characters { MatchOption result (characters_of self.entry ≡ [])
-            (λ x. (place : Place) × (characters_of self.entry
-            ≡ characters_of x.0 ++ (record { char = x.1; place = place } ∷ []))) }
+        ensures characters { MatchOption result (HasNoCharacter self.entry) (HasLast self.entry) }
         ensures shorter { IfSome result
             (λ x. length x.0.text.now < length self.entry.text.now) }
     {
@@ -116,8 +111,7 @@ impl<'a> Piece<'a> {
     // The piece before this end of it.
     pub(crate) fn front(self, rest: Piece<'a>) -> Piece<'a>
         requires { IsEnd self rest }
-        ensures parts { characters_of self.entry
-            ≡ characters_of result ++ characters_of rest.entry }
+        ensures parts { IsMadeOf self.entry result rest.entry }
         ensures place { result.place ≡ self.entry.place }
     {
         Piece {
@@ -224,7 +218,7 @@ impl<'a> Piece<'a> {
 
     // Nothing, at the place of the piece.
     fn none(self) -> Piece<'a>
-        ensures { characters_of result ≡ [] }
+        ensures { HasNoCharacter result }
     {
         Piece {
             text: "",
@@ -251,9 +245,7 @@ impl<'a> Piece<'a> {
 fn after_break(c: char, after: Piece<'_>) -> Piece<'_>
     ensures end { IsEnd after.entry result }
     ensures no_longer { length result.text.now ≤ length after.entry.text.now }
-    ensures lines { (p : Character) → p.char ≡ c → physical.is_break c ≡ true
-        → physical.physical_lines (p ∷ characters_of after.entry)
-        ≡ [] ∷ physical.physical_lines (characters_of result) }
+    ensures lines { EndsAtBreak c (characters_of after.entry) (characters_of result) }
 {
     if c != '\r' {
         return after;
@@ -266,8 +258,7 @@ fn after_break(c: char, after: Piece<'_>) -> Piece<'_>
 
 /// Returns the first physical line of the text, without its line break, and the text after that.
 pub fn split_line(text: &str) -> (Piece<'_>, &str)
-    ensures lines { text.now ≢ [] → physical.physical_lines (characters text.now)
-        ≡ characters_of result.0 ∷ physical.physical_lines (characters result.1.now) }
+    ensures lines { text.now ≢ [] → HasFirstLine text.now (characters_of result.0) result.1.now }
     ensures shorter { text.now ≢ [] → length result.1.now < length text.now }
     ensures suffix { IsSuffix text.now result.1.now }
 {

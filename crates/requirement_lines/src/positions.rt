@@ -50,9 +50,7 @@ fn advance(here: Position, rest: &str, to_end: usize) -> (Position, &str)
     requires line { here.line + length rest.now < 2 ^ 64 }
     requires column { here.column + length rest.now < 2 ^ 64 }
     ensures position { result.0 ≡ spec.position_from here to_end (characters rest.now) }
-    ensures goes_on { (n : ℕ) → n ≤ length result.1.now
-        → spec.position_from here n (characters rest.now)
-        ≡ spec.position_from result.0 n (characters result.1.now) }
+    ensures goes_on { spec.GoesOnFrom here rest.now result.0 result.1.now }
     ensures suffix { IsSuffix rest.now result.1.now }
     ensures line_fits { result.0.line + length result.1.now ≤ here.line + length rest.now }
     ensures column_fits { result.0.column + length result.1.now ≤ here.column + length rest.now }
@@ -74,8 +72,7 @@ fn advance(here: Position, rest: &str, to_end: usize) -> (Position, &str)
 fn start<'a>(file: &'a str, rest: &'a str, last: Position, to_end: usize) -> (Position, &'a str)
     requires { spec.StandsAt file.now rest.now last }
     ensures stands { spec.StandsAt file.now result.1.now result.0 }
-    ensures asked { spec.position_in file.now to_end
-        ≡ spec.position_from result.0 to_end (characters result.1.now) }
+    ensures asked { spec.IsCountedFrom result.0 result.1.now file.now to_end }
 {
     if to_end <= rest.len() {
         (last, rest)

@@ -1,11 +1,10 @@
 //! Findings in the requirements of a file.
 
-ghost use Rattle.std.specs.Prelude.{◌≡◌, ◌≢◌, [], ◌∷◌, ◌++◌, ℕ, List, IfOk, IfNone, map, string_bytes};
-ghost use Rattle.std.specs.Option.{option_map};
+ghost use Rattle.std.specs.Prelude.{◌≡◌, ℕ, List, IfOk, IfNone, string_bytes};
+ghost use Rattle.requirement_lines.specs.Character.{end_of_file};
 ghost use Rattle.requirement_lines.specs.Pieces.{line_of};
-ghost use Rattle.requirement_lines.specs.Variables.{value_of, replaced_lines};
 ghost use Rattle.requirement_lines.specs.Reports as spec;
-ghost use Rattle.requirement_lines.specs.declared.places.Source.TheVariants.{File};
+ghost use Rattle.requirement_lines.specs.Reports.{ReportsFile, ReportsPieces};
 
 use crate::logical::{cut_line, next_line, without_mark};
 use crate::pieces::Piece;
@@ -40,8 +39,7 @@ pub struct LineReport<'a, F: Drop> {
 /// Returns the place of this byte of the line's text. After the last byte that is where the line
 /// ends.
 pub fn place_at(pieces: &[Piece<'_>], at: usize) -> Place
-    ensures { result
-        ≡ spec.place_at (record { to_end = 0; source = File }) (line_of pieces.now) at }
+    ensures { result ≡ spec.place_at end_of_file (line_of pieces.now) at }
 {
     let mut end = Place {
         to_end: 0,
@@ -82,8 +80,7 @@ pub fn check_line<'a, J: Judge>(
     judge: &mut J,
 ) -> Result<Option<LineReport<'a, J::Finding>>, AllocError>
     ensures none { IfOk result (λ r. IfNone r (judge.new ≡ judge.old)) }
-    ensures reported { IfOk result (λ r. spec.ReportsLine J.finds judge.old (line_of line.now)
-        (option_map spec.report_of r) judge.new) }
+    ensures reported { IfOk result (λ r. ReportsPieces J.finds judge.old line.now r judge.new) }
 {
     let requirement = cut_line(alloc, line, Mark::Options)?;
     let owned = text_of(alloc, requirement.as_slice())?;
@@ -106,9 +103,7 @@ pub fn check_text<'a, J: Judge>(
     variables: &'a BTreeMap<String, String>,
     judge: &mut J,
 ) -> Result<Vec<LineReport<'a, J::Finding>>, AllocError>
-    ensures { IfOk result (λ reports. spec.Reports J.finds judge.old
-        (replaced_lines (value_of variables.now) text.now)
-        (map spec.report_of reports.items) judge.new) }
+    ensures { IfOk result (ReportsFile J.finds judge.old judge.new variables.now text.now) }
 {
     let mut reports = Vec::new(alloc);
     let mut rest = without_mark(text);

@@ -1,8 +1,8 @@
 //! The rest of a line that is read character by character.
 
-ghost use Rattle.std.specs.Prelude.{◌≡◌, [], List, IfOk, MatchOption};
+ghost use Rattle.std.specs.Prelude.{◌≡◌, List, IfOk};
 ghost use Rattle.requirement_lines.specs.Pieces.{line_of};
-ghost use Rattle.requirement_lines.specs.Rest.{rest_of, BeginsWith};
+ghost use Rattle.requirement_lines.specs.Rest.{rest_of, IsNextCharacter};
 ghost use Rattle.requirement_lines.specs.declared.pieces.Piece.{Piece};
 
 use crate::pieces::Piece;
@@ -28,8 +28,7 @@ pub fn whole_line<'a>() -> Rest<'a>
 /// Returns the first character of the rest, also as a piece by itself, and the rest after it.
 /// `None` at the end of the line.
 pub fn next_character<'a>(line: &[Piece<'a>], rest: Rest<'a>) -> Option<(char, Piece<'a>, Rest<'a>)>
-    ensures { MatchOption result (rest_of line.now rest.entry ≡ [])
-        (BeginsWith line.now rest.entry) }
+    ensures { IsNextCharacter line.now rest.entry result }
 {
     if let Some((c, piece)) = rest.piece.first() {
         let after = Rest {

@@ -1,11 +1,11 @@
 //! The words of the options of a line.
 
-ghost use Rattle.std.specs.Prelude.{◌≡◌, ◌∷◌, [], IfOk};
+ghost use Rattle.std.specs.Prelude.{◌≡◌, IfOk};
+ghost use Rattle.requirement_lines.specs.Character.{end_of_file};
 ghost use Rattle.requirement_lines.specs.Pieces.{line_of};
 ghost use Rattle.requirement_lines.specs.Rest.{rest_of};
 ghost use Rattle.requirement_lines.specs.Words as spec;
 ghost use Rattle.requirement_lines.specs.Reading as state;
-ghost use Rattle.requirement_lines.specs.declared.places.Source.TheVariants.{File};
 
 use crate::pieces::Piece;
 use crate::places::{Place, Source};
@@ -42,10 +42,11 @@ pub(crate) struct Reading<'a> {
 }
 
 impl<'a> Reading<'a> {
-    ghost use Rattle.std.specs.Prelude.{◌≡◌, ◌++◌, ◌∷◌, [], true, false, OnOk, map};
-    ghost use Rattle.requirement_lines.specs.Character.{Character};
+    ghost use Rattle.std.specs.Prelude.{◌≡◌, ◌∷◌, [], true, false, OnOk};
+    ghost use Rattle.requirement_lines.specs.Character.{character_at};
     ghost use Rattle.requirement_lines.specs.Pieces.{characters_of, line_of};
-    ghost use Rattle.requirement_lines.specs.Words as spec;
+    ghost use Rattle.requirement_lines.specs.Words.{ended};
+    ghost use Rattle.requirement_lines.specs.Reading.{AddsKept, CompletesWord, TakesOne, resumed};
     ghost use Rattle.requirement_lines.specs.Reading as state;
 
     // The state before the first character.
@@ -63,10 +64,7 @@ impl<'a> Reading<'a> {
 
     // Ends the current word.
     fn end_word(&mut self, alloc: Global) -> Result<(), AllocError>
-        ensures words { OnOk result (map state.spelled_of self.new.words.items
-            ≡ map state.spelled_of self.old.words.items
-            ++ (record { place = self.old.place; characters = line_of self.old.pieces.items }
-            ∷ [])) }
+        ensures words { OnOk result (CompletesWord self.old self.new) }
         ensures inside { OnOk result (self.new.inside ≡ false) }
     {
         let pieces = mem::replace(&mut self.pieces, Vec::new(alloc));
@@ -80,10 +78,8 @@ impl<'a> Reading<'a> {
 
     // Appends the character to the current word, if it is kept.
     fn keep(&mut self, kept: bool, c: char, character: Piece<'a>) -> Result<(), AllocError>
-        requires { characters_of character ≡ record { char = c; place = character.place } ∷ [] }
-        ensures pieces { OnOk result (line_of self.new.pieces.items
-            ≡ line_of self.old.pieces.items
-            ++ spec.keep kept (record { char = c; place = character.entry.place }) []) }
+        requires { characters_of character ≡ character_at character.place c ∷ [] }
+        ensures pieces { OnOk result (AddsKept kept c character.entry self.old self.new) }
         ensures words { self.new.words ≡ self.old.words }
         ensures inside { self.new.inside ≡ self.old.inside }
         ensures place { self.new.place ≡ self.old.place }
@@ -115,13 +111,10 @@ impl<'a> Reading<'a> {
         c: char,
         character: Piece<'a>,
     ) -> Result<(), AllocError>
-        requires one { characters_of character
-            ≡ record { char = c; place = character.place } ∷ [] }
+        requires one { characters_of character ≡ character_at character.place c ∷ [] }
         requires before { self.old.inside ≡ state.inside_before now }
         ensures after { OnOk result (self.new.inside ≡ state.inside_after now) }
-        ensures resumed { OnOk result ((s : spec.Parted) → state.resumed self.old
-            (spec.put now kept (record { char = c; place = character.entry.place }) s)
-            ≡ state.resumed self.new s) }
+        ensures resumed { OnOk result (TakesOne now kept c character.entry self.old self.new) }
     {
         match now {
             Step::Pass => Ok(()),
@@ -142,8 +135,7 @@ impl<'a> Reading<'a> {
         opened: Place,
     ) -> Result<Words<'a>, AllocError>
         requires { self.inside ≡ state.goes_on quoting }
-        ensures { IfOk result (λ words. state.split_of words
-            ≡ state.resumed self.entry (spec.ended quoting opened)) }
+        ensures { IfOk result (λ w. state.split_of w ≡ resumed self.entry (ended quoting opened)) }
     {
         match quoting {
             Quoting::Between => Ok(Words::All(self.words)),
@@ -170,8 +162,7 @@ fn can_be_taken<'a>(line: &[Piece<'a>], rest: Rest<'a>) -> bool
 /// separates words, except in quotes. A backslash escapes the next character; in double quotes only
 /// a double quote or a backslash.
 pub fn split_words<'a>(alloc: Global, line: &[Piece<'a>]) -> Result<Words<'a>, AllocError>
-    ensures { IfOk result (λ words. state.split_of words
-        ≡ spec.words_of (record { to_end = 0; source = File }) (line_of line.now)) }
+    ensures { IfOk result (λ w. state.split_of w ≡ spec.words_of end_of_file (line_of line.now)) }
 {
     let mut opened = Place {
         to_end: 0,

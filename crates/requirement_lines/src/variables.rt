@@ -1,10 +1,10 @@
 //! Variables of a line.
 
-ghost use Rattle.std.specs.Prelude.{◌≡◌, ◌++◌, ◌∷◌, [], length, false, map, option_map, option_and_then, IfOk, IfSome, MatchOption, encode_utf8_all, string_bytes};
+ghost use Rattle.std.specs.Prelude.{◌≡◌, option_map, IfOk};
 ghost use Rattle.requirement_lines.specs.Pieces.{characters_of, line_of};
 ghost use Rattle.requirement_lines.specs.Variables as spec;
+ghost use Rattle.requirement_lines.specs.Variables.{FillsIn, IsValueAfter, with_values};
 ghost use Rattle.requirement_lines.specs.Rest.{rest_of};
-ghost use Rattle.requirement_lines.specs.declared.places.Place.{Place};
 
 use crate::pieces::Piece;
 use crate::places::{Place, Source};
@@ -24,8 +24,7 @@ fn braced_name<'a>(
     line: &[Piece<'a>],
     rest: Rest<'a>,
 ) -> Result<Option<String>, AllocError>
-    ensures { IfOk result (λ name. option_map string_bytes name
-        ≡ option_map encode_utf8_all (spec.braced_name (rest_of line.now rest.entry))) }
+    ensures { IfOk result (spec.IsBracedName (rest_of line.now rest.entry)) }
 {
     let Some(('{', _, mut inside)) = next_character(line, rest) else {
         return Ok(None);
@@ -64,9 +63,7 @@ fn value_after<'a>(
     others: &[Piece<'a>],
     variables: &'a BTreeMap<String, String>,
 ) -> Result<Option<&'a str>, AllocError>
-    ensures { IfOk result (λ value. (place : Place) → option_map (λ v. v.now) value
-        ≡ spec.value_at (spec.value_of variables.now) (record { char = c; place = place }
-        ∷ (characters_of after.entry ++ line_of others.now))) }
+    ensures { IfOk result (IsValueAfter variables.now c after.entry others.now) }
 {
     if c != '$' {
         return Ok(None);
@@ -104,11 +101,7 @@ fn replace_piece<'a>(
     inside: bool,
     variables: &'a BTreeMap<String, String>,
 ) -> Result<bool, AllocError>
-    ensures { IfOk result (λ still. line_of kept.old.items
-        ++ spec.replaced (spec.value_of variables.now) inside
-        (characters_of piece.entry ++ line_of others.now)
-        ≡ line_of kept.new.items
-        ++ spec.replaced (spec.value_of variables.now) still (line_of others.now)) }
+    ensures { IfOk result (FillsIn variables.now inside piece.entry others.now kept.old kept.new) }
 {
     let mut start = piece;
     let mut rest = piece;
@@ -140,8 +133,7 @@ pub fn replace_variables<'a>(
     line: &[Piece<'a>],
     variables: &'a BTreeMap<String, String>,
 ) -> Result<Vec<Piece<'a>>, AllocError>
-    ensures { IfOk result (λ replaced. line_of replaced.items
-        ≡ spec.replaced (spec.value_of variables.now) false (line_of line.now)) }
+    ensures { IfOk result (λ r. line_of r.items ≡ with_values variables.now (line_of line.now)) }
 {
     let mut kept = Vec::new(alloc);
     let mut inside = false;

@@ -11,3 +11,7 @@ pub data Makes (size : ℕ) : List ℕ → List Edit → List ℕ → Type 0 whe
       → Makes size back edits new
       → Makes size (front ++ (old ++ back)) (edit ∷ edits)
       (front ++ (string_bytes edit.text ++ new))
+
+-- the same of a whole file
+abbrev pub MakesFile : List ℕ → List Edit → List ℕ → Type 0
+MakesFile file edits new = Makes (length file) file edits new

@@ -1,7 +1,7 @@
 //! Edits of a text, and the text that they make.
 
-ghost use Rattle.std.specs.Prelude.{◌≡◌, length, IfOk, IfSome};
-ghost use Rattle.requirement_rewriting.specs.Applying.{Makes};
+ghost use Rattle.std.specs.Prelude.{IfOk, IfSome};
+ghost use Rattle.requirement_rewriting.specs.Applying.{MakesFile};
 
 use std::alloc::{AllocError, Global};
 
@@ -23,8 +23,7 @@ pub fn apply_edits(
     bytes: &[u8],
     edits: &[Edit],
 ) -> Result<Option<Vec<u8>>, AllocError>
-    ensures { IfOk result (λ made. IfSome made
-        (λ new. Makes (length bytes.now) bytes.now edits.now new.items)) }
+    ensures { IfOk result (λ made. IfSome made (λ v. MakesFile bytes.now edits.now v.items)) }
 {
     let mut new = Vec::new(alloc);
     let mut at = 0usize;

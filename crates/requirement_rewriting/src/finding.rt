@@ -1,10 +1,8 @@
 //! Finding the edits of a file.
 
-ghost use Rattle.std.specs.Prelude.{◌≡◌, ◌++◌, ℕ, List, Option, IfOk, length, string_bytes};
-ghost use Rattle.std.specs.Option.{option_map, option_to_list};
+ghost use Rattle.std.specs.Prelude.{◌≡◌, ◌++◌, ℕ, List, Option, IfOk, string_bytes};
 ghost use Rattle.pep508_text.specs.Suffix.{IsSuffix};
-ghost use Rattle.requirement_lines.specs.Pieces.{line_of};
-ghost use Rattle.requirement_rewriting.specs.Finding.{EditsLine, EditsFile};
+ghost use Rattle.requirement_rewriting.specs.Finding.{EditsFile, EditsPieces, AnswersWith};
 
 use crate::applying::Edit;
 use crate::lines::{LineText, is_line_alone};
@@ -25,8 +23,7 @@ pub trait Rewriter {
         requirement: &str,
         start: usize,
     ) -> Result<Option<String>, AllocError>
-        ensures { IfOk result (λ new. answers self.old requirement.now
-            (option_map string_bytes new) self.new) };
+        ensures { IfOk result (λ new. AnswersWith answers self.old requirement.now new self.new) };
 }
 
 // The text with this front, this part and this back.
@@ -51,8 +48,8 @@ fn edit_line<W: Rewriter>(
     rewriter: &mut W,
 ) -> Result<Option<Edit>, AllocError>
     requires { IsSuffix text.now rest.now }
-    ensures { IfOk result (λ edit. EditsLine W.answers size (line_of line.now) text.now rest.now
-        rewriter.old (option_to_list edit) rewriter.new) }
+    ensures { IfOk result
+        (EditsPieces W.answers size line.now text.now rest.now rewriter.old rewriter.new) }
 {
     let old = LineText::new(alloc, line)?;
     let requirement = old.requirement.as_str();
@@ -87,8 +84,7 @@ pub fn find_edits<W: Rewriter>(
     file: &str,
     rewriter: &mut W,
 ) -> Result<Vec<Edit>, AllocError>
-    ensures { IfOk result (λ edits. EditsFile W.answers file.now rewriter.old edits.items
-        rewriter.new) }
+    ensures { IfOk result (λ v. EditsFile W.answers file.now rewriter.old v.items rewriter.new) }
 {
     let mut edits = Vec::new(alloc);
     let mut rest = without_mark(file);

@@ -1,10 +1,8 @@
 //! The requirements of lines, as texts.
 
-ghost use Rattle.std.specs.Prelude.{◌≡◌, ◌++◌, List, ℕ, true, IfOk, string_bytes};
-ghost use Rattle.requirement_lines.specs.Pieces.{line_of};
-ghost use Rattle.requirement_lines.specs.Reports.{text_of};
+ghost use Rattle.std.specs.Prelude.{◌≡◌, true, false, IfOk, string_bytes};
 ghost use Rattle.requirement_rewriting.specs.Finding as spec;
-ghost use Rattle.requirement_rewriting.specs.Finding.{IsLineAlone};
+ghost use Rattle.requirement_rewriting.specs.Finding.{IsAloneWith};
 
 use crate::texts::bytes_from;
 use requirement_lines::{Mark, Piece, cut_line, next_line, text_of};
@@ -20,10 +18,8 @@ pub(crate) struct LineText {
 impl LineText {
     // The texts of a line.
     pub(crate) fn new(alloc: Global, line: &[Piece<'_>]) -> Result<LineText, AllocError>
-        ensures requirement { IfOk result
-            (λ text. string_bytes text.requirement ≡ spec.requirement_text (line_of line.now)) }
-        ensures whole { IfOk result
-            (λ text. string_bytes text.whole ≡ text_of (line_of line.now)) }
+        ensures requirement { IfOk result (spec.HasRequirement line.now) }
+        ensures whole { IfOk result (spec.HasWhole line.now) }
     {
         let front = cut_line(alloc, line, Mark::Options)?;
         let text = text_of(alloc, front.as_slice())?;
@@ -45,6 +41,7 @@ impl LineText {
         ensures requirement { result ≡ true
             → string_bytes self.now.requirement ≡ requirement.now }
         ensures options { result ≡ true → spec.options_in self.now ≡ spec.options_in other.now }
+        ensures unlike { result ≡ false → spec.IsUnlike self.now requirement.now other.now }
     {
         self.requirement.as_str() == requirement && self.options() == other.options()
     }
@@ -57,13 +54,13 @@ pub(crate) fn is_line_alone(
     requirement: &str,
     old: &LineText,
 ) -> Result<bool, AllocError>
-    ensures { IfOk result (λ is_alone. is_alone ≡ true
-        → IsLineAlone text.now requirement.now (spec.options_in old.now)) }
+    ensures alone { IfOk result (λ b. b ≡ true → IsAloneWith text.now requirement.now old.now) }
+    ensures other { IfOk result (λ b. b ≡ false → ¬ IsAloneWith text.now requirement.now old.now) }
 {
     let Some((line, rest)) = next_line(alloc, text)? else {
         return Ok(false);
     };
-    if !rest.is_empty() {
+    if next_line(alloc, rest)?.is_some() {
         return Ok(false);
     }
     let new = LineText::new(alloc, line.as_slice())?;

@@ -1,7 +1,6 @@
 //! Parts of texts.
 
 ghost use Rattle.std.specs.Prelude.{◌≡◌, ◌≢◌, ◌++◌, ◌-◌, ℕ, List, drop, length, IfNone, IfSome};
-ghost use Rattle.std.specs.Str.{IsCharBoundary};
 ghost use Rattle.pep508_text.specs.Suffix.{IsSuffix};
 ghost use Rattle.requirement_rewriting.specs.Finding.{Lacks};
 
@@ -28,6 +27,7 @@ pub(crate) fn split_around<'a>(
     part: &str,
 ) -> Option<(&'a str, &'a str)>
     ensures found { IfSome result (λ x. text.now ≡ x.0.now ++ (part.now ++ x.1.now)) }
+    ensures start { IfSome result (λ x. length x.0.now ≡ start) }
     ensures lacking { IfNone result (Lacks text.now part.now start) }
 {
     let (front, rest) = text.split_at_checked(start)?;

@@ -16,11 +16,13 @@ use requirement_lines::Piece;
 use std::alloc::AllocError;
 
 impl<H: Host, C: CheckLines> Walk<'_, H, C> {
-    // Reports the findings of a part of a file, and lists its requirement.
+    // Reports the findings of a part of a file, and lists its requirement. Of a project the part
+    // has a key.
     pub(super) fn report_part(
         &mut self,
         reading: &mut Reading<'_>,
         part: Piece<'_>,
+        key: Option<&str>,
         findings: Vec<Finding>,
         listed: Option<&Listed>,
     ) -> Result<(), AllocError>
@@ -35,9 +37,9 @@ impl<H: Host, C: CheckLines> Walk<'_, H, C> {
         };
         let positions = &mut reading.positions;
         let marks = marks_of(self.alloc, sheet.text(), findings, None, positions)?;
-        self.report_marks(&sheet.page(), marks.as_slice(), false)?;
-        self.report_marks(&sheet.page(), marks.as_slice(), true)?;
-        self.list_line(sheet, &[part], span, listed)
+        self.report_marks(&sheet.page(), marks.as_slice(), false, key)?;
+        self.report_marks(&sheet.page(), marks.as_slice(), true, key)?;
+        self.list_line(sheet, &[part], span, key, listed)
     }
 
     // Reports the findings of a field, and lists its requirement, unless a byte of it is not UTF-8.
@@ -56,7 +58,7 @@ impl<H: Host, C: CheckLines> Walk<'_, H, C> {
             self.requirements = self.requirements.saturating_add(1);
         }
         let CheckedText { findings, listed } = checked;
-        self.report_part(reading, field.value, findings, listed.as_ref())
+        self.report_part(reading, field.value, None, findings, listed.as_ref())
     }
 
     // Processes a field of metadata, and the bytes before it from one on. Returns the byte after
@@ -97,7 +99,13 @@ impl<H: Host, C: CheckLines> Walk<'_, H, C> {
         if let Some(finding) = checked.stray {
             let mut findings = Vec::new(self.alloc);
             findings.push(finding)?;
-            self.report_part(&mut reading, Piece::whole(sheet.text()), findings, None)?;
+            self.report_part(
+                &mut reading,
+                Piece::whole(sheet.text()),
+                None,
+                findings,
+                None,
+            )?;
         }
         self.report_invalid(&mut reading, from, sheet.text().len())?;
         Ok(())

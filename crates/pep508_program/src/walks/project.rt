@@ -90,7 +90,8 @@ impl<H: Host, C: CheckLines> Walk<'_, H, C> {
                     self.requirements = self.requirements.saturating_add(1);
                 }
                 let place = piece_at(reading.sheet, report.start);
-                self.report_part(reading, place, findings, report.listed.as_ref())?;
+                let key = Some(report.key.as_str());
+                self.report_part(reading, place, key, findings, report.listed.as_ref())?;
                 self.progress.step(self.alloc, self.host)?;
                 if self.report.is_full() {
                     self.flush()?;

@@ -1,4 +1,4 @@
-use Rattle.std.proofs.Common.{◌≡◌, ◌++◌, length-drop, ◌+◌, ◌-◌, ◌≤◌, ◌∷◌, [], drop, length, sym, ap, ◌∙◌, subst, arith}
+use Rattle.std.proofs.Common.{◌≡◌, ◌++◌, length-drop, ◌+◌, ◌-◌, ◌∷◌, [], drop, length, sym, ap, ◌∙◌, subst, arith}
 use Rattle.std.proofs.Math.ListN.{drop_of_length-le}
 use Rattle.std.proofs.lemmas.List.{drop_more, take_all}
 use Rattle.requirement_rewriting.proofs.ApplyingLaws.{Making, making_more, making_ended}
