@@ -1,4 +1,4 @@
--- What a failed write may have done.
+-- What a write has done, and what a failed one may have.
 use Rattle.std.specs.Prelude.{◌≡◌, ℕ, List, ◌++◌, Option}
 use Rattle.std.specs.Io.KnownBytes.{Appends}
 
@@ -8,3 +8,12 @@ pub record AppendsBeginning (old new : Option (List ℕ)) (bytes : List ℕ) : T
   pub back : List ℕ
   pub parts : bytes ≡ front ++ back
   pub written : Appends old new front
+
+module _ {S : Type 0} (contents : S → Option (List ℕ)) where
+  -- the sink took all these bytes
+  abbrev pub TakesAll : S → S → List ℕ → Type 0
+  TakesAll old new bytes = Appends (contents old) (contents new) bytes
+
+  -- the sink took a beginning of these bytes
+  abbrev pub TakesFront : S → S → List ℕ → Type 0
+  TakesFront old new bytes = AppendsBeginning (contents old) (contents new) bytes

@@ -1,8 +1,9 @@
 -- Lines that are answered one after another. A step leads from a state by a line and
 -- a reply, both without the line feed that ends them, to a state.
-use Rattle.std.specs.Prelude.{◌≡◌, ℕ, List, [], ◌∷◌, ◌++◌, Option}
+use Rattle.std.specs.Prelude.{◌≡◌, ℕ, List, [], ◌∷◌, ◌++◌, Option, Vec}
 use Rattle.std.specs.List.{flat_map}
 use Rattle.std.specs.Io.KnownBytes.{Appends, Consumes}
+use Rattle.std.specs.declared.alloc.Global.{Global}
 use Rattle.line_server.specs.Lines.{with_feed, WholeLines, Lines, LinesSoFar}
 
 -- from the state `old` the lines may be answered by these replies, one by one, and the state is
@@ -41,14 +42,22 @@ pub record Serves {State : Type 0} (Step : State → List ℕ → List ℕ → S
 
 module _ {State : Type 0} (Step : State → List ℕ → List ℕ → State → Type 0) where
   -- A step by this line leads from `old` to `new`, and its reply is appended to `before`.
-  abbrev pub AddsReply : State → List ℕ → State → List ℕ → List ℕ → Type 0
+  abbrev pub AddsReply : State → List ℕ → State → Vec ℕ Global → Vec ℕ Global → Type 0
   AddsReply old line new before after =
-      (reply : List ℕ) × Step old line reply new × (after ≡ before ++ reply)
+      (reply : List ℕ) × Step old line reply new × (after.items ≡ before.items ++ reply)
 
   -- The same, with the line feed that ends the reply.
-  abbrev pub AddsLine : State → List ℕ → State → List ℕ → List ℕ → Type 0
-  AddsLine old line new before after =
-      (reply : List ℕ) × Step old line reply new × (after ≡ before ++ with_feed reply)
+  abbrev pub AnswersLine : State → List ℕ → State → Vec ℕ Global → Vec ℕ Global → Type 0
+  AnswersLine old line new before after =
+      (reply : List ℕ) × Step old line reply new × (after.items ≡ before.items ++ with_feed reply)
+
+  -- Replies are appended to each line that ends in these bytes, after `held`, the beginning of the
+  -- first; then `rest` is the beginning of a line.
+  abbrev pub AnswersLines : State → Vec ℕ Global → List ℕ → State → Vec ℕ Global → Vec ℕ Global
+      → Vec ℕ Global → Type 0
+  AnswersLines old held bytes new rest before after = (output : List ℕ)
+      × Serves Step old held.items bytes output new rest.items
+      × (after.items ≡ before.items ++ output)
 
   -- the output answers each line of the input, which ends here
   pub record AnswersEachLine (old new : State) (input output : List ℕ) : Type 0 where
@@ -74,3 +83,21 @@ module _ {State : Type 0} (Step : State → List ℕ → List ℕ → State → 
 abbrev pub Exchanges : (was is had has : Option (List ℕ)) → (List ℕ → List ℕ → Type 0) → Type 0
 Exchanges was is had has P =
     (input output : List ℕ) × Consumes was is input × Appends had has output × P input output
+
+-- What a source gave and a sink took, from one state of each to another.
+module _ {State R W : Type 0} (Step : State → List ℕ → List ℕ → State → Type 0)
+    (remaining : R → Option (List ℕ)) (contents : W → Option (List ℕ)) where
+  -- each line is answered
+  abbrev pub ServesAll : State → State → R → R → W → W → Type 0
+  ServesAll old new from to had has = Exchanges (remaining from) (remaining to)
+      (contents had) (contents has) (AnswersEachLine Step old new)
+
+  -- each line with a line feed is answered
+  abbrev pub ServesWhole : State → State → R → R → W → W → Type 0
+  ServesWhole old new from to had has = Exchanges (remaining from) (remaining to)
+      (contents had) (contents has) (AnswersWholeLines Step old new)
+
+  -- a beginning of the replies was written
+  abbrev pub ServesFirst : State → R → R → W → W → Type 0
+  ServesFirst old from to had has = Exchanges (remaining from) (remaining to)
+      (contents had) (contents has) (AnswersFirstLines Step (remaining to) old)

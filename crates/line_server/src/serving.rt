@@ -1,10 +1,11 @@
 //! Answering lines as they arrive.
 
 ghost use Rattle.std.specs.Prelude.{◌≡◌, ◌≢◌, ◌++◌, [], ℕ, List, IsTrue, Err, OnOk, OnErr};
-ghost use Rattle.std.specs.Io.KnownBytes.{Appends, IsAtEnd};
+ghost use Rattle.std.specs.Io.KnownBytes.{IsAtEnd};
 ghost use Rattle.line_server.specs.Lines.{HasNoFeed};
-ghost use Rattle.line_server.specs.Serving.{Serves, AddsReply, AddsLine, AnswersEachLine, AnswersWholeLines, AnswersFirstLines, Exchanges};
-ghost use Rattle.line_server.specs.Ports.{AppendsBeginning};
+ghost use Rattle.line_server.specs.Serving.{AddsReply, AnswersLine, AnswersLines, ServesAll, ServesFirst, ServesWhole};
+ghost use Rattle.line_server.specs.Ports.{TakesAll, TakesFront};
+ghost use Rattle.line_server.specs.declared.fault.ServeFault.TheVariants.{Input, Output, Usage};
 
 use crate::fault::ServeFault;
 use crate::sink::{Sink, write_all};
@@ -24,8 +25,7 @@ pub trait Answer {
     /// # Errors
     /// - `AllocError` when memory for the line's words or its reply runs out.
     fn answer(&mut self, line: &[u8], replies: &mut Vec<u8>) -> Result<(), AllocError>
-        ensures { OnOk result
-            (AddsReply step self.old line.now self.new replies.old.items replies.new.items) };
+        ensures { OnOk result (AddsReply step self.old line.now self.new replies.old replies.new) };
 }
 
 // Answers a line, and ends the reply.
@@ -35,7 +35,7 @@ fn answer_line<A: Answer>(
     replies: &mut Vec<u8>,
 ) -> Result<(), AllocError>
     ensures { OnOk result
-        (AddsLine A.step answerer.old line.now answerer.new replies.old.items replies.new.items) }
+        (AnswersLine A.step answerer.old line.now answerer.new replies.old replies.new) }
 {
     answerer.answer(line, replies)?;
     replies.push(b'\n')?;
@@ -50,9 +50,8 @@ fn end_line<A: Answer>(
     replies: &mut Vec<u8>,
 ) -> Result<(), AllocError>
     ensures held { OnOk result (held.new.items ≡ []) }
-    ensures reply { OnOk result
-        (AddsLine A.step answerer.old (held.old.items ++ end.now) answerer.new
-        replies.old.items replies.new.items) }
+    ensures reply { OnOk result (AnswersLine A.step answerer.old (held.old.items ++ end.now)
+        answerer.new replies.old replies.new) }
 {
     let begun = held.as_slice();
     if begun.is_empty() {
@@ -72,10 +71,8 @@ fn take_bytes<A: Answer>(
     replies: &mut Vec<u8>,
 ) -> Result<(), AllocError>
     requires { HasNoFeed held.old.items }
-    ensures { OnOk result
-        ((output : List ℕ)
-        × Serves A.step answerer.old held.old.items bytes.now output answerer.new held.new.items
-        × (replies.new.items ≡ replies.old.items ++ output)) }
+    ensures { OnOk result (AnswersLines A.step answerer.old held.old bytes.now
+        answerer.new held.new replies.old replies.new) }
 {
     let mut rest = bytes;
     while let Some(end) = memchr(b'\n', rest) {
@@ -89,13 +86,11 @@ fn take_bytes<A: Answer>(
 // Writes all the replies to the sink.
 fn hand_over<W: Sink>(replies: &mut Vec<u8>, sink: &mut W) -> Result<(), ServeFault>
     ensures emptied { OnOk result (replies.new.items ≡ []) }
-    ensures all { OnOk result
-        (Appends (W.contents sink.old) (W.contents sink.new) replies.old.items) }
+    ensures all { OnOk result (TakesAll W.contents sink.old sink.new replies.old.items) }
     ensures sound { OnOk result (W.has_failed sink.new ≡ W.has_failed sink.old) }
 
-    ensures fault { OnErr result (result ≡ Err ServeFault.Output) }
-    ensures beginning { OnErr result
-        (AppendsBeginning (W.contents sink.old) (W.contents sink.new) replies.old.items) }
+    ensures fault { OnErr result (result ≡ Err Output) }
+    ensures beginning { OnErr result (TakesFront W.contents sink.old sink.new replies.old.items) }
     ensures failed { OnErr result (IsTrue (W.has_failed sink.new)) }
 {
     let Ok(()) = write_all(sink, replies.as_slice()) else {
@@ -120,27 +115,19 @@ pub fn serve_lines<A: Answer, R: Source, W: Sink>(
     sink: &mut W,
 ) -> Result<(), ServeFault>
     ensures at_end { OnOk result (IsAtEnd (R.remaining source.new)) }
-    ensures ok { OnOk result
-        (Exchanges (R.remaining source.old) (R.remaining source.new)
-        (W.contents sink.old) (W.contents sink.new)
-        (AnswersEachLine A.step answerer.old answerer.new)) }
-    ensures input { result ≡ Err ServeFault.Input →
-        Exchanges (R.remaining source.old) (R.remaining source.new)
-        (W.contents sink.old) (W.contents sink.new)
-        (AnswersWholeLines A.step answerer.old answerer.new) }
-    ensures err { OnErr result
-        (Exchanges (R.remaining source.old) (R.remaining source.new)
-        (W.contents sink.old) (W.contents sink.new)
-        (AnswersFirstLines A.step (R.remaining source.new) answerer.old)) }
+    ensures ok { OnOk result (ServesAll A.step R.remaining W.contents
+        answerer.old answerer.new source.old source.new sink.old sink.new) }
+    ensures input { result ≡ Err Input → ServesWhole A.step R.remaining W.contents
+        answerer.old answerer.new source.old source.new sink.old sink.new }
+    ensures err { OnErr result (ServesFirst A.step R.remaining W.contents
+        answerer.old source.old source.new sink.old sink.new) }
 
     // Which fault it is.
-    ensures input_failed { result ≡ Err ServeFault.Input → IsTrue (R.has_failed source.new) }
-    ensures input_sound { result ≢ Err ServeFault.Input →
-        R.has_failed source.new ≡ R.has_failed source.old }
-    ensures output_failed { result ≡ Err ServeFault.Output → IsTrue (W.has_failed sink.new) }
-    ensures output_sound { result ≢ Err ServeFault.Output →
-        W.has_failed sink.new ≡ W.has_failed sink.old }
-    ensures no_usage { result ≢ Err ServeFault.Usage }
+    ensures input_failed { result ≡ Err Input → IsTrue (R.has_failed source.new) }
+    ensures input_sound { result ≢ Err Input → R.has_failed source.new ≡ R.has_failed source.old }
+    ensures output_failed { result ≡ Err Output → IsTrue (W.has_failed sink.new) }
+    ensures output_sound { result ≢ Err Output → W.has_failed sink.new ≡ W.has_failed sink.old }
+    ensures no_usage { result ≢ Err Usage }
 {
     let mut held = Vec::new(alloc);
     let mut replies = Vec::new(alloc);

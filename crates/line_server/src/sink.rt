@@ -1,8 +1,7 @@
 //! Sinks of bytes.
 
 ghost use Rattle.std.specs.Prelude.{◌≡◌, ◌<◌, ◌≤◌, ℕ, List, Option, Bool, false, IsTrue, IfOk, OnErr, OnOk, length, take};
-ghost use Rattle.std.specs.Io.KnownBytes.{Appends};
-ghost use Rattle.line_server.specs.Ports.{AppendsBeginning};
+ghost use Rattle.line_server.specs.Ports.{TakesAll, TakesFront};
 
 use std::io::Write;
 
@@ -23,23 +22,20 @@ pub trait Sink {
     fn write(&mut self, bytes: &[u8]) -> Result<usize, WriteFault>
         ensures count { IfOk result (λ n. n ≤ length bytes.now) }
         ensures some { IfOk result (λ n. 0 < length bytes.now → 0 < n) }
-        ensures taken { IfOk result
-            (λ n. Appends (contents self.old) (contents self.new) (take n bytes.now)) }
+        ensures taken { IfOk result (λ n. TakesAll contents self.old self.new (take n bytes.now)) }
         ensures sound { OnOk result (has_failed self.new ≡ has_failed self.old) }
 
-        ensures beginning { OnErr result
-            (AppendsBeginning (contents self.old) (contents self.new) bytes.now) }
+        ensures beginning { OnErr result (TakesFront contents self.old self.new bytes.now) }
         ensures failed { OnErr result (IsTrue (has_failed self.new)) };
 }
 
 /// Writes all the bytes, in as many writes as the sink needs. If a write fails, so does this call,
 /// and a beginning of the bytes was written.
 pub fn write_all<W: Sink>(sink: &mut W, bytes: &[u8]) -> Result<(), WriteFault>
-    ensures all { OnOk result (Appends (W.contents sink.old) (W.contents sink.new) bytes.now) }
+    ensures all { OnOk result (TakesAll W.contents sink.old sink.new bytes.now) }
     ensures sound { OnOk result (W.has_failed sink.new ≡ W.has_failed sink.old) }
 
-    ensures beginning { OnErr result
-        (AppendsBeginning (W.contents sink.old) (W.contents sink.new) bytes.now) }
+    ensures beginning { OnErr result (TakesFront W.contents sink.old sink.new bytes.now) }
     ensures failed { OnErr result (IsTrue (W.has_failed sink.new)) }
 {
     let mut rest = bytes;

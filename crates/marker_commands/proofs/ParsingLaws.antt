@@ -10,12 +10,11 @@ use Rattle.marker_diagrams.specs.Id.{signed}
 use Rattle.marker_graph.specs.declared.tree.MarkerTree.{MarkerTree}
 use Rattle.marker_graph.specs.Contents.{Contents, IsHeld, IsKept, truth}
 use Rattle.pep508_markers.specs.Text.{IsTreeOf, IsRefusal}
-use Rattle.marker_answers.specs.Comparison.{ReadsAs}
 use Rattle.marker_commands.specs.declared.outcome.Outcome.{Outcome}
 use Rattle.marker_commands.specs.declared.outcome.Outcome.TheVariants.{Invalid, TooLarge, TooComplex, OutOfMemory}
 use Rattle.marker_commands.specs.declared.outcome.Reply.{Reply}
 use Rattle.marker_commands.specs.Outcome.{HasNoAnswer, IsRefusalOf, IsRefused}
-use Rattle.marker_commands.specs.Parsing.{IsTreeFor, Told, Refuses}
+use Rattle.marker_commands.specs.Parsing.{IsTreeFor, ReadsAs, Told, Refuses}
 
 -- the tree of a text means what the text says
 pub parsed : {c : Contents} {text : List ℕ} {t : MarkerTree} {kinds : List MarkerWarningKind} → IsTreeOf c text t kinds → IsHeld c t → IsTreeFor c text t

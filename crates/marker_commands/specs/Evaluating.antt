@@ -4,7 +4,6 @@ use Rattle.std.specs.List.{flat_map}
 use Rattle.marker_environment.specs.Valuation.{Valuation}
 use Rattle.marker_subtrees.specs.declared.keys.EnvironmentKey.{EnvironmentKey}
 use Rattle.marker_subtrees.specs.Keys.{key_name}
-use Rattle.marker_answers.specs.Comparison.{ReadsAs}
 use Rattle.marker_answers.specs.Evaluation.{IsEvaluation}
 use Rattle.marker_answers.specs.declared.evaluating.Evaluation.{Evaluation}
 use Rattle.marker_answers.specs.declared.evaluating.Evaluation.TheVariants.{Known, Depends, TooComplex}
@@ -14,6 +13,7 @@ use Rattle.marker_commands.specs.declared.outcome.Outcome.TheVariants.{Answered,
 use Rattle.marker_commands.specs.declared.outcome.Outcome.TheVariants as outcomes
 use Rattle.marker_commands.specs.declared.outcome.Reply.{Reply}
 use Rattle.marker_commands.specs.Outcome.{Answers, HasNoAnswer, IsRefused}
+use Rattle.marker_commands.specs.Parsing.{ReadsAs}
 
 -- the text is a marker, and this is what its truth is in a situation
 pub record IsEvaluated (text : List ℕ) (situation : Situation) (evaluation : Evaluation) : Type 0

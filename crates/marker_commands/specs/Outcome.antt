@@ -1,10 +1,14 @@
 -- The exit status of a command, and why a text gets no answer.
-use Rattle.std.specs.Prelude.{◌≡◌, ⊤, ℕ, List, [], ◌∷◌, ◌++◌, string_bytes}
+use Rattle.std.specs.Prelude.{◌≡◌, ⊤, ℕ, List, [], ◌∷◌, ◌++◌, String, string_bytes}
 use Rattle.marker_grammar.specs.Refused.{IsNoMarker}
 use Rattle.pep508_markers.specs.Text.{TextOverflows}
 use Rattle.marker_commands.specs.declared.outcome.Outcome.{Outcome}
 use Rattle.marker_commands.specs.declared.outcome.Outcome.TheVariants.{Answered, Failed, Open, Invalid, TooLarge, TooComplex, WrongUse, OutOfMemory}
 use Rattle.marker_commands.specs.declared.outcome.Reply.{Reply}
+
+-- the string has this text after that which it had
+abbrev pub HasAppended : {A : Type 0} → String A → String A → List ℕ → Type 0
+HasAppended old new text = string_bytes new ≡ string_bytes old ++ text
 
 abbrev pub status_of : Outcome → ℕ
 status_of Answered = 0
@@ -35,6 +39,11 @@ Answers outcome text reply = (reply.outcome ≡ outcome)
 -- there is no answer, and the command ends so
 abbrev pub HasNoAnswer : Outcome → Reply → Type 0
 HasNoAnswer outcome reply = (reply.outcome ≡ outcome) × (string_bytes reply.output ≡ [])
+
+-- the messages of the reply are this one, and then those of the old reply
+abbrev pub HasMessageFirst : List ℕ → Reply → Reply → Type 0
+HasMessageFirst message old reply =
+    string_bytes reply.messages ≡ message ++ string_bytes old.messages
 
 -- the text gets no answer as a marker
 abbrev pub IsRefused : List ℕ → Reply → Type 0

@@ -1,7 +1,6 @@
 -- What `simplify` writes.
 use Rattle.std.specs.Prelude.{◌≡◌, ◌⊎◌, ℕ, Bool, List, codes, string_bytes}
 use Rattle.marker_environment.specs.Valuation.{Valuation}
-use Rattle.marker_answers.specs.Comparison.{ReadsAs}
 use Rattle.marker_answers.specs.Simplified.{GrantsBy, Shows}
 use Rattle.marker_answers.specs.declared.simplifying.MarkerAnswer.{MarkerAnswer}
 use Rattle.marker_answers.specs.declared.simplifying.MarkerAnswer.TheVariants.{Always, Never, Text}
@@ -9,6 +8,7 @@ use Rattle.marker_commands.specs.declared.outcome.Outcome.TheVariants.{Answered}
 use Rattle.marker_commands.specs.declared.outcome.Reply.{Reply}
 use Rattle.marker_commands.specs.declared.simplifying.Simplification.{Simplification}
 use Rattle.marker_commands.specs.Outcome.{Answers, IsRefused}
+use Rattle.marker_commands.specs.Parsing.{ReadsAs}
 
 -- The text is a marker, and the answer shows the truth g that is left of its truth f: in the range
 -- that of f with the extras, and where the range is required, false outside of it.

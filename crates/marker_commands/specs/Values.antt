@@ -1,5 +1,5 @@
 -- The values of an environment that are given.
-use Rattle.std.specs.Prelude.{◌≡◌, ℕ, Bool, false, ◌==◌, List, Option, Some, None, find, option_map, string_bytes}
+use Rattle.std.specs.Prelude.{◌≡◌, ℕ, Bool, false, ◌==◌, List, Option, Some, None, find, option_map, String, string_bytes}
 use Rattle.marker_words.specs.declared.key.TextVariable.{TextVariable}
 use Rattle.marker_words.specs.declared.key.VersionVariable.{VersionVariable}
 use Rattle.marker_nodes.specs.Variable.{text_rank, version_rank}
@@ -22,6 +22,12 @@ same_key (Text x) (Text y) = text_rank x == text_rank y
 abbrev pub given_value : EnvironmentKey → List Assignment → Option (List ℕ)
 given_value key assignments =
     option_map (λ a. string_bytes a.value) (find (λ a. same_key a.key key) assignments)
+
+-- the text that a key is given, if it is given one
+abbrev pub IsGivenText : {A : Type 0} → TextVariable → List Assignment → Option (String A)
+    → Type 0
+IsGivenText variable assignments found =
+    option_map string_bytes found ≡ given_value (Text variable) assignments
 
 -- the version of a value, if there is one
 abbrev pub IsGivenVersion : Option (List ℕ) → Option Parts → Type 0

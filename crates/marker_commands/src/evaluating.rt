@@ -1,9 +1,9 @@
 //! The command `eval`.
 
-ghost use Rattle.std.specs.Prelude.{◌≡◌, ◌⊎◌, ◌++◌, IfErr, IfOk, OnOk, string_bytes};
+ghost use Rattle.std.specs.Prelude.{◌≡◌, ◌⊎◌, IfErr, IfOk, OnOk};
 ghost use Rattle.marker_commands.specs.Evaluating.{IsEvaluated, IsEvaluationReply, ShowsEvaluation, ShowsKeys, keys_text, names_of, outcome_of, truth_word};
 ghost use Rattle.marker_commands.specs.declared.outcome.Outcome.TheVariants.{OutOfMemory};
-ghost use Rattle.marker_commands.specs.Outcome.{HasNoAnswer, IsRefusalOf};
+ghost use Rattle.marker_commands.specs.Outcome.{HasAppended, HasNoAnswer, IsRefusalOf};
 
 use crate::messages::GivenMarker;
 use crate::outcome::{Outcome, Reply};
@@ -65,8 +65,7 @@ fn truth_outcome(fails_on_false: bool, is_true: bool) -> Outcome
 
 // Appends the names of keys, with a space before each.
 fn add_names(messages: &mut String, keys: &[EnvironmentKey]) -> Result<(), AllocError>
-    ensures { OnOk result (string_bytes messages.new
-        ≡ string_bytes messages.old ++ names_of keys.now) }
+    ensures { OnOk result (HasAppended messages.old messages.new (names_of keys.now)) }
 {
     for key in keys {
         messages.push_str(" ")?;
@@ -77,8 +76,7 @@ fn add_names(messages: &mut String, keys: &[EnvironmentKey]) -> Result<(), Alloc
 
 // Appends which keys the truth still depends on.
 fn add_keys(messages: &mut String, keys: &[EnvironmentKey]) -> Result<(), AllocError>
-    ensures { OnOk result (string_bytes messages.new
-        ≡ string_bytes messages.old ++ keys_text keys.now) }
+    ensures { OnOk result (HasAppended messages.old messages.new (keys_text keys.now)) }
 {
     messages.push_str("The marker depends on values that are not given:")?;
     add_names(messages, keys)?;

@@ -25,7 +25,7 @@ pub use crate::arguments::{
     environment_words, extra_argument, marker_argument, marker_command, with_common,
     with_environment, with_marker_commands,
 };
-pub use crate::comparing::{Witnessed, compare_markers, compare_with_witness};
+pub use crate::comparing::{compare_markers, compare_with_witness};
 pub use crate::environments::{
     SHORT, add_implementation, add_platform, assignments_of, extras_of, is_short, known_of,
 };

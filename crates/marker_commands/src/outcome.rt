@@ -69,7 +69,7 @@ pub struct Reply {
 impl Reply {
     ghost use Rattle.std.specs.Prelude.{◌≡◌, ◌⊎◌, ◌∷◌, ◌++◌, [], IfOk, string_bytes};
     ghost use Rattle.marker_commands.specs.declared.outcome.Outcome.TheVariants.{OutOfMemory};
-    ghost use Rattle.marker_commands.specs.Outcome.{Answers, HasNoAnswer};
+    ghost use Rattle.marker_commands.specs.Outcome.{Answers, HasMessageFirst, HasNoAnswer};
 
     /// The reply without an answer.
     pub fn without_answer(alloc: Global, outcome: Outcome, messages: String) -> Reply
@@ -102,8 +102,7 @@ impl Reply {
     pub fn after(self, alloc: Global, message: &str) -> Result<Reply, AllocError>
         ensures outcome { IfOk result (λ reply. reply.outcome ≡ self.outcome) }
         ensures output { IfOk result (λ reply. reply.output ≡ self.output) }
-        ensures messages { IfOk result (λ reply.
-            string_bytes reply.messages ≡ message.now ++ string_bytes self.messages) }
+        ensures messages { IfOk result (HasMessageFirst message.now self) }
     {
         let mut messages = String::from_str(alloc, message)?;
         messages.push_str(self.messages.as_str())?;

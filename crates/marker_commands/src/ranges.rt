@@ -1,14 +1,12 @@
 //! Ranges of Python versions.
 
-ghost use Rattle.std.specs.Prelude.{◌≡◌, ◌&&◌, IfOk};
+ghost use Rattle.std.specs.Prelude.{◌≡◌, IfOk};
 ghost use Rattle.version_ranges.specs.Clamp.{bound_of};
-ghost use Rattle.version_ranges.specs.Ranges.{contains_point, IsInterval, IsSet};
+ghost use Rattle.version_ranges.specs.Ranges.{IsInterval, IsSet};
 ghost use Rattle.pep440_version.specs.Order.{version_cmp};
 ghost use Rattle.pep440_rs.specs.Bounds.{is_in_all};
-ghost use Rattle.pep440_rs.specs.Intervals.{is_in};
-ghost use Rattle.marker_commands.specs.Ranges.{IsSpecifierList};
+ghost use Rattle.marker_commands.specs.Ranges.{IsMatching, IsSpecifierList};
 
-use pep440_rs::laws::version_clones_are_equal;
 use pep440_rs::release_specifier_to_range;
 use pep440_specifier::{VersionSpecifier, VersionSpecifiers};
 use pep440_version::Version;
@@ -104,10 +102,8 @@ fn matching(
     set: &Ranges<Version>,
     specifier: &VersionSpecifier,
 ) -> Result<Ranges<Version>, Refusal<Infallible>>
-    ensures { IfOk result (λ r. IsSet version_cmp r (λ p. contains_point version_cmp set.now p
-        && is_in specifier.now.operator specifier.now.version.release p)) }
+    ensures { IfOk result (IsMatching set.now specifier.now) }
 {
-    version_clones_are_equal();
     let matched = release_specifier_to_range(alloc, specifier)?;
     let both = set.intersection(alloc, &matched)?;
     Ok(both)

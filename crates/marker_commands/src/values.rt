@@ -1,8 +1,8 @@
 //! The values of an environment that are given.
 
-ghost use Rattle.std.specs.Prelude.{◌≡◌, IfOk, option_map, string_bytes};
-ghost use Rattle.marker_subtrees.specs.declared.keys.EnvironmentKey.TheVariants.{Version as VersionKey, Text as TextKey};
-ghost use Rattle.marker_commands.specs.Values.{given_value, same_key, AreGiven, IsGivenVersion};
+ghost use Rattle.std.specs.Prelude.{◌≡◌, IfOk, option_map};
+ghost use Rattle.marker_subtrees.specs.declared.keys.EnvironmentKey.TheVariants.{Version as VersionKey};
+ghost use Rattle.marker_commands.specs.Values.{given_value, same_key, AreGiven, IsGivenText, IsGivenVersion};
 
 use crate::keys::GivenKey;
 use marker_answers::KnownValues;
@@ -66,8 +66,7 @@ fn text_value(
     assignments: &[Assignment],
     variable: TextVariable,
 ) -> Result<Option<String>, AllocError>
-    ensures { IfOk result (λ value. option_map string_bytes value
-        ≡ given_value (TextKey variable) assignments.now) }
+    ensures { IfOk result (IsGivenText variable assignments.now) }
 {
     match value_of(assignments, EnvironmentKey::Text(variable)) {
         Some(value) => {
@@ -84,8 +83,7 @@ fn version_value(
     assignments: &[Assignment],
     variable: VersionVariable,
 ) -> Result<Option<Version>, Refusal<ValueFault>>
-    ensures { IfOk result (λ value. IsGivenVersion
-        (given_value (VersionKey variable) assignments.now) value) }
+    ensures { IfOk result (IsGivenVersion (given_value (VersionKey variable) assignments.now)) }
 {
     let Some(value) = value_of(assignments, EnvironmentKey::Version(variable)) else {
         return Ok(None);

@@ -2,6 +2,8 @@
 use Rattle.std.specs.Prelude.{◌≡◌, ◌≢◌, ℕ, ◌+◌, List, [], ◌∷◌, Some, map, slice_get}
 use Rattle.marker_graph.specs.declared.kind.MarkerTreeKind.{MarkerTreeKind}
 use Rattle.marker_graph.specs.declared.kind.MarkerTreeKind.TheVariants as kinds
+use Rattle.marker_graph.specs.declared.kind.StringMarkerTree.{StringMarkerTree}
+use Rattle.marker_graph.specs.declared.kind.VersionMarkerTree.{VersionMarkerTree}
 use Rattle.marker_graph.specs.declared.tree.MarkerTree.{MarkerTree}
 use Rattle.marker_graph.specs.declared.tree.TheConstants.MarkerTree as constants
 use Rattle.marker_graph.specs.Contents.{Contents}
@@ -15,11 +17,17 @@ use Rattle.marker_drawings.specs.declared.drawing.Target.TheVariants.{True, Fals
 use Rattle.marker_drawings.specs.Pairwise.{Pairwise}
 
 -- the subtrees at the edges of a kind, in the order of the edges
+abbrev pub version_subtrees : VersionMarkerTree → List MarkerTree
+version_subtrees view = map (λ e. e.value) (version_edges view)
+
+abbrev pub text_subtrees : StringMarkerTree → List MarkerTree
+text_subtrees view = map (λ e. e.value) (string_edges view)
+
 abbrev pub subtrees_of : MarkerTreeKind → List MarkerTree
 subtrees_of kinds.True = []
 subtrees_of kinds.False = []
-subtrees_of (kinds.Version view) = map (λ e. e.value) (version_edges view)
-subtrees_of (kinds.String view) = map (λ e. e.value) (string_edges view)
+subtrees_of (kinds.Version view) = version_subtrees view
+subtrees_of (kinds.String view) = text_subtrees view
 subtrees_of (kinds.In view) = view.high ∷ view.low ∷ []
 subtrees_of (kinds.Contains view) = view.high ∷ view.low ∷ []
 subtrees_of (kinds.Extra view) = view.high ∷ view.low ∷ []

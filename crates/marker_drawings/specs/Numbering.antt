@@ -1,9 +1,11 @@
 -- The markers of nodes that were found, and how they grow.
-use Rattle.std.specs.Prelude.{◌≡◌, ℕ, List, ◌++◌, Some, slice_get}
+use Rattle.std.specs.Prelude.{◌≡◌, ℕ, List, ◌++◌, Some, slice_get, Vec}
 use Rattle.marker_graph.specs.declared.kind.MarkerTreeKind.{MarkerTreeKind}
 use Rattle.marker_graph.specs.declared.tree.MarkerTree.{MarkerTree}
 use Rattle.marker_graph.specs.Contents.{Contents}
 use Rattle.marker_graph.specs.Kind.{AreItsEdges, IsKind}
+use Rattle.std.specs.declared.alloc.Global.{Global}
+use Rattle.marker_drawings.specs.declared.drawing.DrawnEdge.{DrawnEdge}
 use Rattle.marker_drawings.specs.declared.drawing.DrawnNode.{DrawnNode}
 use Rattle.marker_drawings.specs.declared.drawing.Target.{Target}
 use Rattle.marker_drawings.specs.Drawing.{HasNode, LeadsTo, subtrees_of, targets_of}
@@ -27,6 +29,11 @@ pub record Numbers (old new : List MarkerTree) (subtrees : List MarkerTree)
   pub each : (t : MarkerTree) → Has more t → Has subtrees t × HasNode t
   pub once : IsOnce old → IsOnce new
   pub leads : Pairwise (LeadsTo new) targets subtrees
+
+-- the same for the targets of edges
+abbrev pub AddsEdges : List MarkerTree → List MarkerTree → List MarkerTree
+    → Vec DrawnEdge Global → Type 0
+AddsEdges old new subtrees edges = Numbers old new subtrees (targets_of edges.items)
 
 -- the node is that of the marker, and the list grew by what its edges lead to
 pub record Draws (c : Contents) (t : MarkerTree) (old new : List MarkerTree)

@@ -6,10 +6,10 @@ ghost use Rattle.marker_drawings.specs.Drawing.{IsDrawing};
 ghost use Rattle.marker_drawings.specs.Numbering.{Draws};
 
 use crate::edges::edges_of;
-use crate::labels::variable_label;
 use crate::numbering::target_of;
 use indexmap::IndexSet;
 use marker_graph::{Interner, MarkerTree};
+use marker_witnesses::variable_label;
 use std::alloc::AllocError;
 
 /// Where an edge leads.

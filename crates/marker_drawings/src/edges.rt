@@ -1,15 +1,14 @@
 //! The edges of a node.
 
-ghost use Rattle.std.specs.Prelude.{◌∷◌, [], IfOk, map};
-ghost use Rattle.marker_graph.specs.Kind.{string_edges, version_edges};
-ghost use Rattle.marker_drawings.specs.Drawing.{subtrees_of, targets_of};
-ghost use Rattle.marker_drawings.specs.Numbering.{Numbers};
+ghost use Rattle.std.specs.Prelude.{◌∷◌, [], IfOk};
+ghost use Rattle.marker_drawings.specs.Drawing.{subtrees_of, text_subtrees, version_subtrees};
+ghost use Rattle.marker_drawings.specs.Numbering.{AddsEdges};
 
 use crate::drawing::DrawnEdge;
-use crate::labels::{answer_label, text_label, version_label};
 use crate::numbering::target_of;
 use indexmap::IndexSet;
 use marker_graph::{MarkerTree, MarkerTreeKind, StringMarkerTree, VersionMarkerTree};
+use marker_witnesses::{answer_word, text_label, version_label};
 use std::alloc::{AllocError, Global};
 
 /// Returns the edges of a marker's node. Adds the markers of the nodes that they lead to.
@@ -18,8 +17,7 @@ pub(crate) fn edges_of(
     kind: &MarkerTreeKind<'_>,
     found: &mut IndexSet<MarkerTree>,
 ) -> Result<Vec<DrawnEdge>, AllocError>
-    ensures { IfOk result (λ edges. Numbers found.old.keys found.new.keys
-        (subtrees_of kind.now) (targets_of edges.items)) }
+    ensures { IfOk result (AddsEdges found.old.keys found.new.keys (subtrees_of kind.now)) }
 {
     match kind {
         MarkerTreeKind::True => Ok(Vec::new(alloc)),
@@ -44,8 +42,7 @@ fn edges_of_versions(
     view: VersionMarkerTree<'_>,
     found: &mut IndexSet<MarkerTree>,
 ) -> Result<Vec<DrawnEdge>, AllocError>
-    ensures { IfOk result (λ edges. Numbers found.old.keys found.new.keys
-        (map (λ e. e.value) (version_edges view.entry)) (targets_of edges.items)) }
+    ensures { IfOk result (AddsEdges found.old.keys found.new.keys (version_subtrees view.entry)) }
 {
     let mut edges = Vec::new(alloc);
     for edge in view.edges() {
@@ -63,8 +60,7 @@ fn edges_of_texts(
     view: StringMarkerTree<'_>,
     found: &mut IndexSet<MarkerTree>,
 ) -> Result<Vec<DrawnEdge>, AllocError>
-    ensures { IfOk result (λ edges. Numbers found.old.keys found.new.keys
-        (map (λ e. e.value) (string_edges view.entry)) (targets_of edges.items)) }
+    ensures { IfOk result (AddsEdges found.old.keys found.new.keys (text_subtrees view.entry)) }
 {
     let mut edges = Vec::new(alloc);
     for edge in view.children() {
@@ -83,18 +79,17 @@ fn edges_of_answers(
     low: MarkerTree,
     found: &mut IndexSet<MarkerTree>,
 ) -> Result<Vec<DrawnEdge>, AllocError>
-    ensures { IfOk result (λ edges. Numbers found.old.keys found.new.keys
-        (high ∷ low ∷ []) (targets_of edges.items)) }
+    ensures { IfOk result (AddsEdges found.old.keys found.new.keys (high ∷ low ∷ [])) }
 {
     let yes = target_of(high, found)?;
     let no = target_of(low, found)?;
     let mut edges = Vec::new(alloc);
     edges.push(DrawnEdge {
-        label: answer_label(alloc, true)?,
+        label: String::from_str(alloc, answer_word(true))?,
         target: yes,
     })?;
     edges.push(DrawnEdge {
-        label: answer_label(alloc, false)?,
+        label: String::from_str(alloc, answer_word(false))?,
         target: no,
     })?;
     Ok(edges)

@@ -8,7 +8,6 @@ mod dots;
 mod drawing;
 mod edges;
 mod escapes;
-mod labels;
 mod levels;
 mod numbering;
 mod pictures;

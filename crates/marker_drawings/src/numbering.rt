@@ -14,8 +14,7 @@ pub(crate) fn target_of(
     tree: MarkerTree,
     found: &mut IndexSet<MarkerTree>,
 ) -> Result<Target, AllocError>
-    ensures { IfOk result (λ target.
-        Numbers found.old.keys found.new.keys (tree ∷ []) (target ∷ [])) }
+    ensures { IfOk result (λ t. Numbers found.old.keys found.new.keys (tree ∷ []) (t ∷ [])) }
 {
     if tree.is_true() {
         return Ok(Target::True);

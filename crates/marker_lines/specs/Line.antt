@@ -1,6 +1,7 @@
 -- The request of a line of the program `markers`. A line is UTF-8, and is given here as bytes,
 -- without its line feed.
-use Rattle.std.specs.Prelude.{◌≡◌, ◌≢◌, ℕ, ◌-◌, ◌^◌, min, List, [], ◌∷◌, ◌++◌, All, codes}
+use Rattle.std.specs.Prelude.{◌≡◌, ◌≢◌, ℕ, ◌<◌, ◌-◌, ◌^◌, min, List, [], ◌∷◌, ◌++◌, length, slice_index, All, EachIndex, Option, MatchOption, codes}
+use Rattle.std.specs.Int.{IsInRange}
 use Rattle.std.specs.Str.Parse.{IsNumeral, digits_value}
 use Rattle.std.specs.declared.ops.Bound.{Bound}
 use Rattle.std.specs.declared.ops.Bound.TheVariants.{Included, Excluded, Unbounded}
@@ -33,6 +34,15 @@ pub data Words : List ℕ → List (List ℕ) → Type 0 where
   more : {text word rest : List ℕ} {words : List (List ℕ)} → text ≡ with_space word rest
       → IsWord word → Words rest words → Words text (word ∷ words)
 
+-- the text is no list of words
+abbrev pub HasNoWords : List ℕ → Type 0
+HasNoWords text = (words : List (List ℕ)) → Words text words → ⊥
+
+-- one ASCII digit or more
+abbrev pub AreDigits : List ℕ → Type 0
+AreDigits word =
+    (0 < length word) × EachIndex word (λ k. IsInRange 48 57 (slice_index word k))
+
 -- The number of a cell, in ASCII digits (leading zeros do not count). Every number from the
 -- greatest usize on, which no cell has, is read as that one.
 abbrev pub cell_number : List ℕ → ℕ
@@ -57,6 +67,11 @@ bound_word (Included version) = codes "incl:" ++ version
 bound_word (Excluded version) = codes "excl:" ++ version
 bound_word Unbounded = codes "none"
 
+-- two cells are read of the text, or it is not those of two
+abbrev pub ReadsTwoCells : List ℕ → Option (ℕ × ℕ) → Type 0
+ReadsTwoCells text cells = MatchOption cells
+    ((left right : ℕ) → TwoCells text left right → ⊥) (λ x. TwoCells text x.0 x.1)
+
 -- the text is the number of this cell and these two bounds, separated by one space each
 pub record CellAndBounds (text : List ℕ) (cell : ℕ)
     (lower upper : Bound (List ℕ)) : Type 0 where
@@ -71,6 +86,10 @@ pub record CellAndNames (text : List ℕ) (cell : ℕ) (names : List (List ℕ))
   pub number : List ℕ
   pub words : Words text (number ∷ names)
   pub is_cell : OneCell number cell
+
+-- the text is no number of a cell and names
+abbrev pub LacksCellAndNames : List ℕ → Type 0
+LacksCellAndNames text = (cell : ℕ) (names : List (List ℕ)) → CellAndNames text cell names → ⊥
 
 -- the requests of lines
 pub data Request : Type 0 where
@@ -103,9 +122,21 @@ pub data Takes : Word → List ℕ → Request → Type 0 where
       {lower upper : Bound (List ℕ)} → CellAndBounds text cell lower upper
       → Takes (WithRange command) text (with_range command cell lower upper)
 
+-- after this word the text is no request
+abbrev pub TakesNothing : Word → List ℕ → Type 0
+TakesNothing word text = (request : Request) → Takes word text request → ⊥
+
 -- The line is this request. A line of no such form is malformed.
 pub record Asks (line : List ℕ) (request : Request) : Type 0 where
   pub word : Word
   pub text : List ℕ
   pub parts : line ≡ with_space (word_text word) text
   pub takes : Takes word text request
+
+-- the line is no other request
+abbrev pub AsksOnly : List ℕ → Request → Type 0
+AsksOnly line request = (other : Request) → Asks line other → other ≡ request
+
+-- the line is no request
+abbrev pub AsksNothing : List ℕ → Type 0
+AsksNothing line = (request : Request) → Asks line request → ⊥

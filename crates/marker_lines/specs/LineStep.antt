@@ -18,7 +18,7 @@ use Rattle.marker_lines.specs.declared.word.RangeCommand.{RangeCommand}
 use Rattle.marker_lines.specs.declared.key.EnvironmentKey.TheVariants.{Text, Version}
 use Rattle.marker_lines.specs.Key.{key_name, IsNoKey}
 use Rattle.marker_lines.specs.Word.{names_request, range_request}
-use Rattle.marker_lines.specs.Line.{Request, set, run, with_names, with_range, Asks}
+use Rattle.marker_lines.specs.Line.{Request, set, run, with_names, with_range, Asks, AsksNothing}
 use Rattle.marker_lines.specs.Reply.{reply_text}
 
 -- the cells, and the values that they are evaluated at
@@ -59,6 +59,10 @@ HasNoNames words = (names : List (List ℕ)) → Names words names → ⊥
 abbrev pub SaysNoBound : Bound (List ℕ) → Type 0
 SaysNoBound bound = (version : Bound Parts) → SaysBound bound version → ⊥
 
+-- the text is no version
+abbrev pub SaysNoVersion : List ℕ → Type 0
+SaysNoVersion value = (version : Parts) → IsVersionText value version → ⊥
+
 -- the machine answers the request, and the values stay
 pub record MachineStep (old : State) (request : Machine.Request) (answer : Answer)
     (new : State) : Type 0 where
@@ -79,8 +83,7 @@ pub data RequestStep : State → Request → List ℕ → State → Type 0 where
       → RequestStep old (set key value) (codes "ok") new
   no_version : {state : State} {key value : List ℕ} (version_key : MarkerValueVersion)
       → key ≡ key_name (Version version_key)
-      → ((version : Parts) → IsVersionText value version → ⊥)
-      → RequestStep state (set key value) (codes "error version") state
+      → SaysNoVersion value → RequestStep state (set key value) (codes "error version") state
   -- the key is judged before the value
   no_key : {state : State} {key value : List ℕ} → IsNoKey key
       → RequestStep state (set key value) (codes "error key") state
@@ -108,8 +111,7 @@ pub data RequestStep : State → Request → List ℕ → State → Type 0 where
 pub data LineStep : State → List ℕ → List ℕ → State → Type 0 where
   no_text : {state : State} {line : List ℕ} → (IsUtf8 line → ⊥)
       → LineStep state line (codes "error utf8") state
-  no_command : {state : State} {line : List ℕ} → IsUtf8 line
-      → ((request : Request) → Asks line request → ⊥)
+  no_command : {state : State} {line : List ℕ} → IsUtf8 line → AsksNothing line
       → LineStep state line (codes "error command") state
   asked : {old new : State} {line reply : List ℕ} (request : Request) → IsUtf8 line
       → Asks line request → RequestStep old request reply new → LineStep old line reply new

@@ -1,11 +1,16 @@
 -- The replies of the program `markers` to what the machine answers, without the line feeds that end
 -- them.
-use Rattle.std.specs.Prelude.{ℕ, true, false, List, ◌++◌, Some, None, codes}
+use Rattle.std.specs.Prelude.{◌≡◌, ℕ, true, false, List, ◌++◌, Some, None, codes, Vec}
+use Rattle.std.specs.declared.alloc.Global.{Global}
 use Rattle.std.specs.Fmt.{decimal}
 use Rattle.std.specs.List.{flat_map}
 use Rattle.pep508_errors.specs.declared.warning.MarkerWarningKind.{MarkerWarningKind}
 use Rattle.pep508_errors.specs.declared.warning.MarkerWarningKind.TheVariants.{DeprecatedMarkerName, ExtraInvalidComparison, LexicographicComparison, MarkerMarkerComparison, Pep440Error, StringStringComparison}
 use Rattle.pep508_markers.specs.Machine.{Answer, cell, truth_is, text_is, refused, Reason, no_such_cell, out_of_memory, segment_at_end, invalid_expression, marker}
+
+-- the replies have these bytes after those that they had
+abbrev pub GrowsBy : Vec ℕ Global → Vec ℕ Global → List ℕ → Type 0
+GrowsBy old new bytes = new.items ≡ old.items ++ bytes
 
 abbrev pub kind_name : MarkerWarningKind → List ℕ
 kind_name DeprecatedMarkerName = codes "DeprecatedMarkerName"

@@ -1,5 +1,5 @@
 -- The first words of lines, and the requests to the machine that they name.
-use Rattle.std.specs.Prelude.{ℕ, List, codes}
+use Rattle.std.specs.Prelude.{◌≢◌, ℕ, List, codes}
 use Rattle.std.specs.declared.ops.Bound.{Bound}
 use Rattle.pep440_version.specs.Parts.{Parts}
 use Rattle.marker_environment.specs.Environment.{Values}
@@ -30,6 +30,10 @@ word_text (WithNames Evaluate) = codes "eval"
 word_text (WithNames Possible) = codes "possible"
 word_text (WithRange Simplify) = codes "simplify"
 word_text (WithRange Complexify) = codes "complexify"
+
+-- no command has this word
+abbrev pub IsNoWord : List ℕ → Type 0
+IsNoWord text = (word : Word) → text ≢ word_text word
 
 -- the request on a cell
 abbrev pub cell_request : CellCommand → ℕ → Machine.Request

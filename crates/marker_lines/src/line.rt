@@ -1,12 +1,10 @@
 //! The command of a line of the program `markers`.
 
-ghost use Rattle.std.specs.Prelude.{◌≡◌, ◌≢◌, ◌<◌, ◌↔◌, ℕ, List, Err, IsTrue, IfOk, MatchOption, EachIndex, length, slice_index};
-ghost use Rattle.std.specs.Int.{IsInRange};
+ghost use Rattle.std.specs.Prelude.{◌≡◌, ◌≢◌, ◌↔◌, Err, IsTrue, IfOk, MatchOption};
 ghost use Rattle.std.specs.Str.{IsUtf8};
 ghost use Rattle.std.specs.Str.Parse.{IsNumeral};
-ghost use Rattle.std.specs.declared.ops.Bound.{Bound};
-ghost use Rattle.marker_lines.specs.Line.{HasNoSpace, Words, Request, Asks, Takes, OneCell, TwoCells, CellAndBounds, CellAndNames, with_space, bound_word};
-ghost use Rattle.marker_lines.specs.LineView.{bound_text_of, texts_of, request_of};
+ghost use Rattle.marker_lines.specs.Line.{Words, HasNoWords, AreDigits, Asks, AsksNothing, AsksOnly, Takes, TakesNothing, OneCell, CellAndNames, LacksCellAndNames, ReadsTwoCells};
+ghost use Rattle.marker_lines.specs.LineView.{texts_of, request_of, ReadsBoundWord, ReadsCellAndBounds, SplitsAtSpace};
 
 use crate::word::{NamesCommand, RangeCommand, Word};
 use pep508_markers::Command;
@@ -59,13 +57,11 @@ impl<'a> LineCommand<'a> {
     // bound.
     pub(crate) fn read(alloc: Global, line: &'a [u8]) -> Result<LineCommand<'a>, LineFault>
         ensures asks { IfOk result (λ command. Asks line.now (request_of command)) }
-        ensures only { IfOk result (λ command. (request : Request)
-            → Asks line.now request → request ≡ request_of command) }
+        ensures only { IfOk result (λ command. AsksOnly line.now (request_of command)) }
         ensures utf8 { result ≢ Err LineFault.NotUtf8 → IsUtf8 line.now }
 
         ensures not_utf8 { result ≡ Err LineFault.NotUtf8 → IsUtf8 line.now → ⊥ }
-        ensures malformed { result ≡ Err LineFault.Malformed
-            → (request : Request) → Asks line.now request → ⊥ }
+        ensures malformed { result ≡ Err LineFault.Malformed → AsksNothing line.now }
     {
         let Ok(text) = str::from_utf8(line) else {
             return Err(LineFault::NotUtf8);
@@ -84,8 +80,7 @@ impl<'a> LineCommand<'a> {
 fn read_behind<'a>(alloc: Global, word: Word, text: &'a str) -> Result<LineCommand<'a>, LineFault>
     ensures takes { IfOk result (λ command. Takes word text.now (request_of command)) }
     ensures text { result ≢ Err LineFault.NotUtf8 }
-    ensures malformed { result ≡ Err LineFault.Malformed
-        → (request : Request) → Takes word text.now request → ⊥ }
+    ensures malformed { result ≡ Err LineFault.Malformed → TakesNothing word text.now }
 {
     match word {
         Word::Env => match split_word(text) {
@@ -123,8 +118,7 @@ fn read_behind<'a>(alloc: Global, word: Word, text: &'a str) -> Result<LineComma
 
 // The numbers of two cells.
 fn two_cells(text: &str) -> Option<(usize, usize)>
-    ensures { MatchOption result ((left right : ℕ) → TwoCells text.now left right → ⊥)
-        (λ cells. TwoCells text.now cells.0 cells.1) }
+    ensures { ReadsTwoCells text.now result }
 {
     let Some((first, second)) = split_word(text) else {
         return None;
@@ -140,9 +134,7 @@ fn two_cells(text: &str) -> Option<(usize, usize)>
 
 // The number of a cell, and two bounds.
 fn cell_and_bounds(text: &str) -> Option<(usize, Bound<&str>, Bound<&str>)>
-    ensures { MatchOption result
-        ((cell : ℕ) (lower upper : Bound (List ℕ)) → CellAndBounds text.now cell lower upper → ⊥)
-        (λ read. CellAndBounds text.now read.0 (bound_text_of read.1) (bound_text_of read.2)) }
+    ensures { ReadsCellAndBounds text.now result }
 {
     let Some((number, bounds)) = split_word(text) else {
         return None;
@@ -167,8 +159,7 @@ fn cell_and_bounds(text: &str) -> Option<(usize, Bound<&str>, Bound<&str>)>
 
 // The bound of a word, with the text of its version.
 fn read_bound(word: &str) -> Option<Bound<&str>>
-    ensures { MatchOption result ((bound : Bound (List ℕ)) → word.now ≡ bound_word bound → ⊥)
-        (λ bound. word.now ≡ bound_word (bound_text_of bound)) }
+    ensures { ReadsBoundWord word.now result }
 {
     if word == "none" {
         return Some(Bound::Unbounded);
@@ -185,8 +176,7 @@ fn read_bound(word: &str) -> Option<Bound<&str>>
 // The number of a cell, and any number of names.
 fn cell_and_names<'a>(alloc: Global, rest: &'a str) -> Result<(usize, Vec<&'a str>), LineFault>
     ensures read { IfOk result (λ read. CellAndNames rest.now read.0 (texts_of read.1.items)) }
-    ensures malformed { result ≡ Err LineFault.Malformed
-        → (cell : ℕ) (names : List (List ℕ)) → CellAndNames rest.now cell names → ⊥ }
+    ensures malformed { result ≡ Err LineFault.Malformed → LacksCellAndNames rest.now }
     ensures text { result ≢ Err LineFault.NotUtf8 }
 {
     let Some((number, names)) = split_word(rest) else {
@@ -204,8 +194,7 @@ fn cell_and_names<'a>(alloc: Global, rest: &'a str) -> Result<(usize, Vec<&'a st
 // The words of a text.
 fn words<'a>(alloc: Global, text: &'a str) -> Result<Vec<&'a str>, LineFault>
     ensures words { IfOk result (λ words. Words text.now (texts_of words.items)) }
-    ensures malformed { result ≡ Err LineFault.Malformed
-        → (words : List (List ℕ)) → Words text.now words → ⊥ }
+    ensures malformed { result ≡ Err LineFault.Malformed → HasNoWords text.now }
     ensures text { result ≢ Err LineFault.NotUtf8 }
 {
     let mut words = Vec::new(alloc);
@@ -230,8 +219,7 @@ fn words<'a>(alloc: Global, text: &'a str) -> Result<Vec<&'a str>, LineFault>
 
 // The text before and after the first space.
 fn split_word(text: &str) -> Option<(&str, &str)>
-    ensures { MatchOption result (HasNoSpace text.now)
-        (λ parts. HasNoSpace parts.0.now × (text.now ≡ with_space parts.0.now parts.1.now)) }
+    ensures { SplitsAtSpace text.now result }
 {
     text.split_once(' ')
 }
@@ -248,8 +236,7 @@ fn read_cell(word: &str) -> Option<usize>
 
 // Whether a word is one or more ASCII digits.
 fn is_number(word: &[u8]) -> bool
-    ensures { IsTrue result ↔ ((0 < length word.now)
-        × EachIndex word.now (λ k. IsInRange 48 57 (slice_index word.now k))) }
+    ensures { IsTrue result ↔ AreDigits word.now }
 {
     !word.is_empty() && word.iter().all(|b| b.is_ascii_digit())
 }

@@ -1,17 +1,14 @@
 //! A session with commands and replies as lines.
 
-ghost use Rattle.std.specs.Prelude.{◌≡◌, ◌≢◌, IsTrue, Err, IfOk, OnOk, OnErr, MatchOption};
+ghost use Rattle.std.specs.Prelude.{◌≡◌, ◌≢◌, IsTrue, Err, IfOk, OnOk, OnErr};
 ghost use Rattle.std.specs.Io.KnownBytes.{IsAtEnd};
-ghost use Rattle.std.specs.declared.ops.Bound.{Bound};
-ghost use Rattle.line_server.specs.Serving.{AnswersEachLine, AnswersWholeLines, AnswersFirstLines, Exchanges};
-ghost use Rattle.pep440_version.specs.Grammar.{IsVersionText};
-ghost use Rattle.pep440_version.specs.Parts.{Parts};
+ghost use Rattle.line_server.specs.Serving.{ServesFirst};
+ghost use Rattle.line_server.specs.declared.fault.ServeFault.TheVariants.{Input, Output, Usage};
 ghost use Rattle.marker_environment.specs.Environment.{values_of};
-ghost use Rattle.marker_environment.specs.Written.{Says, written};
-ghost use Rattle.marker_lines.specs.Line.{set, with_names, with_range};
-ghost use Rattle.marker_lines.specs.LineStep.{State, start, Names, HasNoNames, SaysBound, SaysNoBound, LineStep};
-ghost use Rattle.marker_lines.specs.LineView.{bound_text_of, texts_of, request_of};
-ghost use Rattle.marker_lines.specs.SessionView.{state_of, Replies};
+ghost use Rattle.marker_lines.specs.Line.{with_names};
+ghost use Rattle.marker_lines.specs.LineStep.{start, LineStep};
+ghost use Rattle.marker_lines.specs.LineView.{range_in, texts_of};
+ghost use Rattle.marker_lines.specs.SessionView.{state_of, AnswersAll, AnswersWhole, Obeys, ReadsBound, ReadsNames, ReadsVersion, Replies, Sets};
 
 use crate::key::EnvironmentKey;
 use crate::line::{LineCommand, LineFault};
@@ -65,8 +62,7 @@ impl LineSession {
 
     // Runs the command of a line, and appends the reply.
     fn run(&mut self, command: LineCommand<'_>, replies: &mut Vec<u8>) -> Result<(), AllocError>
-        ensures { OnOk result (Replies self.old (request_of command.entry)
-            self.new replies.old.items replies.new.items) }
+        ensures { OnOk result (Obeys self.old command.entry self.new replies.old replies.new) }
     {
         match command {
             LineCommand::Set { key, value } => self.set(key, value, replies),
@@ -90,8 +86,7 @@ impl LineSession {
 
     // Sets a value of the environment. The key is validated before the value.
     fn set(&mut self, key: &str, value: &str, replies: &mut Vec<u8>) -> Result<(), AllocError>
-        ensures { OnOk result (Replies self.old (set key.now value.now)
-            self.new replies.old.items replies.new.items) }
+        ensures { OnOk result (Sets self.old key.now value.now self.new replies.old replies.new) }
     {
         match EnvironmentKey::parse(key) {
             Some(EnvironmentKey::Text(variable)) => {
@@ -119,7 +114,7 @@ impl LineSession {
         replies: &mut Vec<u8>,
     ) -> Result<(), AllocError>
         ensures { OnOk result (Replies self.old (with_names command cell (texts_of words.now))
-            self.new replies.old.items replies.new.items) }
+            self.new replies.old replies.new) }
     {
         let Some(extras) = read_names(self.alloc, words)? else {
             return put(replies, "error name");
@@ -138,9 +133,8 @@ impl LineSession {
         upper: Bound<&str>,
         replies: &mut Vec<u8>,
     ) -> Result<(), AllocError>
-        ensures { OnOk result (Replies self.old
-            (with_range command cell (bound_text_of lower.entry) (bound_text_of upper.entry))
-            self.new replies.old.items replies.new.items) }
+        ensures { OnOk result (Replies self.old (range_in command cell lower.entry upper.entry)
+            self.new replies.old replies.new) }
     {
         let Some(lower) = read_bound(self.alloc, lower)? else {
             return put(replies, "error version");
@@ -195,17 +189,14 @@ fn first_environment(alloc: Global) -> Result<MarkerEnvironment, AllocError>
 
 // The version of a value, or `None` if it is invalid.
 fn read_version(alloc: Global, value: &str) -> Result<Option<StringVersion>, AllocError>
-    ensures { IfOk result (λ read. MatchOption read
-        ((version : Parts) → IsVersionText value.now version → ⊥)
-        (λ version. Says value.now (written version))) }
+    ensures { IfOk result (ReadsVersion value.now) }
 {
     unless_fault(StringVersion::parse(alloc, value))
 }
 
 // The bound with its text parsed as a version, or `None` if that is invalid.
 fn read_bound(alloc: Global, bound: Bound<&str>) -> Result<Option<Bound<Version>>, AllocError>
-    ensures { IfOk result (λ read. MatchOption read
-        (SaysNoBound (bound_text_of bound.entry)) (SaysBound (bound_text_of bound.entry))) }
+    ensures { IfOk result (ReadsBound bound.entry) }
 {
     match bound {
         Bound::Included(text) => match unless_fault(Version::parse(alloc, text))? {
@@ -222,8 +213,7 @@ fn read_bound(alloc: Global, bound: Bound<&str>) -> Result<Option<Bound<Version>
 
 // The names of extras, or `None` if a word is an invalid name.
 fn read_names(alloc: Global, words: &[&str]) -> Result<Option<Vec<ExtraName>>, AllocError>
-    ensures { IfOk result (λ read. MatchOption read
-        (HasNoNames (texts_of words.now)) (λ names. Names (texts_of words.now) names.items)) }
+    ensures { IfOk result (ReadsNames words.now) }
 {
     let mut names = Vec::new(alloc);
     for word in words {
@@ -273,28 +263,18 @@ pub fn serve<R: Source, W: Sink>(
 ) -> Result<(), ServeFault>
     ensures at_end { OnOk result (IsAtEnd (R.remaining reader.new)) }
     ensures ok { OnOk result
-        ((end : State)
-        × Exchanges (R.remaining reader.old) (R.remaining reader.new)
-        (W.contents writer.old) (W.contents writer.new)
-        (AnswersEachLine LineStep start end)) }
-    ensures input { result ≡ Err ServeFault.Input →
-        ((end : State)
-        × Exchanges (R.remaining reader.old) (R.remaining reader.new)
-        (W.contents writer.old) (W.contents writer.new)
-        (AnswersWholeLines LineStep start end)) }
-    ensures err { OnErr result
-        (Exchanges (R.remaining reader.old) (R.remaining reader.new)
-        (W.contents writer.old) (W.contents writer.new)
-        (AnswersFirstLines LineStep (R.remaining reader.new) start)) }
+        (AnswersAll R.remaining W.contents reader.old reader.new writer.old writer.new) }
+    ensures input { result ≡ Err Input →
+        AnswersWhole R.remaining W.contents reader.old reader.new writer.old writer.new }
+    ensures err { OnErr result (ServesFirst LineStep R.remaining W.contents start
+        reader.old reader.new writer.old writer.new) }
 
     // Which fault it is.
-    ensures input_failed { result ≡ Err ServeFault.Input → IsTrue (R.has_failed reader.new) }
-    ensures input_sound { result ≢ Err ServeFault.Input →
-        R.has_failed reader.new ≡ R.has_failed reader.old }
-    ensures output_failed { result ≡ Err ServeFault.Output → IsTrue (W.has_failed writer.new) }
-    ensures output_sound { result ≢ Err ServeFault.Output →
-        W.has_failed writer.new ≡ W.has_failed writer.old }
-    ensures no_usage { result ≢ Err ServeFault.Usage }
+    ensures input_failed { result ≡ Err Input → IsTrue (R.has_failed reader.new) }
+    ensures input_sound { result ≢ Err Input → R.has_failed reader.new ≡ R.has_failed reader.old }
+    ensures output_failed { result ≡ Err Output → IsTrue (W.has_failed writer.new) }
+    ensures output_sound { result ≢ Err Output → W.has_failed writer.new ≡ W.has_failed writer.old }
+    ensures no_usage { result ≢ Err Usage }
 {
     let Ok(mut session) = LineSession::with_key_and_room(alloc, key, pieces) else {
         return Err(ServeFault::Memory);

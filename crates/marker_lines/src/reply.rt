@@ -1,9 +1,9 @@
 //! Writing the replies of a session for the program `markers`.
 
-ghost use Rattle.std.specs.Prelude.{◌≡◌, ◌++◌, IfSome, OnOk};
+ghost use Rattle.std.specs.Prelude.{◌≡◌, IfSome, OnOk};
 ghost use Rattle.std.specs.List.{flat_map};
 ghost use Rattle.pep508_markers.specs.Session.{answer_of, reason_of};
-ghost use Rattle.marker_lines.specs.Reply.{kind_name, kind_text, reason_text, reply_text};
+ghost use Rattle.marker_lines.specs.Reply.{GrowsBy, kind_name, kind_text, reason_text, reply_text};
 
 use pep508_errors::MarkerWarningKind;
 use pep508_markers::{Reason, Reply};
@@ -13,15 +13,14 @@ use std::io::Write;
 
 // Appends a text to the replies.
 pub(crate) fn put(replies: &mut Vec<u8>, text: &str) -> Result<(), AllocError>
-    ensures { OnOk result (replies.new.items ≡ replies.old.items ++ text.now) }
+    ensures { OnOk result (GrowsBy replies.old replies.new text.now) }
 {
     replies.extend_from_slice(text.as_bytes())
 }
 
 // Appends a printed value.
 fn put_printed<D: Display + Drop>(replies: &mut Vec<u8>, value: D) -> Result<(), AllocError>
-    ensures { OnOk result (IfSome (D.output value)
-        (λ bytes. replies.new.items ≡ replies.old.items ++ bytes)) }
+    ensures { OnOk result (IfSome (D.output value) (GrowsBy replies.old replies.new)) }
 {
     match replies.write_fmt(value) {
         Ok(()) => Ok(()),
@@ -46,8 +45,7 @@ fn name_of_kind(kind: MarkerWarningKind) -> &'static str
 
 // Appends a space and the name of each kind.
 fn put_kinds(replies: &mut Vec<u8>, kinds: &[MarkerWarningKind]) -> Result<(), AllocError>
-    ensures { OnOk result
-        (replies.new.items ≡ replies.old.items ++ flat_map kind_text kinds.now) }
+    ensures { OnOk result (GrowsBy replies.old replies.new (flat_map kind_text kinds.now)) }
 {
     for kind in kinds {
         put(replies, " ")?;
@@ -58,8 +56,7 @@ fn put_kinds(replies: &mut Vec<u8>, kinds: &[MarkerWarningKind]) -> Result<(), A
 
 // Appends a reply to the replies, without the line feed that ends it.
 pub(crate) fn put_reply(replies: &mut Vec<u8>, reply: &Reply) -> Result<(), AllocError>
-    ensures { OnOk result
-        (replies.new.items ≡ replies.old.items ++ reply_text (answer_of reply.now)) }
+    ensures { OnOk result (GrowsBy replies.old replies.new (reply_text (answer_of reply.now))) }
 {
     match reply {
         Reply::Cell(index, kinds) => {
@@ -80,8 +77,7 @@ pub(crate) fn put_reply(replies: &mut Vec<u8>, reply: &Reply) -> Result<(), Allo
 
 // Appends the reply to a refused command.
 fn put_reason(replies: &mut Vec<u8>, reason: &Reason) -> Result<(), AllocError>
-    ensures { OnOk result
-        (replies.new.items ≡ replies.old.items ++ reason_text (reason_of reason.now)) }
+    ensures { OnOk result (GrowsBy replies.old replies.new (reason_text (reason_of reason.now))) }
 {
     match reason {
         Reason::NoSuchCell => put(replies, "error cell"),

@@ -1,10 +1,10 @@
 //! The first words of lines, by what follows them.
 
-ghost use Rattle.std.specs.Prelude.{◌≡◌, ◌≢◌, MatchOption};
+ghost use Rattle.std.specs.Prelude.{◌≡◌, MatchOption};
 ghost use Rattle.version_ranges.specs.Clamp.{bound_of};
 ghost use Rattle.marker_environment.specs.Environment.{values_of};
 ghost use Rattle.pep508_markers.specs.Session.{request_of};
-ghost use Rattle.marker_lines.specs.Word.{word_text, cell_request, pair_request, names_request, range_request};
+ghost use Rattle.marker_lines.specs.Word.{word_text, IsNoWord, cell_request, pair_request, names_request, range_request};
 
 use marker_environment::MarkerEnvironment;
 use pep440_version::Version;
@@ -70,8 +70,7 @@ pub(crate) enum RangeCommand {
 impl Word {
     // The word with this text, in small letters as above, or `None`.
     pub(crate) fn parse(text: &str) -> Option<Word>
-        ensures { MatchOption result ((word : Word) → text.now ≢ word_text word)
-            (λ word. text.now ≡ word_text word) }
+        ensures { MatchOption result (IsNoWord text.now) (λ word. text.now ≡ word_text word) }
     {
         match text.len() {
             2 if text == "or" => Some(Word::OnTwo(PairCommand::Or)),

@@ -1,12 +1,11 @@
 -- Examples of sides, and the lines that show them.
-use Rattle.std.proofs.Common.{◌≡◌, ◌∙◌, ◌<◌, ◌+◌, ℕ, All, Bool, false, not, List, [], ◌++◌, take, length, get_or, Option, Some, None, sym, ap, subst, append_assoc, string_bytes, arith}
+use Rattle.std.proofs.Common.{◌≡◌, ◌∙◌, ◌<◌, ◌+◌, ℕ, Bool, false, not, List, [], ◌∷◌, ◌++◌, take, length, get_or, Option, Some, None, sym, ap, subst, append_assoc, string_bytes, arith}
 use Rattle.std.specs.Prelude.{◌&&◌}
 use Rattle.std.specs.Prelude.{IfOk, IfSome, Result}
 use Rattle.std.proofs.lemmas.Result.{IfOk-weaker}
 use Rattle.marker_nodes.proofs.Firsts.{false_is}
 use Rattle.std.proofs.lemmas.List.{flat_map_more, take_more}
 use Rattle.std.specs.Option.{option_to_list}
-use Rattle.std.proofs.lemmas.List.Elements.{All-append, All-cons, All-nil, All-weaker}
 use Rattle.std.proofs.lemmas.Option.{IfSome_then}
 use Rattle.marker_environment.specs.Valuation.{Valuation}
 use Rattle.marker_graph.specs.declared.tree.MarkerTree.{MarkerTree}
@@ -16,7 +15,7 @@ use Rattle.marker_diagrams.specs.Id.{is_negated, place_of, signed}
 use Rattle.marker_witnesses.specs.declared.sides.ShownWitness.{ShownWitness}
 use Rattle.marker_witnesses.specs.declared.sides.Side.{Side}
 use Rattle.marker_witnesses.specs.declared.sides.Side.TheVariants.{Both, OnlyFirst, OnlySecond}
-use Rattle.marker_witnesses.specs.Sides.{line_text, lines_text, or_any, side_truth, IsExampleOf, IsShown, Shows}
+use Rattle.marker_witnesses.specs.Sides.{line_text, lines_text, or_any, side_truth, IsExampleOf, IsShown, Shows, ShowsEach, no_more, nothing, witness}
 use Rattle.marker_witnesses.specs.declared.example.Example.{Example}
 use Rattle.marker_witnesses.specs.Text.{example_text}
 use Rattle.marker_witnesses.specs.Witness.{example_valuation, Satisfies}
@@ -69,18 +68,25 @@ pub example_shown : (c d : Contents) (a b t : MarkerTree) (shown : ShownWitness)
 example_shown c d a b t shown example e p means text =
     subst (λ (o : Option Example). IfSome o (IsExampleOf (truth c a) (truth c b) shown)) (sym e) (record { satisfies = sym (means (example_valuation example)) ∙ p; text = text })
 
--- what is shown of a side is a list of at most one
-pub shown_list : (f g : Valuation → Bool) (side : Side) (found : Option ShownWitness) → Shows f g side found → All (IsShown f g) (option_to_list found)
-shown_list f g side None p = All-nil (IsShown f g)
-shown_list f g side (Some shown) p = All-cons (IsShown f g) shown [] p.1 (All-nil (IsShown f g))
+-- what is shown of a side in an interner that grew is shown of the markers before
+shows_before : (c d : Contents) (a b : MarkerTree) (side : Side) (found : Option ShownWitness) → IsKept c d → IsHeld c a → IsHeld c b → Shows (truth d a) (truth d b) side found → Shows (truth c a) (truth c b) side found
+shows_before c d a b side None kept held held' p = λ v. same_side side (truth c a) (truth c b) (truth d a) (truth d b) (kept_truth c d a kept held) (kept_truth c d b kept held') v ∙ p v
+shows_before c d a b side (Some shown) kept held held' p = (p.0, shown_before c d a b shown kept held held' p.1)
+
+-- one more side
+shows_last : {f g : Valuation → Bool} {sides : List Side} {shown : List ShownWitness} (side : Side) (found : Option ShownWitness) → ShowsEach f g sides shown → Shows f g side found → ShowsEach f g (sides ++ side ∷ []) (shown ++ option_to_list found)
+shows_last side None no_more p = nothing p no_more
+shows_last side (Some one) no_more p = witness one p no_more
+shows_last side found (nothing q more) p = nothing q (shows_last side found more p)
+shows_last side found (witness one q more) p = witness one q (shows_last side found more p)
 
 -- more that is shown, in an interner that grew
-pub shown_more : (c d : Contents) (a b : MarkerTree) (side : Side) (old new : List ShownWitness) (found : Option ShownWitness) → IsKept c d → IsHeld c a → IsHeld c b → new ≡ old ++ option_to_list found
-    → All (IsShown (truth c a) (truth c b)) old → Shows (truth d a) (truth d b) side found → All (IsShown (truth c a) (truth c b)) new
-shown_more c d a b side old new found kept held held' grew p q =
-    let P : ShownWitness → Type 0 = IsShown (truth c a) (truth c b) in
-    let more = All-weaker (IsShown (truth d a) (truth d b)) P (λ s r. shown_before c d a b s kept held held' r) (option_to_list found) (shown_list (truth d a) (truth d b) side found q) in
-    subst (All P) (sym grew) (All-append P old (option_to_list found) p more)
+pub shows_more : (c d : Contents) (a b : MarkerTree) (sides : List Side) (i : ℕ) (side : Side) (old new : List ShownWitness) (found : Option ShownWitness) → IsKept c d → IsHeld c a → IsHeld c b → i < length sides
+    → ShowsEach (truth c a) (truth c b) (take i sides) old → Shows (truth d a) (truth d b) (get_or sides i side) found → new ≡ old ++ option_to_list found → ShowsEach (truth c a) (truth c b) (take (i + 1) sides) new
+shows_more c d a b sides i side old new found kept held held' below p q grew =
+    let last = shows_last (get_or sides i side) found p (shows_before c d a b (get_or sides i side) found kept held held' q) in
+    let sides_grew : take (i + 1) sides ≡ take i sides ++ get_or sides i side ∷ [] = take_more sides i side below in
+    rw (sides_grew, grew) last
 
 -- ---- lines
 

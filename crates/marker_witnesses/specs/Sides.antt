@@ -2,6 +2,8 @@
 use Rattle.std.specs.Prelude.{◌≡◌, ◌&&◌, ℕ, Bool, false, not, List, [], ◌∷◌, ◌++◌, IfSome, Option, None, Some, codes, string_bytes}
 use Rattle.std.specs.List.{flat_map}
 use Rattle.marker_environment.specs.Valuation.{Valuation}
+use Rattle.marker_relation.specs.declared.relation.MarkerRelation.{MarkerRelation}
+use Rattle.marker_relation.specs.declared.relation.MarkerRelation.TheVariants.{Equal, Disjoint, FirstImpliesSecond, SecondImpliesFirst, Overlapping}
 use Rattle.marker_witnesses.specs.declared.sides.ShownWitness.{ShownWitness}
 use Rattle.marker_witnesses.specs.declared.sides.Side.{Side}
 use Rattle.marker_witnesses.specs.declared.sides.Side.TheVariants.{Both, OnlyFirst, OnlySecond}
@@ -33,6 +35,24 @@ IsShown f g shown = IfSome shown.example (IsExampleOf f g shown)
 abbrev pub Shows : (Valuation → Bool) → (Valuation → Bool) → Side → Option ShownWitness → Type 0
 Shows f g side None = (v : Valuation) → side_truth side f g v ≡ false
 Shows f g side (Some shown) = (shown.side ≡ side) × IsShown f g shown
+
+-- the sides that a relation is about
+abbrev pub sides_of : MarkerRelation → List Side
+sides_of Equal = Both ∷ []
+sides_of Disjoint = OnlyFirst ∷ OnlySecond ∷ []
+sides_of FirstImpliesSecond = OnlySecond ∷ []
+sides_of SecondImpliesFirst = OnlyFirst ∷ []
+sides_of Overlapping = Both ∷ OnlyFirst ∷ OnlySecond ∷ []
+
+-- what is shown of each side, in their order
+pub data ShowsEach (f : Valuation → Bool) (g : Valuation → Bool) : List Side → List ShownWitness
+    → Type 0 where
+  no_more : ShowsEach f g [] []
+  nothing : {side : Side} {sides : List Side} {shown : List ShownWitness}
+      → Shows f g side None → ShowsEach f g sides shown → ShowsEach f g (side ∷ sides) shown
+  witness : {side : Side} {sides : List Side} (one : ShownWitness) {shown : List ShownWitness}
+      → Shows f g side (Some one) → ShowsEach f g sides shown
+      → ShowsEach f g (side ∷ sides) (one ∷ shown)
 
 abbrev pub side_name : Side → List ℕ
 side_name Both = codes "both"

@@ -6,7 +6,7 @@
 
 mod choice;
 mod example;
-mod label;
+mod labels;
 mod path;
 mod sides;
 mod step;
@@ -18,6 +18,7 @@ mod witness;
 
 pub use crate::choice::Preference;
 pub use crate::example::{Example, example_of};
+pub use crate::labels::{answer_word, text_label, variable_label, version_label};
 pub use crate::path::path_to_true;
 pub use crate::sides::{ShownWitness, Side, witness_lines, witnesses};
 pub use crate::step::{Step, TextStep, VersionStep};

@@ -1,11 +1,11 @@
 //! Environments that show how two markers relate.
 
-ghost use Rattle.std.specs.Prelude.{◌≡◌, ◌&&◌, ◌++◌, All, IfOk, OnOk, string_bytes};
+ghost use Rattle.std.specs.Prelude.{◌≡◌, ◌&&◌, ◌++◌, IfOk, OnOk, string_bytes};
 ghost use Rattle.std.specs.Option.{option_to_list};
 ghost use Rattle.marker_environment.specs.Valuation.{Valuation};
 ghost use Rattle.marker_graph.specs.Contents.{IsHeld, IsKept, truth};
 ghost use Rattle.marker_witnesses.specs.Text.{example_text};
-ghost use Rattle.marker_witnesses.specs.Sides.{IsShown, Shows, line_text, lines_text, or_any, side_name, side_truth};
+ghost use Rattle.marker_witnesses.specs.Sides.{Shows, ShowsEach, line_text, lines_text, or_any, side_name, side_truth, sides_of};
 
 use crate::example::Example;
 use crate::step::Step;
@@ -88,7 +88,9 @@ fn conjunction(
 static SIDES: [Side; 3] = [Side::Both, Side::OnlyFirst, Side::OnlySecond];
 
 // The sides that a relation shows.
-fn sides_of(relation: MarkerRelation) -> &'static [Side] {
+fn sides_of(relation: MarkerRelation) -> &'static [Side]
+    ensures { result.now ≡ sides_of relation }
+{
     match relation {
         MarkerRelation::Equal => &SIDES[..1],
         MarkerRelation::Disjoint => &SIDES[1..],
@@ -175,8 +177,8 @@ pub fn witnesses(
     requires first { IsHeld interner.old first }
     requires second { IsHeld interner.old second }
     ensures kept { IsKept interner.old interner.new }
-    ensures shown { IfOk result (λ shown.
-        All (IsShown (truth interner.old first) (truth interner.old second)) shown.items) }
+    ensures shown { IfOk result (λ shown. ShowsEach (truth interner.old first)
+        (truth interner.old second) (sides_of relation) shown.items) }
 {
     let mut shown = Vec::new(interner.allocator());
     for side in sides_of(relation) {

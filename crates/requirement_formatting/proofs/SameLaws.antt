@@ -19,7 +19,7 @@ use Rattle.pep508_requirements.specs.declared.requirement.Requirement.{Requireme
 use Rattle.pep508_urls.specs.Meaning.{IsVerbatim}
 use Rattle.pep508_urls.specs.Verbatim.{Verbatim}
 use Rattle.pep508_urls.specs.declared.error.VerbatimUrlError.{VerbatimUrlError}
-use Rattle.requirement_formatting.specs.Same.{IsReadIn, IsSame, IsSameText, IsSameWish, Parses}
+use Rattle.requirement_formatting.specs.Same.{IsParsedIn, IsSame, IsSameText, IsSameWish, Parses}
 use Rattle.requirement_formatting.specs.Formatting.{IsSameFrom, StartsFrom}
 
 abbrev Named : Type 0
@@ -52,11 +52,11 @@ kept_truth : (old new : Contents) (t : MarkerTree) → IsKept old new → IsHeld
 kept_truth old new t k h v = ap (signed (is_negated t.id)) (k.nodes.truth (place_of t.id) v h)
 
 -- the formula of what was parsed
-pub parses : {s : Surroundings} {c : Contents} {text : List ℕ} (r : Named) (read : IsReadIn s c text r) → Parses s text r.name r.extras.items r.version_or_url read.read.formula
+pub parses : {s : Surroundings} {c : Contents} {text : List ℕ} (r : Named) (read : IsParsedIn s c text r) → Parses s text r.name r.extras.items r.version_or_url read.read.formula
 parses r read = record { kinds = read.kinds; requirement = read.read.requirement; no_overflow = read.read.no_overflow }
 
 -- texts of the same requirement
-pub same_text : {s : Surroundings} {c d : Contents} {old new : List ℕ} (r q : Named) → IsReadIn s c old r → IsHeld c r.marker → IsKept c d → IsReadIn s d new q → IsSame r q → IsSameText s old new
+pub same_text : {s : Surroundings} {c d : Contents} {old new : List ℕ} (r q : Named) → IsParsedIn s c old r → IsHeld c r.marker → IsKept c d → IsParsedIn s d new q → IsSame r q → IsSameText s old new
 same_text {s} {c} {d} {old} {new} r q first held kept second same = record {
   name = r.name;
   extras = r.extras.items;

@@ -4,6 +4,7 @@ use Rattle.pep508_errors.specs.declared.surroundings.Surroundings.{Surroundings}
 use Rattle.requirement_rewriting.specs.Finding.{EditsFile}
 use Rattle.requirement_rewriting.specs.declared.applying.Edit.{Edit}
 use Rattle.requirement_formatting.specs.Same.{IsSameText}
+use Rattle.requirement_formatting.specs.declared.files.Formatted.{Formatted}
 use Rattle.requirement_formatting.specs.declared.files.FormatSettings.{FormatSettings}
 use Rattle.requirement_formatting.specs.declared.formatter.Formatter.{Formatter}
 
@@ -32,3 +33,7 @@ pub record Formats (settings : FormatSettings) (file : List ℕ) (edits : List E
   pub last : Formatter
   pub settings_are : formatter.settings ≡ settings
   pub edited : EditsFile IsAnswer file formatter edits last
+
+-- the same of what a file was formatted to
+abbrev pub IsFormatted : FormatSettings → List ℕ → Formatted → Type 0
+IsFormatted settings file done = Formats settings file done.edits.items

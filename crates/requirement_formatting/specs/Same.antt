@@ -1,5 +1,5 @@
 -- Texts of one and the same requirement.
-use Rattle.std.specs.Prelude.{◌≡◌, ⊤, ℕ, List, Option, None, Some}
+use Rattle.std.specs.Prelude.{◌≡◌, ⊤, ℕ, List, Option, None, Some, String, string_bytes}
 use Rattle.pep440_specifier.specs.Set.{set_text}
 use Rattle.pep508_errors.specs.declared.surroundings.Surroundings.{Surroundings}
 use Rattle.pep508_errors.specs.declared.warning.MarkerWarningKind.{MarkerWarningKind}
@@ -39,7 +39,7 @@ pub record IsSame (one other : Requirement Verbatim VerbatimUrlError) : Type 0 w
   pub marker : one.marker ≡ other.marker
 
 -- the text parses as the requirement
-pub record IsReadIn (surroundings : Surroundings) (c : Contents) (text : List ℕ)
+pub record IsParsedIn (surroundings : Surroundings) (c : Contents) (text : List ℕ)
     (r : Requirement Verbatim VerbatimUrlError) : Type 0 where
   pub kinds : List MarkerWarningKind
   pub read : IsReadAs (urls_in IsVerbatim surroundings) c text r.name r.extras.items
@@ -66,3 +66,7 @@ pub record IsSameText (surroundings : Surroundings) (old new : List ℕ) : Type 
   pub new_parses : Parses surroundings new name extras wish_again formula_again
   pub same_wish : IsSameWish wish wish_again
   pub same_truth : (v : Valuation) → truth formula v ≡ truth formula_again v
+
+-- the same of a string
+abbrev pub IsSameString : {A : Type 0} → Surroundings → List ℕ → String A → Type 0
+IsSameString surroundings old new = IsSameText surroundings old (string_bytes new)

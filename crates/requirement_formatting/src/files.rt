@@ -1,8 +1,8 @@
 //! Formatting a requirements file.
 
-ghost use Rattle.std.specs.Prelude.{IfOk, IfSome, length};
-ghost use Rattle.requirement_formatting.specs.Formatting.{Formats};
-ghost use Rattle.requirement_rewriting.specs.Applying.{Makes};
+ghost use Rattle.std.specs.Prelude.{IfOk, IfSome};
+ghost use Rattle.requirement_formatting.specs.Formatting.{IsFormatted};
+ghost use Rattle.requirement_rewriting.specs.Applying.{MakesFile};
 
 use crate::formatter::Formatter;
 use requirement_rewriting::{Edit, apply_edits, find_edits};
@@ -41,10 +41,9 @@ pub fn format_file(
     text: &str,
     settings: FormatSettings<'_>,
 ) -> Result<Option<Formatted>, AllocError>
-    ensures found { IfOk result (λ done. IfSome done
-        (λ f. Formats settings.entry text.now f.edits.items)) }
-    ensures made { IfOk result (λ done. IfSome done
-        (λ f. Makes (length bytes.now) bytes.now f.edits.items f.bytes.items)) }
+    ensures found { IfOk result (λ d. IfSome d (IsFormatted settings.entry text.now)) }
+    ensures made { IfOk result
+        (λ d. IfSome d (λ f. MakesFile bytes.now f.edits.items f.bytes.items)) }
 {
     let mut formatter = Formatter {
         file: text,

@@ -1,8 +1,8 @@
 //! The normal texts of requirements.
 
-ghost use Rattle.std.specs.Prelude.{IfOk, IfSome, string_bytes};
+ghost use Rattle.std.specs.Prelude.{IfOk, IfSome};
 ghost use Rattle.marker_graph.specs.Contents.{IsHeld};
-ghost use Rattle.requirement_formatting.specs.Same.{IsSameText};
+ghost use Rattle.requirement_formatting.specs.Same.{IsSameString};
 
 use crate::parsing::{given_url, parse_whole};
 use crate::same::is_same;
@@ -43,8 +43,7 @@ pub fn normal_text(
     surroundings: &Surroundings<'_>,
     interner: &mut Interner,
 ) -> Result<Option<String>, AllocError>
-    ensures { IfOk result (λ answer. IfSome answer
-        (λ new. IsSameText surroundings.now text.now (string_bytes new))) }
+    ensures { IfOk result (λ new. IfSome new (IsSameString surroundings.now text.now)) }
 {
     let Some(requirement) = parse_whole(text, surroundings, interner)? else {
         return Ok(None);

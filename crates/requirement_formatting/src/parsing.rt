@@ -2,7 +2,7 @@
 
 ghost use Rattle.std.specs.Prelude.{IfOk, IfSome};
 ghost use Rattle.marker_graph.specs.Contents.{IsHeld, IsKept};
-ghost use Rattle.requirement_formatting.specs.Same.{IsReadIn};
+ghost use Rattle.requirement_formatting.specs.Same.{IsParsedIn};
 
 use crate::variables::has_variable_outside;
 use marker_graph::Interner;
@@ -34,8 +34,7 @@ pub(crate) fn parse_whole(
 ) -> Result<Option<Requirement<VerbatimUrl>>, AllocError>
     ensures kept { IsKept interner.old interner.new }
     ensures held { IfOk result (λ read. IfSome read (λ r. IsHeld interner.new r.marker)) }
-    ensures read { IfOk result
-        (λ read. IfSome read (IsReadIn surroundings.now interner.new text.now)) }
+    ensures read { IfOk result (λ r. IfSome r (IsParsedIn surroundings.now interner.new text.now)) }
 {
     let mut warnings = Vec::new(interner.allocator());
     match Requirement::parse_reporter(text, surroundings, &mut warnings, interner) {

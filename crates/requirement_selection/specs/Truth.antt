@@ -1,5 +1,5 @@
 -- What a truth is in a target.
-use Rattle.std.specs.Prelude.{◌≡◌, ℕ, Bool, true, false, List, length, Some, slice_get}
+use Rattle.std.specs.Prelude.{◌≡◌, ℕ, Bool, true, false, List, length, Some, slice_get, codes}
 use Rattle.marker_environment.specs.Valuation.{Valuation}
 use Rattle.requirement_selection.specs.declared.target.Target.{Target}
 use Rattle.requirement_selection.specs.declared.truth.Truth.{Truth}
@@ -25,6 +25,12 @@ abbrev pub truth_of : Bool → Bool → Truth
 truth_of true true = Open
 truth_of true false = Yes
 truth_of false b = No
+
+-- the cell of a table for a truth
+abbrev pub cell_text : Truth → List ℕ
+cell_text Yes = codes "yes"
+cell_text No = codes "no"
+cell_text Open = codes "?"
 
 -- what a truth is in each of several targets, in their order
 pub record AreTruths (f : Valuation → Bool) (targets : List Target) (truths : List Truth) : Type 0

@@ -2,7 +2,7 @@
 
 ghost use Rattle.std.specs.Prelude.{◌≡◌, IfOk, IfSome};
 ghost use Rattle.marker_graph.specs.Contents.{IsHeld, truth};
-ghost use Rattle.requirement_selection.specs.Truth.{AreTruths, IsTruth, truth_of};
+ghost use Rattle.requirement_selection.specs.Truth.{AreTruths, IsTruth, cell_text, truth_of};
 
 use crate::reached::{reached, settled};
 use crate::target::Target;
@@ -23,7 +23,9 @@ pub enum Truth {
 
 impl Truth {
     /// Returns the cell of a table for it: `yes`, `no` or `?`.
-    pub fn cell(self) -> &'static str {
+    pub fn cell(self) -> &'static str
+        ensures { result.now ≡ cell_text self }
+    {
         match self {
             Truth::Yes => "yes",
             Truth::No => "no",

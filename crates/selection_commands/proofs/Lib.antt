@@ -1,0 +1,4 @@
+pub mod TableLaws
+pub mod JsonLaws
+pub mod SelectingLaws
+pub mod TabulatingLaws

@@ -1,5 +1,8 @@
 //! The environments of a table.
 
+ghost use Rattle.std.specs.Prelude.{◌≡◌, IfOk, string_bytes};
+ghost use Rattle.selection_commands.specs.Cells.{title_of};
+
 use crate::arguments::MatrixWords;
 use marker_commands::{
     EnvironmentWords, Stop, assignments_of, extras_of, invalid_value, is_short, known_of,
@@ -25,7 +28,9 @@ pub(crate) struct Targets {
 
 impl Column<'_> {
     /// Returns the title of the column, such as `3.12 linux`.
-    pub fn title(&self, alloc: Global) -> Result<String, AllocError> {
+    pub fn title(&self, alloc: Global) -> Result<String, AllocError>
+        ensures { IfOk result (λ title. string_bytes title ≡ title_of self.now) }
+    {
         match (self.python, self.platform) {
             (Some(python), Some(platform)) => format!(in alloc; "{python} {platform}"),
             (Some(word), None) | (None, Some(word)) => String::from_str(alloc, word),

@@ -1,8 +1,9 @@
 //! Reading the markers of requirements.
 
-ghost use Rattle.std.specs.Prelude.{IfOk, IfSome};
+ghost use Rattle.std.specs.Prelude.{◌≡◌, IfOk, IfSome};
 ghost use Rattle.marker_graph.specs.Contents.{IsHeld};
 ghost use Rattle.requirement_checks.specs.Findings.{HoldsMarker};
+ghost use Rattle.selection_commands.specs.Markers.{FindsMarker, FindsMarkerOf, IsReadBy};
 
 use marker_graph::{Interner, Mark, MarkerTree};
 use pep508_errors::Surroundings;
@@ -47,7 +48,8 @@ fn read_text(
     surroundings: &Surroundings<'_>,
     interner: &mut Interner,
 ) -> Result<Reading<VerbatimUrl>, AllocError>
-    ensures { IfOk result (HoldsMarker interner.new) }
+    ensures held { IfOk result (HoldsMarker interner.new) }
+    ensures read { IfOk result (IsReadBy surroundings.now is_editable interner.new text.now) }
 {
     if is_editable {
         read_unnamed(text, surroundings, interner)
@@ -63,7 +65,9 @@ fn read_marker(
     surroundings: &Surroundings<'_>,
     interner: &mut Interner,
 ) -> Result<Option<FoundMarker>, AllocError>
-    ensures { IfOk result (λ found. IfSome found (λ marker. IsHeld interner.new marker.tree)) }
+    ensures held { IfOk result
+        (λ found. IfSome found (λ marker. IsHeld interner.new marker.tree)) }
+    ensures read { IfOk result (FindsMarker surroundings.now is_editable interner.new text.now) }
 {
     match read_text(text, is_editable, surroundings, interner) {
         Ok(Reading::Named(requirement, _)) => Ok(Some(FoundMarker {
@@ -82,7 +86,9 @@ fn read_marker(
 
 impl<'s> MarkerReader<'s> {
     /// Returns a reader that has read nothing.
-    pub(crate) fn new(settings: CheckSettings<'s>) -> MarkerReader<'s> {
+    pub(crate) fn new(settings: CheckSettings<'s>) -> MarkerReader<'s>
+        ensures { result.settings ≡ settings.entry }
+    {
         MarkerReader {
             settings,
             interner: None,
@@ -95,7 +101,9 @@ impl<'s> MarkerReader<'s> {
     }
 
     // An interner without nodes.
-    fn take_interner(&mut self, alloc: Global) -> Interner {
+    fn take_interner(&mut self, alloc: Global) -> Interner
+        ensures { self.new.settings ≡ self.old.settings }
+    {
         match self.interner.take() {
             Some(interner) => interner,
             None => { Interner::with_key_and_room(alloc, self.settings.key, self.settings.room) }
@@ -110,8 +118,9 @@ impl<'s> MarkerReader<'s> {
         text: &str,
         is_editable: bool,
     ) -> Result<Option<HeldMarker>, AllocError>
-        ensures { IfOk result (λ found. IfSome found
-            (λ held. IsHeld held.interner held.marker.tree)) }
+        ensures settings { self.new.settings ≡ self.old.settings }
+        ensures held { IfOk result (λ f. IfSome f (λ h. IsHeld h.interner h.marker.tree)) }
+        ensures read { IfOk result (FindsMarkerOf self.old is_editable text.now) }
     {
         let none = BTreeMap::new(alloc);
         let surroundings = Surroundings {
@@ -132,7 +141,9 @@ impl<'s> MarkerReader<'s> {
     }
 
     /// Keeps the interner of a marker for the next one, without its nodes.
-    pub(crate) fn put_back(&mut self, held: HeldMarker) {
+    pub(crate) fn put_back(&mut self, held: HeldMarker)
+        ensures { self.new.settings ≡ self.old.settings }
+    {
         let mut interner = held.interner;
         if interner.pieces() <= MOST_KEPT && !interner.has_met_room() {
             interner.release(held.mark);

@@ -1,10 +1,13 @@
 //! The requirements that apply in an environment.
 
-ghost use Rattle.std.specs.Prelude.{⊤};
+ghost use Rattle.std.specs.Prelude.{◌≡◌, IfOk, OnOk};
 ghost use Rattle.marker_graph.specs.Contents.{IsHeld};
 ghost use Rattle.requirement_lines.specs.Reports.{text_of};
 ghost use Rattle.requirement_checks.specs.Findings.{names_of};
 ghost use Rattle.requirement_checks.specs.Specifiers.{FindsInSpecifiers};
+ghost use Rattle.requirement_selection.specs.Truth.{IsTruth};
+ghost use Rattle.selection_commands.specs.Markers.{requirement_at, truth_held};
+ghost use Rattle.selection_commands.specs.Selecting.{Chooses, SelectsFrom, SelectsLine, SelectsText, Stays, TruthOf, without_text};
 
 use crate::reading::{HeldMarker, MarkerReader};
 use crate::written::{Stretch, stretch_of};
@@ -46,6 +49,7 @@ fn choose(
     room: usize,
 ) -> Result<Choice, AllocError>
     requires { IsHeld held.old.interner held.old.marker.tree }
+    ensures { IfOk result (Chooses (IsTruth target.now (truth_held held.old))) }
 {
     let marker = held.marker;
     match truth_in(&held.interner, marker.tree, target, room)? {
@@ -56,7 +60,7 @@ fn choose(
             let finding = stretch.unknown_value(alloc, &keys, marker.has_url)?;
             Ok(Choice::Reported(finding))
         }
-        None => Ok(Choice::Reported(stretch.too_complex(alloc)?)),
+        None => Ok(Choice::Reported(stretch.too_complex(alloc, Some(marker.has_url))?)),
     }
 }
 
@@ -68,7 +72,10 @@ impl<'s> Selector<'s> {
         settings: CheckSettings<'s>,
         target: Target,
         format: Format,
-    ) -> Selector<'s> {
+    ) -> Selector<'s>
+        ensures target { result.target ≡ target }
+        ensures settings { result.reader.settings ≡ settings.entry }
+    {
         Selector {
             checker: Checker::new(alloc, settings),
             reader: MarkerReader::new(settings),
@@ -79,37 +86,58 @@ impl<'s> Selector<'s> {
     }
 
     // What becomes of a requirement.
-    fn choice_of(
-        &mut self,
-        alloc: Global,
-        stretch: &Stretch<'_, '_>,
-    ) -> Result<Choice, AllocError> {
+    fn choice_of(&mut self, alloc: Global, stretch: &Stretch<'_, '_>) -> Result<Choice, AllocError>
+        ensures stays { OnOk result (Stays self.old self.new) }
+        ensures chosen { IfOk result (Chooses (TruthOf self.old (requirement_at stretch.now))) }
+    {
         let text = text_of(alloc, stretch.pieces)?;
         let room = self.reader.room();
         let Some(mut held) = self.reader.read(alloc, text.as_str(), stretch.is_editable)? else {
-            return Ok(Choice::Reported(stretch.too_complex(alloc)?));
+            return Ok(Choice::Reported(stretch.too_complex(alloc, None)?));
         };
         let choice = choose(alloc, &self.target, stretch, &mut held, room)?;
         self.reader.put_back(held);
         Ok(choice)
     }
 
-    // The list entry, if the requirement applies. Appends why that is not known.
-    fn select(
-        &mut self,
+    // The list entry of a requirement that applies.
+    fn entry_of(
+        &self,
         alloc: Global,
         stretch: &Stretch<'_, '_>,
         listed: Listed,
+    ) -> Result<Listed, AllocError>
+        ensures { IfOk result (λ entry. without_text entry ≡ without_text listed) }
+    {
+        if self.format != Format::Text {
+            return Ok(listed);
+        }
+        let mut entry = listed;
+        entry.text = Some(stretch.written(alloc, self.shows_values)?);
+        Ok(entry)
+    }
+
+    // The list entry of a requirement, if there is one that the checker lists, and it applies.
+    // Appends why that is not known.
+    fn select(
+        &mut self,
+        alloc: Global,
+        stretch: Option<Stretch<'_, '_>>,
+        listed: Option<Listed>,
         findings: &mut Vec<Finding>,
-    ) -> Result<Option<Listed>, AllocError> {
-        match self.choice_of(alloc, stretch)? {
-            Choice::Listed => {
-                let mut listed = listed;
-                if self.format == Format::Text {
-                    listed.text = Some(stretch.written(alloc, self.shows_values)?);
-                }
-                Ok(Some(listed))
-            }
+    ) -> Result<Option<Listed>, AllocError>
+        ensures stays { OnOk result (Stays self.old self.new) }
+        ensures selected { IfOk result
+            (SelectsFrom self.old stretch.entry listed findings.old findings.new) }
+    {
+        let Some(stretch) = stretch else {
+            return Ok(None);
+        };
+        let Some(listed) = listed else {
+            return Ok(None);
+        };
+        match self.choice_of(alloc, &stretch)? {
+            Choice::Listed => Ok(Some(self.entry_of(alloc, &stretch, listed)?)),
             Choice::LeftOut => Ok(None),
             Choice::Reported(finding) => {
                 findings.push(finding)?;
@@ -120,9 +148,9 @@ impl<'s> Selector<'s> {
 }
 
 impl CheckLines for Selector<'_> {
-    ghost checks = { λ old line checked new. ⊤ };
+    ghost checks = { SelectsLine };
 
-    ghost checks_text = { λ old text checked new. ⊤ };
+    ghost checks_text = { SelectsText };
 
     ghost finds = { λ text findings. FindsInSpecifiers (text_of text) (names_of findings) };
 
@@ -139,12 +167,7 @@ impl CheckLines for Selector<'_> {
             mut findings,
             listed,
         } = checked;
-        let listed = match (stretch_of(file, &line), listed) {
-            (Some(stretch), Some(listed)) => {
-                self.select(alloc, &stretch, listed, &mut findings)?
-            }
-            (_, _) => None,
-        };
+        let listed = self.select(alloc, stretch_of(file, &line), listed, &mut findings)?;
         Ok(CheckedLine {
             line,
             findings,
@@ -169,10 +192,7 @@ impl CheckLines for Selector<'_> {
             pieces: text,
             is_editable: false,
         };
-        let listed = match listed {
-            Some(listed) => self.select(alloc, &stretch, listed, &mut findings)?,
-            None => None,
-        };
+        let listed = self.select(alloc, Some(stretch), listed, &mut findings)?;
         Ok(CheckedText { findings, listed })
     }
 

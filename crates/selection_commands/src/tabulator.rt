@@ -1,9 +1,10 @@
 //! The rows of a table of requirements and environments.
 
-ghost use Rattle.std.specs.Prelude.{⊤};
+ghost use Rattle.std.specs.Prelude.{◌≡◌, [], IfOk, OnOk};
 ghost use Rattle.requirement_lines.specs.Reports.{text_of};
 ghost use Rattle.requirement_checks.specs.Findings.{names_of};
 ghost use Rattle.requirement_checks.specs.Specifiers.{FindsInSpecifiers};
+ghost use Rattle.selection_commands.specs.Tabulating.{FindsTruths, Stays, TabulatesFrom, TabulatesLine, TabulatesText};
 
 use crate::reading::MarkerReader;
 use crate::written::{Stretch, stretch_of};
@@ -38,7 +39,11 @@ pub struct Tabulator<'s> {
 
 impl<'s> Tabulator<'s> {
     /// Returns a tabulator that has seen no line.
-    pub fn new(alloc: Global, settings: CheckSettings<'s>, targets: Vec<Target>) -> Tabulator<'s> {
+    pub fn new(alloc: Global, settings: CheckSettings<'s>, targets: Vec<Target>) -> Tabulator<'s>
+        ensures targets { result.targets ≡ targets }
+        ensures settings { result.reader.settings ≡ settings.entry }
+        ensures empty { result.rows.items ≡ [] }
+    {
         Tabulator {
             checker: Checker::new(alloc, settings),
             reader: MarkerReader::new(settings),
@@ -54,7 +59,11 @@ impl<'s> Tabulator<'s> {
         &mut self,
         alloc: Global,
         stretch: &Stretch<'_, '_>,
-    ) -> Result<Option<Vec<Truth>>, AllocError> {
+    ) -> Result<Option<Vec<Truth>>, AllocError>
+        ensures rows { self.new.rows.items ≡ self.old.rows.items }
+        ensures stays { OnOk result (Stays self.old self.new) }
+        ensures truths { IfOk result (FindsTruths self.old stretch.now) }
+    {
         let text = text_of(alloc, stretch.pieces)?;
         let room = self.reader.room();
         let Some(held) = self.reader.read(alloc, text.as_str(), stretch.is_editable)? else {
@@ -65,34 +74,44 @@ impl<'s> Tabulator<'s> {
         Ok(truths)
     }
 
-    // Adds the row of a requirement. Appends why there is none.
+    // Adds the row of a requirement, if there is one that the checker lists. Appends why there is
+    // no row.
     fn tabulate(
         &mut self,
         alloc: Global,
-        stretch: &Stretch<'_, '_>,
-        listed: Listed,
+        stretch: Option<Stretch<'_, '_>>,
+        listed: Option<Listed>,
         findings: &mut Vec<Finding>,
-    ) -> Result<(), AllocError> {
-        match self.truths_of(alloc, stretch)? {
-            Some(truths) => {
-                let row = Row {
-                    requirement: stretch.written(alloc, self.shows_values)?,
-                    name: listed.name,
-                    marker: listed.marker,
-                    truths,
-                };
-                self.rows.push(row)?;
-            }
-            None => findings.push(stretch.too_complex(alloc)?)?,
-        }
+    ) -> Result<(), AllocError>
+        ensures stays { OnOk result (Stays self.old self.new) }
+        ensures tabulated { OnOk result
+            (TabulatesFrom self.old stretch.entry listed findings.old self.new findings.new) }
+    {
+        let Some(stretch) = stretch else {
+            return Ok(());
+        };
+        let Some(listed) = listed else {
+            return Ok(());
+        };
+        let Some(truths) = self.truths_of(alloc, &stretch)? else {
+            findings.push(stretch.too_complex(alloc, None)?)?;
+            return Ok(());
+        };
+        let row = Row {
+            requirement: stretch.written(alloc, self.shows_values)?,
+            name: listed.name,
+            marker: listed.marker,
+            truths,
+        };
+        self.rows.push(row)?;
         Ok(())
     }
 }
 
 impl CheckLines for Tabulator<'_> {
-    ghost checks = { λ old line checked new. ⊤ };
+    ghost checks = { TabulatesLine };
 
-    ghost checks_text = { λ old text checked new. ⊤ };
+    ghost checks_text = { TabulatesText };
 
     ghost finds = { λ text findings. FindsInSpecifiers (text_of text) (names_of findings) };
 
@@ -109,9 +128,7 @@ impl CheckLines for Tabulator<'_> {
             mut findings,
             listed,
         } = checked;
-        if let (Some(stretch), Some(listed)) = (stretch_of(file, &line), listed) {
-            self.tabulate(alloc, &stretch, listed, &mut findings)?;
-        }
+        self.tabulate(alloc, stretch_of(file, &line), listed, &mut findings)?;
         Ok(CheckedLine {
             line,
             findings,
@@ -136,9 +153,7 @@ impl CheckLines for Tabulator<'_> {
             pieces: text,
             is_editable: false,
         };
-        if let Some(listed) = listed {
-            self.tabulate(alloc, &stretch, listed, &mut findings)?;
-        }
+        self.tabulate(alloc, Some(stretch), listed, &mut findings)?;
         Ok(CheckedText {
             findings,
             listed: None,

@@ -1,9 +1,14 @@
 //! Requirements as they are written, and findings in them.
 
+ghost use Rattle.std.specs.Prelude.{◌≡◌, IfOk};
+ghost use Rattle.requirement_checks.specs.Lines.{requirement_in};
+ghost use Rattle.requirement_options.specs.Content.{said_in};
+ghost use Rattle.selection_commands.specs.Markers.{requirement_of};
+
 use marker_subtrees::EnvironmentKey;
 use pep508_program::visible;
 use requirement_checks::{Finding, FindingName};
-use requirement_hints::marker_start;
+use requirement_hints::{marker_start, may_have_url};
 use requirement_lines::{Piece, Place, Source, place_at, text_of};
 use requirement_options::{Content, FileLine};
 use std::alloc::{AllocError, Global};
@@ -18,7 +23,9 @@ pub(crate) struct Stretch<'a, 'f> {
 }
 
 /// Returns the requirement of a line, if it has one.
-pub(crate) fn stretch_of<'l, 'f>(file: &'f str, line: &'l FileLine<'f>) -> Option<Stretch<'l, 'f>> {
+pub(crate) fn stretch_of<'l, 'f>(file: &'f str, line: &'l FileLine<'f>) -> Option<Stretch<'l, 'f>>
+    ensures { requirement_of result ≡ requirement_in (said_in line.now.content) }
+{
     let (pieces, is_editable) = match &line.content {
         Content::Requirement(pieces) => (pieces.as_slice(), false),
         Content::Editable(pieces) => (pieces.as_slice(), true),
@@ -94,15 +101,19 @@ impl Stretch<'_, '_> {
         }
     }
 
-    // A finding about the marker, or about the whole requirement if it has none.
+    // A finding about the marker, or about the whole requirement if it has none. `has_url` says
+    // whether the requirement has a URL or is one, if that is known.
     fn finding(
         &self,
         alloc: Global,
         name: FindingName,
         message: String,
-        has_url: bool,
-    ) -> Result<Finding, AllocError> {
+        has_url: Option<bool>,
+    ) -> Result<Finding, AllocError>
+        ensures { IfOk result (λ finding. finding.name ≡ name) }
+    {
         let text = text_of(alloc, self.pieces)?;
+        let has_url = has_url.unwrap_or(may_have_url(text.as_str()));
         let start = marker_start(text.as_str(), has_url).unwrap_or(0);
         Ok(Finding {
             name,
@@ -120,19 +131,27 @@ impl Stretch<'_, '_> {
         alloc: Global,
         keys: &[EnvironmentKey],
         has_url: bool,
-    ) -> Result<Finding, AllocError> {
+    ) -> Result<Finding, AllocError>
+        ensures { IfOk result (λ finding. finding.name ≡ FindingName.UnknownValue) }
+    {
         let message = "The marker depends on values that are not given";
         let mut message = String::from_str(alloc, message)?;
         for (index, key) in keys.iter().enumerate() {
             message.push_str(if index == 0 { ": " } else { " " })?;
             message.push_str(key.name())?;
         }
-        self.finding(alloc, FindingName::UnknownValue, message, has_url)
+        self.finding(alloc, FindingName::UnknownValue, message, Some(has_url))
     }
 
     /// Returns the finding that the marker needs more room than there is.
-    pub(crate) fn too_complex(&self, alloc: Global) -> Result<Finding, AllocError> {
+    pub(crate) fn too_complex(
+        &self,
+        alloc: Global,
+        has_url: Option<bool>,
+    ) -> Result<Finding, AllocError>
+        ensures { IfOk result (λ finding. finding.name ≡ FindingName.TooComplex) }
+    {
         let message = String::from_str(alloc, "The marker is too complex")?;
-        self.finding(alloc, FindingName::TooComplex, message, false)
+        self.finding(alloc, FindingName::TooComplex, message, has_url)
     }
 }

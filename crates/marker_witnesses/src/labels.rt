@@ -1,5 +1,6 @@
-//! The texts of nodes and edges.
+//! The texts of nodes, edges and steps.
 
+use crate::step::Step;
 use marker_graph::{MarkerTreeKind, MarkerValueExtraRef};
 use marker_words::Quoted;
 use pep440_version::Version;
@@ -8,10 +9,7 @@ use std::fmt::{Display, Write};
 use std::ops::Bound;
 
 /// Returns the variable on which a marker branches, as markers write it.
-pub(crate) fn variable_label(
-    alloc: Global,
-    kind: &MarkerTreeKind<'_>,
-) -> Result<String, AllocError> {
+pub fn variable_label(alloc: Global, kind: &MarkerTreeKind<'_>) -> Result<String, AllocError> {
     match kind {
         MarkerTreeKind::True => String::from_str(alloc, "true"),
         MarkerTreeKind::False => String::from_str(alloc, "false"),
@@ -40,12 +38,12 @@ fn extra_label(alloc: Global, name: MarkerValueExtraRef<'_>) -> Result<String, A
 }
 
 /// Returns the word for the answer of a substring test, or for whether an extra is requested.
-pub(crate) fn answer_label(alloc: Global, answer: bool) -> Result<String, AllocError> {
-    String::from_str(alloc, if answer { "yes" } else { "no" })
+pub fn answer_word(answer: bool) -> &'static str {
+    if answer { "yes" } else { "no" }
 }
 
 /// Returns the comparisons of the versions between two bounds.
-pub(crate) fn version_label(
+pub fn version_label(
     alloc: Global,
     lower: Bound<&Version>,
     upper: Bound<&Version>,
@@ -54,7 +52,7 @@ pub(crate) fn version_label(
 }
 
 /// Returns the comparisons of the texts between two bounds.
-pub(crate) fn text_label(
+pub fn text_label(
     alloc: Global,
     lower: Bound<&String>,
     upper: Bound<&String>,
@@ -98,4 +96,40 @@ fn range_label<T: Display + PartialEq>(
         Bound::Unbounded => {}
     }
     Ok(label)
+}
+
+// The variable on which a marker branches, and the answer with which a path goes on.
+fn answered_label(
+    alloc: Global,
+    kind: &MarkerTreeKind<'_>,
+    answer: bool,
+) -> Result<String, AllocError> {
+    let mut label = variable_label(alloc, kind)?;
+    label.push_str(": ")?;
+    label.push_str(answer_word(answer))?;
+    Ok(label)
+}
+
+impl Step<'_> {
+    /// Returns the variable of the step and the values with which it goes on, as drawings label
+    /// nodes and edges.
+    pub fn label(&self, alloc: Global) -> Result<String, AllocError> {
+        match *self {
+            Step::Version(step) => {
+                let range = version_label(alloc, step.lower, step.upper)?;
+                format!(in alloc; "{} {range}", step.variable)
+            }
+            Step::Text(step) => {
+                let range = text_label(alloc, step.lower, step.upper)?;
+                format!(in alloc; "{} {range}", step.variable)
+            }
+            Step::In(test, answer) => answered_label(alloc, &MarkerTreeKind::In(test), answer),
+            Step::Contains(test, answer) => {
+                answered_label(alloc, &MarkerTreeKind::Contains(test), answer)
+            }
+            Step::Extra(extra, answer) => {
+                answered_label(alloc, &MarkerTreeKind::Extra(extra), answer)
+            }
+        }
+    }
 }

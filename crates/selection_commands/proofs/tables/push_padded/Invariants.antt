@@ -1,0 +1,6 @@
+use Rattle.std.proofs.Common.{◌≡◌, ◌++◌, replicate, string_bytes}
+use Rattle.selection_commands.proofs.tables.push_padded.Given as goal
+
+abbrev pub invariant-loop-index : goal.invariant-loop-index
+invariant-loop-index l =
+    string_bytes l.out ≡ string_bytes l.initial.out ++ replicate l._index 32

@@ -1,0 +1,22 @@
+use Rattle.std.proofs.Common.{List, Option, refl, ◌∙◌, subst}
+use Rattle.requirement_lines.specs.Character.{Character}
+use Rattle.requirement_checks.specs.declared.reading.Form.{Form}
+use Rattle.selection_commands.specs.Tabulating.{TabulatesIf}
+use Rattle.selection_commands.proofs.SelectingLaws.{said_so}
+use Rattle.selection_commands.proofs.tabulator.TabulatorCheckLines.check_line.Goals as goal
+
+pub returns : goal.returns
+returns c =
+    let old = c.args.self.now in
+    let new = c.tabulate.new in
+    let found = c.in_ok-checked.checked in
+    let stays = c.in_ok-tabulate.ensures.stays in
+    record {
+      found = found;
+      checks = c.in_ok-checked.ensures.0;
+      same_line = refl;
+      no_list = refl;
+      tabulates = subst (λ (r : Option (List Character × Form)). TabulatesIf old r found.listed found.findings.items new.self.rows.items new.findings.items)
+          (said_so c.stretch_of.result c.in_ok-checked.ensures.0 c.stretch_of.ensures) c.in_ok-tabulate.ensures.tabulated;
+      stays = record { targets = stays.targets; reads = stays.reads; checks = stays.checks ∙ c.in_ok-checked.ensures.1 };
+    }
