@@ -31,10 +31,12 @@ int main(void) {
     show(&handle, "one of them", both);
     show(&handle, "none of them", neither);
 
-    bool disjoint, here;
+    bool disjoint, here, there;
     pep508_marker_disjoint(&handle, first, neither, &disjoint);
-    pep508_marker_evaluate_number(&handle, neither, &linux_312, NULL, 0, &here);
-    printf("disjoint: %d, here: %d\n", disjoint, here);
+    pep508_interner_set_environment(&handle, &linux_312, NULL, 0);
+    pep508_marker_is_true(&handle, neither, &here);
+    pep508_marker_is_true(&handle, first, &there);
+    printf("disjoint: %d, true on Linux: %d and %d\n", disjoint, here, there);
 
     /* What is made after a mark can be removed together. */
     size_t mark, other;

@@ -92,6 +92,8 @@ static void shut(struct pep508_interner *handle) {
     CALL(PEP508_SHUT, pep508_marker_equal(handle, 0, 0, &value));
     CALL(PEP508_SHUT, pep508_marker_disjoint(handle, 0, 0, &value));
     CALL(PEP508_SHUT, pep508_marker_evaluate_number(handle, 0, &linux_312, NULL, 0, &value));
+    CALL(PEP508_SHUT, pep508_interner_set_environment(handle, &linux_312, NULL, 0));
+    CALL(PEP508_SHUT, pep508_marker_is_true(handle, 0, &value));
     CALL(PEP508_SHUT, pep508_marker_text(handle, 0, buffer, sizeof buffer, &needed));
     expect(number == 77 && value && needed == 0 && strcmp(buffer, "xxx") == 0, "nothing is written",
            (long)number);
@@ -170,6 +172,48 @@ static void questions(struct pep508_interner *handle) {
     has_markers(handle, MARKERS);
 }
 
+/* The environment that is set: none at first, and then the last one that was read. */
+static void environments(struct pep508_interner *handle) {
+    bool value = true;
+    CALL(PEP508_NO_ENVIRONMENT, pep508_marker_is_true(handle, 0, &value));
+    CALL(PEP508_NO_SUCH_MARKER, pep508_marker_is_true(handle, 9, &value));
+    expect(value, "no value is written", 0);
+    CALL(PEP508_DONE, pep508_interner_set_environment(handle, &linux_312, extras, 2));
+    CALL(PEP508_DONE, pep508_marker_is_true(handle, 2, &value));
+    expect(value, "with the extra", 0);
+    CALL(PEP508_DONE, pep508_marker_is_true(handle, 0, &value));
+    expect(!value, "another name of the system", 0);
+    struct pep508_environment other = linux_312;
+    other.os_name.bytes = "a";
+    other.os_name.length = 1;
+    CALL(PEP508_DONE, pep508_interner_set_environment(handle, &other, NULL, 0));
+    CALL(PEP508_DONE, pep508_marker_is_true(handle, 0, &value));
+    expect(value, "the name of the system", 0);
+    CALL(PEP508_DONE, pep508_marker_is_true(handle, 2, &value));
+    expect(!value, "without the extra", 0);
+
+    struct pep508_environment wrong = linux_312;
+    wrong.python_version.bytes = "x";
+    wrong.python_version.length = 1;
+    CALL(PEP508_INVALID_ARGUMENT, pep508_interner_set_environment(handle, &wrong, extras, 2));
+    wrong = linux_312;
+    wrong.os_name.bytes = no_text;
+    wrong.os_name.length = 1;
+    CALL(PEP508_NOT_UTF8, pep508_interner_set_environment(handle, &wrong, extras, 2));
+    const struct pep508_text no_name = PEP508_TEXT("-");
+    CALL(PEP508_INVALID_ARGUMENT, pep508_interner_set_environment(handle, &linux_312, &no_name, 1));
+    CALL(PEP508_DONE, pep508_marker_is_true(handle, 0, &value));
+    expect(value, "the environment of before", 0);
+    CALL(PEP508_DONE, pep508_marker_evaluate_number(handle, 0, &linux_312, NULL, 0, &value));
+    expect(!value, "another environment for one call", 0);
+    CALL(PEP508_DONE, pep508_interner_release(handle, 1));
+    CALL(PEP508_DONE, pep508_marker_is_true(handle, 0, &value));
+    expect(value, "the environment stays when markers are removed", 0);
+    CALL(PEP508_NO_SUCH_MARKER, pep508_marker_is_true(handle, 1, &value));
+    open_with_markers(handle);
+    CALL(PEP508_NO_ENVIRONMENT, pep508_marker_is_true(handle, 0, &value));
+}
+
 /* Each length of a buffer. */
 static void rooms(struct pep508_interner *handle) {
     char whole[100], buffer[100], empty[100];
@@ -233,7 +277,7 @@ static void limits(void) {
 }
 
 /* Calls on an interner with markers. */
-enum { NEW, PARSE, WRONG, AND, OR, NOT, EVALUATE, TEXT, CALLS };
+enum { NEW, PARSE, WRONG, AND, OR, NOT, EVALUATE, SET, TEXT, CALLS };
 static const char parsed[] =
     "python_version > '3.9' and (extra == 'b' or sys_platform == 'c' or platform_machine == 'd')";
 static int32_t one(int which, struct pep508_interner *handle, size_t *number, bool *value,
@@ -247,6 +291,7 @@ static int32_t one(int which, struct pep508_interner *handle, size_t *number, bo
     case NOT: return pep508_marker_not(handle, 1, number);
     case EVALUATE:
         return pep508_marker_evaluate_number(handle, 2, &linux_312, extras, 2, value);
+    case SET: return pep508_interner_set_environment(handle, &linux_312, extras, 2);
     default: return pep508_marker_text(handle, 3, buffer, room, needed);
     }
 }
@@ -274,11 +319,16 @@ static void refused_growths(int which) {
             expect(number == 77 && !value, "nothing is written", which);
             expect(memcmp(buffer, empty, sizeof buffer) == 0, "no byte is written", which);
             expect(which != TEXT || needed == 0, "needed is 0", which);
+            CALL(PEP508_NO_ENVIRONMENT, pep508_marker_is_true(&handle, 2, &value));
             has_markers(&handle, MARKERS);
             answer = one(which, &handle, &number, &value, buffer, sizeof buffer, &needed);
         }
         expect(answer == wanted, "the answer with memory", which);
         has_markers(&handle, which == NEW ? 0 : MARKERS + more);
+        if (which == SET) {
+            CALL(PEP508_DONE, pep508_marker_is_true(&handle, 2, &value));
+            expect(value, "the environment that was set", which);
+        }
         expect(number == (which != NEW && more ? MARKERS : 77), "the next number", (long)number);
         pep508_interner_free(&handle);
     }
@@ -313,6 +363,7 @@ int main(void) {
     open_with_markers(&handle);
     markers(&handle);
     questions(&handle);
+    environments(&handle);
     rooms(&handle);
     pep508_interner_free(&handle);
     shut(&handle);

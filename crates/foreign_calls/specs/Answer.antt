@@ -1,7 +1,7 @@
 -- The numbers of answers.
 use Rattle.std.specs.Prelude.{ℤ, pos}
 use Rattle.foreign_calls.specs.declared.answer.Answer.{Answer}
-use Rattle.foreign_calls.specs.declared.answer.Answer.TheVariants.{Done, Invalid, OutOfMemory, BufferTooSmall, NotUtf8, NumberTooLarge, InvalidArgument, TooComplex, NoSuchMarker, Shut}
+use Rattle.foreign_calls.specs.declared.answer.Answer.TheVariants.{Done, Invalid, OutOfMemory, BufferTooSmall, NotUtf8, NumberTooLarge, InvalidArgument, TooComplex, NoSuchMarker, Shut, NoEnvironment}
 
 abbrev pub code_of : Answer → ℤ
 code_of Done = pos 0
@@ -14,6 +14,7 @@ code_of InvalidArgument = pos 6
 code_of TooComplex = pos 7
 code_of NoSuchMarker = pos 8
 code_of Shut = pos 9
+code_of NoEnvironment = pos 10
 
 -- the numbers by which the contracts of exports name answers
 abbrev pub done : ℤ

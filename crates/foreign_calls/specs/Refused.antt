@@ -6,7 +6,7 @@ use Rattle.refusal.specs.declared.Refusal.TheVariants as refusals
 use Rattle.pep508_markers.specs.Text.{TextOverflows}
 use Rattle.marker_grammar.specs.Refused.{IsNoMarker}
 use Rattle.foreign_calls.specs.declared.answer.Answer.{Answer}
-use Rattle.foreign_calls.specs.declared.answer.Answer.TheVariants.{Done, Invalid, OutOfMemory, BufferTooSmall, NotUtf8, NumberTooLarge, InvalidArgument, TooComplex, NoSuchMarker, Shut}
+use Rattle.foreign_calls.specs.declared.answer.Answer.TheVariants.{Done, Invalid, OutOfMemory, BufferTooSmall, NotUtf8, NumberTooLarge, InvalidArgument, TooComplex, NoSuchMarker, Shut, NoEnvironment}
 
 -- it says something of arguments beside the text, or that memory ran out
 abbrev pub IsOfArguments : Answer → Type 0
@@ -20,6 +20,7 @@ IsOfArguments InvalidArgument = ⊤
 IsOfArguments TooComplex = ⊥
 IsOfArguments NoSuchMarker = ⊥
 IsOfArguments Shut = ⊥
+IsOfArguments NoEnvironment = ⊥
 
 -- memory ran out, or the interner has no room
 abbrev pub IsOutOfMemory : Answer → Type 0

@@ -31,6 +31,8 @@ pub enum Answer {
     NoSuchMarker,
     /// The handle is shut.
     Shut,
+    /// No environment was set.
+    NoEnvironment,
 }
 
 impl Answer {
@@ -49,6 +51,7 @@ impl Answer {
             Answer::TooComplex => 7,
             Answer::NoSuchMarker => 8,
             Answer::Shut => 9,
+            Answer::NoEnvironment => 10,
         }
     }
 }

@@ -1,14 +1,13 @@
 -- The machine values of a `Handle`. Assumes `Logic`.
 use Rattle.std.proofs.Common.{◌≡◌, ◌∙◌, ℕ, List, [], ◌∷◌, ◌++◌, refl, subst, lit<}
-use mathlib.Core.Bool.{Bool, true, false, ◌&&◌}
+use mathlib.Core.Bool.{Bool, true, false}
 use lib.Dec.{T}
 use seplogic.Ra.Ura.{Ura}
-use mir.Syntax.{impl, tnil, dnil}
 use mir.Raw.{raw as bare}
-use mir.Val.{Val, vptr, vbool, vnull, vstruct, vcons, vnil, of_list, has_ty, WT}
+use mir.Val.{Val, vptr, vbool, vnull, vstruct, vcons, vnil, of_list}
 use base.Logic.{never, fst∗}
 use types.Logic.{Logic, sem}
-use types.Kit.{Item, Goal, Seq, Step, step, ‵, ◌$◌, move, drop, fsplit, fjoin, fpick, fpack, rewrite, feq_i, feq_l}
+use types.Kit.{Item, Goal, Seq, Step, step, ‵, ◌$◌, drop, fsplit, fjoin, fpick, fpack, feq_i, feq_l}
 use denote.RattleType.{RattleType, Valss}
 use denote.Builtin.{RawPtr, bool}
 use denote.Memory.{lone}
@@ -18,12 +17,8 @@ use denote.Param.{layout}
 use denote.Struct.Struct.{within}
 use denote.Struct.Owning.{shape}
 use Rattle.std.specs.Prelude.{Option, Some, None}
-use Rattle.core.proofs.alloc.Calls.{Al, handle_tells}
 use Rattle.core.proofs.cell.Inside.{Good}
 use Rattle.std_alloc.specs.Box.Ownership.{box_owns}
-use Rattle.std_alloc.proofs.ResultValues.{and_tt}
-use Rattle.std.specs.contracts.alloc.Global.{the_row as Z}
-use Rattle.std.proofs.alloc.Global.TheLaws.{the_row_laws as LZ}
 use Rattle.foreign_markers.specs.contracts.markers.Markers.{the_row as R}
 use Rattle.foreign_markers.specs.contracts.handle.Handle as handle
 use Rattle.foreign_markers.specs.Handle.{chunk, holds}

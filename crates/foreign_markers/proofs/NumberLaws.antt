@@ -1,6 +1,6 @@
 -- Markers by number: their truths, while the interner grows and is released.
-use Rattle.std.proofs.Common.{◌≡◌, ◌∙◌, ℕ, zero, ◌+◌, ◌≤◌, ◌<◌, suc, List, [], ◌∷◌, ◌++◌, length, take, Some, Option, Bool, true, false, ◌⊎◌, inl, inr, refl, sym, ap, subst, arith}
-use Rattle.std.specs.Prelude.{Result, Ok, Err, IfOk, IfErr, map, slice_get, option_map, not, ◌&&◌, ◌||◌, ◌≢◌, ◌↔◌, IsTrue}
+use Rattle.std.proofs.Common.{◌≡◌, ◌∙◌, ℕ, zero, ◌≤◌, ◌<◌, suc, List, [], ◌∷◌, ◌++◌, length, take, Some, None, Option, Bool, true, false, ◌⊎◌, inl, inr, refl, sym, ap, subst, arith}
+use Rattle.std.specs.Prelude.{Result, Ok, Err, IfOk, IfErr, map, slice_get, option_map, not, ◌&&◌, ◌||◌, ◌↔◌, IsTrue}
 use Rattle.std.proofs.lemmas.List.{map_push, length-map}
 use Rattle.std.proofs.lemmas.Option.{slice_get-map, slice_get_within}
 use Rattle.marker_diagrams.specs.Id.{place_of}
@@ -9,7 +9,7 @@ use Rattle.marker_graph.specs.declared.tree.MarkerTree.{MarkerTree}
 use Rattle.marker_graph.specs.Contents.{Contents, IsHeld, IsKept, Separated, truth}
 use Rattle.marker_graph.specs.Mark.{IsMarkOf}
 use Rattle.pep508_markers.specs.Machine.{Truth, Cells, Holds, IsMissing, Makes, Tells, TellsEqual, TellsDisjoint, conjunction, disjunction, negation, equal, disjoint}
-use Rattle.marker_environment.specs.Environment.{Values, valuation_of}
+use Rattle.marker_environment.specs.Environment.{Values, values_of, valuation_of}
 use Rattle.marker_environment.specs.Valuation.{Valuation}
 use Rattle.foreign_calls.specs.declared.answer.Answer.{Answer}
 use Rattle.foreign_calls.specs.declared.answer.Answer.TheVariants as answers
@@ -20,7 +20,8 @@ use Rattle.foreign_calls.specs.Refused.{IsOutOfMemory, IsOfArguments}
 use Rattle.foreign_calls.proofs.KeptLaws.{truth_kept, held_kept}
 use Rattle.foreign_markers.specs.declared.markers.Entry.{Entry}
 use Rattle.foreign_markers.specs.Numbers.{Adds, IsRefused, HasText}
-use Rattle.foreign_markers.specs.Interner.{HasValueAt}
+use Rattle.foreign_markers.specs.declared.markers.KnownEnvironment.{KnownEnvironment}
+use Rattle.foreign_markers.specs.Interner.{HasValueAt, HasValueThere, InternerState, IsSetTo, empty_state}
 use Rattle.foreign_markers.specs.Entries.{truths_in, AreBefore, AreHeld}
 
 some_is : {e f : Entry} → Some e ≡ Some f → e ≡ f
@@ -138,6 +139,9 @@ none_held {c} none = subst (AreHeld c) (sym none) (record { held = λ a entry fo
 pub no_truths : (c : Contents) {entries : List Entry} → entries ≡ [] → truths_in c entries ≡ []
 no_truths c none = ap (truths_in c) none
 
+pub is_empty : (c : Contents) {entries : List Entry} {s : InternerState} → entries ≡ [] → s.cells ≡ truths_in c entries → s.environment ≡ None → s ≡ empty_state
+is_empty c none is e i = record { cells = (is ∙ no_truths c none) i; environment = e i }
+
 -- the marker of a number
 pub entry_holds : (c : Contents) (entries : List Entry) (n : ℕ) (e : Entry) → slice_get entries n ≡ Some e → Holds (truths_in c entries) n (truth c e.tree)
 entry_holds c entries n e found = slice_get-map (λ (x : Entry). truth c x.tree) entries n ∙ ap (option_map (λ (x : Entry). truth c x.tree)) found
@@ -188,6 +192,9 @@ limited_two cells a b answer f g found other p = limited answer (two_there cells
 pub complex_two : (cells : Cells) (a b : ℕ) (f g : Truth) → Holds cells a f → Holds cells b g → IsRefused cells (a ∷ b ∷ []) answers.TooComplex
 complex_two cells a b f g found other = limited answers.TooComplex (two_there cells a b f g found other) (inr refl)
 
+pub unset_one : (cells : Cells) (a : ℕ) (f : Truth) → Holds cells a f → IsRefused cells (a ∷ []) answers.NoEnvironment
+unset_one cells a f found = record { not_done = λ f. (cc); not_small = λ f. (cc); not_shut = λ f. (cc); missing = λ f. (cc); there = λ n. one_there cells a f found }
+
 -- another argument is invalid
 of_arguments : {cells : Cells} {numbers : List ℕ} (answer : Answer) → ¬ IsMissing cells numbers → IsOfArguments answer → IsRefused cells numbers answer
 of_arguments answers.OutOfMemory p q = limited answers.OutOfMemory p (inl refl)
@@ -200,6 +207,7 @@ of_arguments answers.NumberTooLarge p q = absurd q
 of_arguments answers.TooComplex p q = absurd q
 of_arguments answers.NoSuchMarker p q = absurd q
 of_arguments answers.Shut p q = absurd q
+of_arguments answers.NoEnvironment p q = absurd q
 
 pub refused_one : (cells : Cells) (a : ℕ) (answer : Answer) (f : Truth) → Holds cells a f → IsOfArguments answer → IsRefused cells (a ∷ []) answer
 refused_one cells a answer f found p = of_arguments answer (one_there cells a f found) p
@@ -264,6 +272,13 @@ has_text c t found p = record { truth = truth c t; is_there = found; written = p
 pub has_value_at : (c : Contents) {cells : Cells} {a : ℕ} {e : Environment} {extras names read : List (List ℕ)} {value : Bool} (t : MarkerTree) (values : Values) → Holds cells a (truth c t) → AreGiven e values → Names extras names → read ≡ names → value ≡ truth c t (valuation_of values read) → HasValueAt a e extras value cells
 has_value_at c {extras = extras} {read = read} t values found p q same is = record { truth = truth c t; is_there = found; has_value = record { values = values; given = p; names = read; are_names = subst (λ (n : List (List ℕ)). Names extras n) (sym same) q; value_is = is } }
 
+pub has_value_there : (c : Contents) {s : InternerState} {a : ℕ} {value : Bool} (t : MarkerTree) (known : KnownEnvironment) → Holds s.cells a (truth c t) → s.environment ≡ Some known → value ≡ truth c t (valuation_of (values_of known.environment) known.extras.items) → HasValueThere a value s
+has_value_there c t known found is value = record { truth = truth c t; is_there = found; known = known; environment_is = is; value_is = value }
+
+-- an environment that was read
+pub is_set_to : {e : Environment} {extras : List (List ℕ)} (known : KnownEnvironment) → AreGiven e (values_of known.environment) → Names extras known.extras.items → IsSetTo e extras (Some known)
+is_set_to known p q = record { known = known; is_there = refl; given = p; names = q }
+
 -- a fact of a result gives another
 pub on_ok : {T E : Type 0} {P Q : T → Type 0} (result : Result T E) → ((x : T) → P x → Q x) → IfOk result P → IfOk result Q
 on_ok (Ok x) f p = f x p
@@ -273,7 +288,7 @@ pub on_err : {T E : Type 0} {P Q : E → Type 0} (result : Result T E) → ((e :
 on_err (Ok x) f p = p
 on_err (Err e) f p = f e p
 
-pub ruleset beginning = (none_held, no_truths)
+pub ruleset beginning = (none_held, is_empty)
 
 pub ruleset parsing = (are_kept, at_mark)
 
@@ -290,5 +305,9 @@ pub ruleset adding = (held_more, still_held)
 pub ruleset separating = (missing_two, complex_two)
 
 pub ruleset evaluating = (missing_one, refused_one)
+
+pub ruleset setting = (is_set_to)
+
+pub ruleset asking = (missing_one, unset_one)
 
 pub ruleset printing = (has_text, missing_one)

@@ -1,5 +1,5 @@
 -- what a handle owns
-use Rattle.std.specs.Prelude.{◌≡◌, ℕ, Bool, true, false, Option, Some, None}
+use Rattle.std.specs.Prelude.{Bool, true, false, Option, Some, None}
 use base.Fml.{Fml, feq}
 use mir.Syntax.{Ty}
 use denote.RattleType.{RattleType}

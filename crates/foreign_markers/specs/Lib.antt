@@ -3,3 +3,4 @@ pub mod Numbers
 pub mod Handle
 pub mod Interner
 pub mod Made
+pub mod Told

@@ -1,16 +1,13 @@
 //! The calls on a handle.
 
-ghost use Rattle.std.specs.Prelude.{◌≡◌, ◌≢◌, ◌∷◌, [], Some, None, length, take};
+ghost use Rattle.std.specs.Prelude.{◌≡◌, ◌≢◌, ◌∷◌, [], Some, None};
 ghost use Rattle.marker_grammar.specs.Refused.{IsNoMarker};
 ghost use Rattle.pep508_markers.specs.Machine as machine;
-ghost use Rattle.pep508_markers.specs.Machine.{IsMissing, Tells};
 ghost use Rattle.pep508_markers.specs.Text.{TextOverflows};
-ghost use Rattle.foreign_calls.specs.Buffer.{WouldWrite, Writes};
 ghost use Rattle.foreign_calls.specs.Environment.{bytes_of};
-ghost use Rattle.foreign_calls.specs.Marker.{Says};
-ghost use Rattle.foreign_markers.specs.Interner.{Becomes, Has, HasValueAt, truths};
-ghost use Rattle.foreign_markers.specs.Made.{HasOneMore};
-ghost use Rattle.foreign_markers.specs.Numbers.{Adds, HasText};
+ghost use Rattle.foreign_markers.specs.Interner.{empty_state, state};
+ghost use Rattle.foreign_markers.specs.Made.{HasFirst, HasMarkerOf, HasOneMore, SetsEnvironment};
+ghost use Rattle.foreign_markers.specs.Told.{HasAnswer, HasCount, HasNoEnvironment, HasNone, HasValueIn, IsTrueThere, WouldWriteText, WritesText};
 
 use crate::handle::Handle;
 use crate::markers::Markers;
@@ -21,8 +18,8 @@ use std::alloc::Global;
 impl Handle {
     /// Opens the handle with an interner without markers. An open handle loses the markers it had.
     pub fn begin(&mut self, alloc: Global, options: &[Options<'_>]) -> Answer
-        ensures done { result ≡ Answer.Done → truths self.new.value ≡ Some [] }
-        ensures kept { result ≢ Answer.Done → truths self.new.value ≡ truths self.old.value }
+        ensures done { result ≡ Answer.Done → state self.new.value ≡ Some empty_state }
+        ensures kept { result ≢ Answer.Done → state self.new.value ≡ state self.old.value }
     {
         let settings = match Settings::of(options) {
             Ok(settings) => settings,
@@ -47,9 +44,8 @@ impl Handle {
     /// Writes how many markers have a number.
     #[tactic(auto, using(crate::proofs::HandleLaws::laws))]
     pub fn mark(&mut self, alloc: Global, count: &mut usize) -> Answer
-        ensures done { result ≡ Answer.Done
-            → Has (λ cells. count.new ≡ length cells) self.old.value }
-        ensures same { truths self.new.value ≡ truths self.old.value }
+        ensures done { result ≡ Answer.Done → HasCount count.new self.old.value }
+        ensures same { state self.new.value ≡ state self.old.value }
         ensures shut { self.old.value ≡ None → result ≡ Answer.Shut }
         ensures kept { result ≢ Answer.Done → count.new ≡ count.old }
     {
@@ -64,8 +60,7 @@ impl Handle {
     /// Removes the markers from this number on, with their nodes.
     #[tactic(auto, using(crate::proofs::HandleLaws::laws))]
     pub fn release(&mut self, alloc: Global, count: usize) -> Answer
-        ensures done { result ≡ Answer.Done
-            → Becomes (λ before after. after ≡ take count before) self.old.value self.new.value }
+        ensures done { result ≡ Answer.Done → HasFirst count self.old.value self.new.value }
         ensures kept { result ≢ Answer.Done → self.new.value ≡ None }
         ensures shut { self.old.value ≡ None → result ≡ Answer.Shut }
     {
@@ -78,17 +73,39 @@ impl Handle {
     }
 }
 
-// Calls that make a marker.
+// Calls that make a marker, or set the environment.
 impl Handle {
+    /// Sets the environment, with extras, in which `is_true` evaluates, instead of the one before.
+    #[tactic(auto, using(crate::proofs::HandleLaws::laws))]
+    pub fn set_environment(
+        &mut self,
+        alloc: Global,
+        environment: &Environment<'_>,
+        extras: &[&[u8]],
+    ) -> Answer
+        ensures done { result ≡ Answer.Done → SetsEnvironment environment.now (bytes_of extras.now)
+            self.old.value self.new.value }
+        ensures kept { result ≢ Answer.Done → state self.new.value ≡ state self.old.value }
+        ensures shut { self.old.value ≡ None → result ≡ Answer.Shut }
+    {
+        let Some(mut markers) = self.take(alloc) else {
+            return Answer::Shut;
+        };
+        let found = markers.set_environment(alloc, environment, extras);
+        self.put(alloc, Handle::of(markers));
+        match found {
+            Ok(()) => Answer::Done,
+            Err(answer) => answer,
+        }
+    }
+
     /// Parses a marker, and writes its number.
     #[tactic(auto, using(crate::proofs::HandleLaws::laws))]
     pub fn parse(&mut self, alloc: Global, text: &[u8], number: &mut usize) -> Answer
         ensures done { result ≡ Answer.Done
-            → Becomes (λ before after. Adds (Says text.now) before after number.new)
-            self.old.value self.new.value }
-        ensures kept { result ≢ Answer.Done → (number.new ≡ number.old)
-            × (truths self.new.value ≡ truths self.old.value) }
-
+            → HasMarkerOf text.now number.new self.old.value self.new.value }
+        ensures kept { result ≢ Answer.Done → state self.new.value ≡ state self.old.value }
+        ensures number { result ≢ Answer.Done → number.new ≡ number.old }
         ensures invalid { result ≡ Answer.Invalid → IsNoMarker text.now }
         ensures too_large { result ≡ Answer.NumberTooLarge → TextOverflows text.now }
         ensures shut { self.old.value ≡ None → result ≡ Answer.Shut }
@@ -112,11 +129,9 @@ impl Handle {
     pub fn and(&mut self, alloc: Global, a: usize, b: usize, number: &mut usize) -> Answer
         ensures done { result ≡ Answer.Done
             → HasOneMore (machine.conjunction a b) number.new self.old.value self.new.value }
-        ensures kept { result ≢ Answer.Done → (number.new ≡ number.old)
-            × (truths self.new.value ≡ truths self.old.value) }
-
-        ensures missing { result ≡ Answer.NoSuchMarker
-            → Has (λ cells. IsMissing cells (a ∷ b ∷ [])) self.old.value }
+        ensures kept { result ≢ Answer.Done → state self.new.value ≡ state self.old.value }
+        ensures number { result ≢ Answer.Done → number.new ≡ number.old }
+        ensures missing { result ≡ Answer.NoSuchMarker → HasNone (a ∷ b ∷ []) self.old.value }
         ensures shut { self.old.value ≡ None → result ≡ Answer.Shut }
     {
         let Some(mut markers) = self.take(alloc) else {
@@ -138,11 +153,9 @@ impl Handle {
     pub fn or(&mut self, alloc: Global, a: usize, b: usize, number: &mut usize) -> Answer
         ensures done { result ≡ Answer.Done
             → HasOneMore (machine.disjunction a b) number.new self.old.value self.new.value }
-        ensures kept { result ≢ Answer.Done → (number.new ≡ number.old)
-            × (truths self.new.value ≡ truths self.old.value) }
-
-        ensures missing { result ≡ Answer.NoSuchMarker
-            → Has (λ cells. IsMissing cells (a ∷ b ∷ [])) self.old.value }
+        ensures kept { result ≢ Answer.Done → state self.new.value ≡ state self.old.value }
+        ensures number { result ≢ Answer.Done → number.new ≡ number.old }
+        ensures missing { result ≡ Answer.NoSuchMarker → HasNone (a ∷ b ∷ []) self.old.value }
         ensures shut { self.old.value ≡ None → result ≡ Answer.Shut }
     {
         let Some(mut markers) = self.take(alloc) else {
@@ -164,11 +177,9 @@ impl Handle {
     pub fn not(&mut self, alloc: Global, a: usize, number: &mut usize) -> Answer
         ensures done { result ≡ Answer.Done
             → HasOneMore (machine.negation a) number.new self.old.value self.new.value }
-        ensures kept { result ≢ Answer.Done → (number.new ≡ number.old)
-            × (truths self.new.value ≡ truths self.old.value) }
-
-        ensures missing { result ≡ Answer.NoSuchMarker
-            → Has (λ cells. IsMissing cells (a ∷ [])) self.old.value }
+        ensures kept { result ≢ Answer.Done → state self.new.value ≡ state self.old.value }
+        ensures number { result ≢ Answer.Done → number.new ≡ number.old }
+        ensures missing { result ≡ Answer.NoSuchMarker → HasNone (a ∷ []) self.old.value }
         ensures shut { self.old.value ≡ None → result ≡ Answer.Shut }
     {
         let Some(mut markers) = self.take(alloc) else {
@@ -192,12 +203,10 @@ impl Handle {
     #[tactic(auto, using(crate::proofs::HandleLaws::laws))]
     pub fn equal(&mut self, alloc: Global, a: usize, b: usize, value: &mut bool) -> Answer
         ensures done { result ≡ Answer.Done
-            → Has (λ cells. Tells cells (machine.equal a b) value.new) self.old.value }
-        ensures same { truths self.new.value ≡ truths self.old.value }
+            → HasAnswer (machine.equal a b) value.new self.old.value }
+        ensures same { state self.new.value ≡ state self.old.value }
         ensures kept { result ≢ Answer.Done → value.new ≡ value.old }
-
-        ensures missing { result ≡ Answer.NoSuchMarker
-            → Has (λ cells. IsMissing cells (a ∷ b ∷ [])) self.old.value }
+        ensures missing { result ≡ Answer.NoSuchMarker → HasNone (a ∷ b ∷ []) self.old.value }
         ensures shut { self.old.value ≡ None → result ≡ Answer.Shut }
     {
         let Some(markers) = self.take(alloc) else {
@@ -218,12 +227,10 @@ impl Handle {
     #[tactic(auto, using(crate::proofs::HandleLaws::laws))]
     pub fn disjoint(&mut self, alloc: Global, a: usize, b: usize, value: &mut bool) -> Answer
         ensures done { result ≡ Answer.Done
-            → Has (λ cells. Tells cells (machine.disjoint a b) value.new) self.old.value }
-        ensures same { truths self.new.value ≡ truths self.old.value }
+            → HasAnswer (machine.disjoint a b) value.new self.old.value }
+        ensures same { state self.new.value ≡ state self.old.value }
         ensures kept { result ≢ Answer.Done → value.new ≡ value.old }
-
-        ensures missing { result ≡ Answer.NoSuchMarker
-            → Has (λ cells. IsMissing cells (a ∷ b ∷ [])) self.old.value }
+        ensures missing { result ≡ Answer.NoSuchMarker → HasNone (a ∷ b ∷ []) self.old.value }
         ensures shut { self.old.value ≡ None → result ≡ Answer.Shut }
     {
         let Some(markers) = self.take(alloc) else {
@@ -251,19 +258,40 @@ impl Handle {
         value: &mut bool,
     ) -> Answer
         ensures done { result ≡ Answer.Done
-            → Has (HasValueAt number environment.now (bytes_of extras.now) value.new)
-            self.old.value }
-        ensures same { truths self.new.value ≡ truths self.old.value }
+            → HasValueIn number environment.now (bytes_of extras.now) value.new self.old.value }
+        ensures same { state self.new.value ≡ state self.old.value }
         ensures kept { result ≢ Answer.Done → value.new ≡ value.old }
-
-        ensures missing { result ≡ Answer.NoSuchMarker
-            → Has (λ cells. IsMissing cells (number ∷ [])) self.old.value }
+        ensures missing { result ≡ Answer.NoSuchMarker → HasNone (number ∷ []) self.old.value }
         ensures shut { self.old.value ≡ None → result ≡ Answer.Shut }
     {
         let Some(markers) = self.take(alloc) else {
             return Answer::Shut;
         };
         let found = markers.evaluate(alloc, number, environment, extras);
+        self.put(alloc, Handle::of(markers));
+        match found {
+            Ok(holds) => {
+                *value = holds;
+                Answer::Done
+            }
+            Err(answer) => answer,
+        }
+    }
+
+    /// Writes whether a marker is true in the environment that was set.
+    #[tactic(auto, using(crate::proofs::HandleLaws::laws))]
+    pub fn is_true(&mut self, alloc: Global, number: usize, value: &mut bool) -> Answer
+        ensures done { result ≡ Answer.Done → IsTrueThere number value.new self.old.value }
+        ensures same { state self.new.value ≡ state self.old.value }
+        ensures kept { result ≢ Answer.Done → value.new ≡ value.old }
+        ensures missing { result ≡ Answer.NoSuchMarker → HasNone (number ∷ []) self.old.value }
+        ensures unset { result ≡ Answer.NoEnvironment → HasNoEnvironment self.old.value }
+        ensures shut { self.old.value ≡ None → result ≡ Answer.Shut }
+    {
+        let Some(markers) = self.take(alloc) else {
+            return Answer::Shut;
+        };
+        let found = markers.is_true(number);
         self.put(alloc, Handle::of(markers));
         match found {
             Ok(holds) => {
@@ -283,16 +311,14 @@ impl Handle {
         buffer: &mut [u8],
         needed: &mut usize,
     ) -> Answer
-        ensures done { result ≡ Answer.Done → Has (λ cells. Writes (HasText cells number)
-            buffer.old buffer.new needed.new) self.old.value }
-        ensures too_small { result ≡ Answer.BufferTooSmall → Has (λ cells. WouldWrite
-            (HasText cells number) buffer.old buffer.new needed.new) self.old.value }
-        ensures same { truths self.new.value ≡ truths self.old.value }
+        ensures done { result ≡ Answer.Done
+            → WritesText number buffer.old buffer.new needed.new self.old.value }
+        ensures too_small { result ≡ Answer.BufferTooSmall
+            → WouldWriteText number buffer.old buffer.new needed.new self.old.value }
+        ensures same { state self.new.value ≡ state self.old.value }
         ensures kept { result ≢ Answer.Done → buffer.new ≡ buffer.old }
-
         ensures none { result ≢ Answer.Done → result ≢ Answer.BufferTooSmall → needed.new ≡ 0 }
-        ensures missing { result ≡ Answer.NoSuchMarker
-            → Has (λ cells. IsMissing cells (number ∷ [])) self.old.value }
+        ensures missing { result ≡ Answer.NoSuchMarker → HasNone (number ∷ []) self.old.value }
         ensures shut { self.old.value ≡ None → result ≡ Answer.Shut }
     {
         *needed = 0;

@@ -23,8 +23,15 @@ impl Model for Handle {
     ghost also_owns = { λ h. holds the_row h.is_open h.at h.value };
 }
 
+// Frees markers.
+#[inline(never)]
+fn free(markers: Box<Markers>) {
+    drop(markers);
+}
+
 impl Handle {
     // Takes what the handle has, and leaves it shut.
+    #[inline(always)]
     pub(crate) fn take(&mut self, alloc: Global) -> Option<Box<Markers>>
         ensures taken { option_map (λ markers. markers.value) result ≡ self.old.value }
         ensures shut { self.new.value ≡ None }
@@ -32,13 +39,14 @@ impl Handle {
         std::mem::replace(self, Handle::shut()).into_box(alloc)
     }
 
-    // Puts another handle in its place, and frees what it had.
+    // Puts another handle in its place, and frees what it had: nothing, if that was taken.
+    #[inline(always)]
     pub(crate) fn put(&mut self, alloc: Global, new: Handle)
         ensures { self.new.value ≡ new.value }
     {
         let old = std::mem::replace(self, new);
         if let Some(markers) = old.into_box(alloc) {
-            drop(markers);
+            free(markers);
         }
     }
 

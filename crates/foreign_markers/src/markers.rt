@@ -2,8 +2,13 @@
 
 ghost use Rattle.foreign_markers.specs.Entries.{AreHeld};
 
-use foreign_calls::{Answer, Settings, out_of_memory, parse_marker, read_text};
+use foreign_calls::{
+    Answer, Environment, Settings, out_of_memory, parse_marker, read_environment, read_names,
+    read_text,
+};
+use marker_environment::MarkerEnvironment;
 use marker_graph::{Interner, Mark, MarkerTree};
+use pep508_names::ExtraName;
 use std::alloc::Global;
 
 // A marker, and how far the interner had grown before it was made.
@@ -13,11 +18,19 @@ pub(crate) struct Entry {
     pub(crate) before: Mark,
 }
 
-/// Markers in one interner, numbered from 0.
+// An environment with extras, as it was read.
+#[derive(Drop)]
+pub(crate) struct KnownEnvironment {
+    pub(crate) environment: MarkerEnvironment,
+    pub(crate) extras: Vec<ExtraName>,
+}
+
+/// Markers in one interner, numbered from 0, and the environment that was set.
 #[derive(Drop)]
 pub struct Markers {
     pub(crate) interner: Interner,
     pub(crate) entries: Vec<Entry>,
+    pub(crate) environment: Option<KnownEnvironment>,
     pub(crate) looks: usize,
     ghost held: { AreHeld interner entries.items },
 }
@@ -27,18 +40,22 @@ impl Markers {
     ghost use Rattle.marker_graph.specs.Contents.{IsHeld, truth};
     ghost use Rattle.pep508_markers.specs.Machine.{Holds, Makes, conjunction, disjunction, negation};
     ghost use Rattle.foreign_calls.specs.Marker.{Says};
-    ghost use Rattle.foreign_calls.specs.Refused.{IsMarkerRefusal, IsOutOfMemory};
+    ghost use Rattle.foreign_calls.specs.Environment.{bytes_of};
+    ghost use Rattle.foreign_calls.specs.Refused.{IsMarkerRefusal, IsOfArguments, IsOutOfMemory};
     ghost use Rattle.foreign_markers.specs.Entries.{AreBefore};
+    ghost use Rattle.foreign_markers.specs.Interner.{IsSetTo, empty_state, state_of};
     ghost use Rattle.foreign_markers.specs.Numbers.{Adds, IsRefused, truths_of};
 
-    /// Returns an interner without markers, with the key and the limits of the settings.
+    /// Returns an interner without markers and without an environment, with the key and the limits
+    /// of the settings.
     #[tactic(auto, using(crate::proofs::NumberLaws::beginning))]
     pub fn new(alloc: Global, settings: &Settings<'_>) -> Markers
-        ensures { truths_of result ≡ [] }
+        ensures { state_of result ≡ empty_state }
     {
         Markers {
             interner: settings.interner(alloc),
             entries: Vec::new(alloc),
+            environment: None,
             looks: settings.looks(),
         }
     }
@@ -50,6 +67,7 @@ impl Markers {
             (Adds (Says text.now) (truths_of self.old) (truths_of self.new)) }
         ensures refused { IfErr result (IsMarkerRefusal text.now) }
         ensures kept { OnErr result (truths_of self.new ≡ truths_of self.old) }
+        ensures environment { self.new.environment ≡ self.old.environment }
     {
         let text = read_text(text)?;
         let before = self.interner.mark();
@@ -67,6 +85,7 @@ impl Markers {
             (truths_of self.old) (truths_of self.new)) }
         ensures refused { IfErr result (IsRefused (truths_of self.old) (a ∷ b ∷ [])) }
         ensures kept { OnErr result (truths_of self.new ≡ truths_of self.old) }
+        ensures environment { self.new.environment ≡ self.old.environment }
     {
         let Some((left, right)) = self.two_trees(a, b) else {
             return Err(Answer::NoSuchMarker);
@@ -87,6 +106,7 @@ impl Markers {
             (truths_of self.old) (truths_of self.new)) }
         ensures refused { IfErr result (IsRefused (truths_of self.old) (a ∷ b ∷ [])) }
         ensures kept { OnErr result (truths_of self.new ≡ truths_of self.old) }
+        ensures environment { self.new.environment ≡ self.old.environment }
     {
         let Some((left, right)) = self.two_trees(a, b) else {
             return Err(Answer::NoSuchMarker);
@@ -107,6 +127,7 @@ impl Markers {
             (truths_of self.old) (truths_of self.new)) }
         ensures refused { IfErr result (IsRefused (truths_of self.old) (number ∷ [])) }
         ensures kept { OnErr result (truths_of self.new ≡ truths_of self.old) }
+        ensures environment { self.new.environment ≡ self.old.environment }
     {
         let Some(tree) = self.tree(number) else {
             return Err(Answer::NoSuchMarker);
@@ -126,13 +147,37 @@ impl Markers {
     /// Removes the markers from this number on, with their nodes.
     #[tactic(auto, using(crate::proofs::NumberLaws::releasing))]
     pub fn release(&mut self, count: usize)
-        ensures { truths_of self.new ≡ take count (truths_of self.old) }
+        ensures first { truths_of self.new ≡ take count (truths_of self.old) }
+        ensures environment { self.new.environment ≡ self.old.environment }
     {
         let Some(first) = self.entry(count) else {
             return;
         };
         self.interner.release(first.before);
         self.entries.truncate(count);
+    }
+
+    /// Sets the environment, with extras, in which `is_true` evaluates, instead of the one before.
+    #[tactic(auto, using(crate::proofs::NumberLaws::setting))]
+    pub fn set_environment(
+        &mut self,
+        alloc: Global,
+        values: &Environment<'_>,
+        extras: &[&[u8]],
+    ) -> Result<(), Answer>
+        ensures set { IfOk result
+            (λ done. IsSetTo values.now (bytes_of extras.now) self.new.environment) }
+        ensures refused { IfErr result IsOfArguments }
+        ensures kept { OnErr result (self.new.environment ≡ self.old.environment) }
+        ensures markers { truths_of self.new ≡ truths_of self.old }
+    {
+        let environment = read_environment(alloc, values)?;
+        let extras = read_names(alloc, extras)?;
+        self.environment = Some(KnownEnvironment {
+            environment,
+            extras,
+        });
+        Ok(())
     }
 
     // The marker of a number, with its mark.
@@ -181,6 +226,7 @@ impl Markers {
             (truths_of self.old) (truths_of self.new)) }
         ensures refused { IfErr result (λ answer. answer ≡ Answer.OutOfMemory) }
         ensures kept { OnErr result (truths_of self.new ≡ truths_of self.old) }
+        ensures environment { self.new.environment ≡ self.old.environment }
     {
         let number = self.entries.len();
         match self.entries.push(Entry { tree, before }) {
@@ -198,6 +244,7 @@ impl Markers {
         requires { AreBefore before self.old.entries.items }
         ensures refused { IsOutOfMemory result }
         ensures kept { truths_of self.new ≡ truths_of self.old }
+        ensures environment { self.new.environment ≡ self.old.environment }
     {
         self.interner.release(before);
         out_of_memory(&self.interner)

@@ -1,10 +1,10 @@
 //! Questions about markers by number, which change nothing.
 
-ghost use Rattle.std.specs.Prelude.{◌≡◌, ◌∷◌, [], IfErr, IfOk, string_bytes};
+ghost use Rattle.std.specs.Prelude.{◌≡◌, ◌∷◌, [], IfErr, IfOk, None, string_bytes};
 ghost use Rattle.pep508_markers.specs.Machine as machine;
 ghost use Rattle.pep508_markers.specs.Machine.{Tells};
 ghost use Rattle.foreign_calls.specs.Environment.{bytes_of};
-ghost use Rattle.foreign_markers.specs.Interner.{HasValueAt};
+ghost use Rattle.foreign_markers.specs.Interner.{HasValueAt, HasValueThere, state_of};
 ghost use Rattle.foreign_markers.specs.Numbers.{HasText, IsRefused, truths_of};
 
 use crate::markers::Markers;
@@ -59,6 +59,24 @@ impl Markers {
         let environment = read_environment(alloc, values)?;
         let names = read_names(alloc, extras)?;
         Ok(tree.evaluate(&self.interner, &environment, &names))
+    }
+
+    /// Returns whether a marker is true in the environment that was set, or `NoEnvironment` if none
+    /// was.
+    #[tactic(auto, using(crate::proofs::NumberLaws::asking))]
+    pub fn is_true(&self, number: usize) -> Result<bool, Answer>
+        ensures told { IfOk result (λ value. HasValueThere number value (state_of self.now)) }
+        ensures refused { IfErr result (IsRefused (truths_of self.now) (number ∷ [])) }
+        ensures unset { IfErr result
+            (λ answer. answer ≡ Answer.NoEnvironment → self.now.environment ≡ None) }
+    {
+        let Some(tree) = self.tree(number) else {
+            return Err(Answer::NoSuchMarker);
+        };
+        match &self.environment {
+            Some(known) => Ok(tree.evaluate(&self.interner, &known.environment, &known.extras)),
+            None => Err(Answer::NoEnvironment),
+        }
     }
 
     /// Returns the text of a marker, which is empty if it is true everywhere.

@@ -1,11 +1,12 @@
 -- What a check says of a text.
 use Rattle.std.proofs.Common.{◌≡◌, ℕ, List, inl, inr}
-use Rattle.std.specs.Prelude.{◌⊎◌, Option, IfSome}
+use Rattle.std.specs.Prelude.{◌⊎◌, Some, IfSome}
 use Rattle.refusal.specs.declared.Refusal.TheVariants as refusals
 use Rattle.pep508_errors.specs.declared.error.Pep508ErrorSource.{Pep508ErrorSource}
 use Rattle.pep508_errors.specs.declared.error.Pep508ErrorSource.TheVariants as sources
 use Rattle.pep508_errors.specs.Error.{source_text}
 use Rattle.pep508_urls.specs.declared.error.VerbatimUrlError.{VerbatimUrlError}
+use Rattle.pep508_urls.specs.Message.{fault_text}
 use Rattle.pep508_urls.specs.Verbatim.{Verbatim}
 use Rattle.marker_graph.specs.Contents.{Contents, truth}
 use Rattle.pep508_requirements.specs.declared.requirement.Requirement.{Requirement}
@@ -17,11 +18,11 @@ use Rattle.foreign_requirements.specs.Check.{IsRequirement, IsMessage, IsToldBy,
 use Rattle.foreign_requirements.specs.Reading.{Error, IsReadFrom, IsRefused, Overflows}
 
 -- what an error prints is its message
-pub said : {T E : Type 0} (fault_text : E → Option (List ℕ)) (source : Pep508ErrorSource T E) (bytes : List ℕ)
-    → IfSome (source_text fault_text source) (λ text. bytes ≡ text) → IsMessage source bytes
-said fault_text (sources.String message) bytes is = is
-said fault_text (sources.UrlError fault) bytes is = tt
-said fault_text (sources.UnsupportedRequirement message) bytes is = is
+pub said : (source : Pep508ErrorSource Verbatim VerbatimUrlError) (bytes : List ℕ)
+    → IfSome (source_text (λ fault. Some (fault_text fault)) source) (λ text. bytes ≡ text) → IsMessage source bytes
+said (sources.String message) bytes is = is
+said (sources.UrlError fault) bytes is = is
+said (sources.UnsupportedRequirement message) bytes is = is
 
 pub valid : {c : Contents} {folder text : List ℕ} {r : Requirement Verbatim VerbatimUrlError} → IsReadFrom c folder text r → IsRequirement folder text
 valid {c = c} {r = r} p = record { name = r.name; extras = r.extras.items; wanted = r.version_or_url; truth = truth c r.marker; says = p.says }

@@ -1,7 +1,10 @@
 -- Whether a text is a requirement, and what is wrong with another.
-use Rattle.std.specs.Prelude.{◌≡◌, ◌≢◌, ⊤, ℕ, List, Bool, Option, Some, None, string_bytes}
+use Rattle.std.specs.Prelude.{◌≡◌, ◌≢◌, ℕ, List, Bool, Option, Some, None, string_bytes}
 use Rattle.pep508_errors.specs.declared.error.Pep508ErrorSource.{Pep508ErrorSource}
 use Rattle.pep508_errors.specs.declared.error.Pep508ErrorSource.TheVariants as sources
+use Rattle.pep508_urls.specs.declared.error.VerbatimUrlError.{VerbatimUrlError}
+use Rattle.pep508_urls.specs.Message.{fault_text}
+use Rattle.pep508_urls.specs.Verbatim.{Verbatim}
 use Rattle.marker_environment.specs.Valuation.{Valuation}
 use Rattle.foreign_calls.specs.declared.answer.Answer.{Answer}
 use Rattle.foreign_calls.specs.declared.answer.Answer.TheVariants.{Done, Invalid, BufferTooSmall, NumberTooLarge}
@@ -17,10 +20,10 @@ pub record IsRequirement (folder text : List ℕ) : Type 0 where
   pub truth : Valuation → Bool
   pub says : Says folder text name extras wanted truth
 
--- the bytes say what is wrong; what they are for a URL that is rejected is left open
-abbrev pub IsMessage : {T E : Type 0} → Pep508ErrorSource T E → List ℕ → Type 0
+-- the bytes say what is wrong
+abbrev pub IsMessage : Pep508ErrorSource Verbatim VerbatimUrlError → List ℕ → Type 0
 IsMessage (sources.String message) bytes = bytes ≡ string_bytes message
-IsMessage (sources.UrlError fault) bytes = ⊤
+IsMessage (sources.UrlError fault) bytes = bytes ≡ fault_text fault
 IsMessage (sources.UnsupportedRequirement message) bytes = bytes ≡ string_bytes message
 
 -- the place and the message are those of the error

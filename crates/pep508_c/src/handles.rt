@@ -1,17 +1,14 @@
 //! Calls on a handle with markers by number.
 
-ghost use Rattle.std.specs.Prelude.{◌≡◌, ◌≢◌, ◌∷◌, [], Some, None, length, take};
+ghost use Rattle.std.specs.Prelude.{◌≡◌, ◌≢◌, ◌∷◌, [], Some, None};
 ghost use Rattle.marker_grammar.specs.Refused.{IsNoMarker};
 ghost use Rattle.pep508_markers.specs.Machine as machine;
-ghost use Rattle.pep508_markers.specs.Machine.{IsMissing, Tells};
 ghost use Rattle.pep508_markers.specs.Text.{TextOverflows};
 ghost use Rattle.foreign_calls.specs.Answer.{done, invalid, shut, too_large, too_small};
-ghost use Rattle.foreign_calls.specs.Buffer.{WouldWrite, Writes};
 ghost use Rattle.foreign_calls.specs.Environment.{bytes_of};
-ghost use Rattle.foreign_calls.specs.Marker.{Says};
-ghost use Rattle.foreign_markers.specs.Interner.{Becomes, Has, HasValueAt, no_such_marker, truths};
-ghost use Rattle.foreign_markers.specs.Made.{HasOneMore};
-ghost use Rattle.foreign_markers.specs.Numbers.{Adds, HasText};
+ghost use Rattle.foreign_markers.specs.Interner.{empty_state, no_environment, no_such_marker, state};
+ghost use Rattle.foreign_markers.specs.Made.{HasFirst, HasMarkerOf, HasOneMore, SetsEnvironment};
+ghost use Rattle.foreign_markers.specs.Told.{HasAnswer, HasCount, HasNoEnvironment, HasNone, HasValueIn, IsTrueThere, WouldWriteText, WritesText};
 
 use foreign_calls::{Environment, Options};
 use foreign_markers::Handle;
@@ -24,8 +21,8 @@ pub extern "C" fn pep508_interner_new(
     handle: &mut Handle,
     options: &[Options<'_>],
 ) -> i32
-    ensures done { result ≡ done → truths handle.new.value ≡ Some [] }
-    ensures kept { result ≢ done → truths handle.new.value ≡ truths handle.old.value }
+    ensures done { result ≡ done → state handle.new.value ≡ Some empty_state }
+    ensures kept { result ≢ done → state handle.new.value ≡ state handle.old.value }
 {
     handle.begin(alloc, options).code()
 }
@@ -41,9 +38,8 @@ pub extern "C" fn pep508_interner_free(alloc: Global, handle: &mut Handle)
 /// Writes how many markers have a number.
 #[unsafe(no_mangle)]
 pub extern "C" fn pep508_interner_mark(alloc: Global, handle: &mut Handle, count: &mut usize) -> i32
-    ensures done { result ≡ done
-        → Has (λ cells. count.new ≡ length cells) handle.old.value }
-    ensures same { truths handle.new.value ≡ truths handle.old.value }
+    ensures done { result ≡ done → HasCount count.new handle.old.value }
+    ensures same { state handle.new.value ≡ state handle.old.value }
     ensures shut { handle.old.value ≡ None → result ≡ shut }
     ensures kept { result ≢ done → count.new ≡ count.old }
 {
@@ -53,8 +49,7 @@ pub extern "C" fn pep508_interner_mark(alloc: Global, handle: &mut Handle, count
 /// Removes the markers from this number on, with their nodes.
 #[unsafe(no_mangle)]
 pub extern "C" fn pep508_interner_release(alloc: Global, handle: &mut Handle, count: usize) -> i32
-    ensures done { result ≡ done
-        → Becomes (λ before after. after ≡ take count before) handle.old.value handle.new.value }
+    ensures done { result ≡ done → HasFirst count handle.old.value handle.new.value }
     ensures kept { result ≢ done → handle.new.value ≡ None }
     ensures shut { handle.old.value ≡ None → result ≡ shut }
 {
@@ -70,11 +65,9 @@ pub extern "C" fn pep508_marker_parse(
     number: &mut usize,
 ) -> i32
     ensures done { result ≡ done
-        → Becomes (λ before after. Adds (Says text.now) before after number.new)
-        handle.old.value handle.new.value }
-    ensures kept { result ≢ done → (number.new ≡ number.old)
-        × (truths handle.new.value ≡ truths handle.old.value) }
-
+        → HasMarkerOf text.now number.new handle.old.value handle.new.value }
+    ensures kept { result ≢ done → state handle.new.value ≡ state handle.old.value }
+    ensures number { result ≢ done → number.new ≡ number.old }
     ensures invalid { result ≡ invalid → IsNoMarker text.now }
     ensures too_large { result ≡ too_large → TextOverflows text.now }
     ensures shut { handle.old.value ≡ None → result ≡ shut }
@@ -93,11 +86,9 @@ pub extern "C" fn pep508_marker_and(
 ) -> i32
     ensures done { result ≡ done
         → HasOneMore (machine.conjunction a b) number.new handle.old.value handle.new.value }
-    ensures kept { result ≢ done → (number.new ≡ number.old)
-        × (truths handle.new.value ≡ truths handle.old.value) }
-
-    ensures missing { result ≡ no_such_marker
-        → Has (λ cells. IsMissing cells (a ∷ b ∷ [])) handle.old.value }
+    ensures kept { result ≢ done → state handle.new.value ≡ state handle.old.value }
+    ensures number { result ≢ done → number.new ≡ number.old }
+    ensures missing { result ≡ no_such_marker → HasNone (a ∷ b ∷ []) handle.old.value }
     ensures shut { handle.old.value ≡ None → result ≡ shut }
 {
     handle.and(alloc, a, b, number).code()
@@ -114,11 +105,9 @@ pub extern "C" fn pep508_marker_or(
 ) -> i32
     ensures done { result ≡ done
         → HasOneMore (machine.disjunction a b) number.new handle.old.value handle.new.value }
-    ensures kept { result ≢ done → (number.new ≡ number.old)
-        × (truths handle.new.value ≡ truths handle.old.value) }
-
-    ensures missing { result ≡ no_such_marker
-        → Has (λ cells. IsMissing cells (a ∷ b ∷ [])) handle.old.value }
+    ensures kept { result ≢ done → state handle.new.value ≡ state handle.old.value }
+    ensures number { result ≢ done → number.new ≡ number.old }
+    ensures missing { result ≡ no_such_marker → HasNone (a ∷ b ∷ []) handle.old.value }
     ensures shut { handle.old.value ≡ None → result ≡ shut }
 {
     handle.or(alloc, a, b, number).code()
@@ -134,11 +123,9 @@ pub extern "C" fn pep508_marker_not(
 ) -> i32
     ensures done { result ≡ done
         → HasOneMore (machine.negation a) number.new handle.old.value handle.new.value }
-    ensures kept { result ≢ done → (number.new ≡ number.old)
-        × (truths handle.new.value ≡ truths handle.old.value) }
-
-    ensures missing { result ≡ no_such_marker
-        → Has (λ cells. IsMissing cells (a ∷ [])) handle.old.value }
+    ensures kept { result ≢ done → state handle.new.value ≡ state handle.old.value }
+    ensures number { result ≢ done → number.new ≡ number.old }
+    ensures missing { result ≡ no_such_marker → HasNone (a ∷ []) handle.old.value }
     ensures shut { handle.old.value ≡ None → result ≡ shut }
 {
     handle.not(alloc, a, number).code()
@@ -153,13 +140,10 @@ pub extern "C" fn pep508_marker_equal(
     b: usize,
     value: &mut bool,
 ) -> i32
-    ensures done { result ≡ done
-        → Has (λ cells. Tells cells (machine.equal a b) value.new) handle.old.value }
-    ensures same { truths handle.new.value ≡ truths handle.old.value }
+    ensures done { result ≡ done → HasAnswer (machine.equal a b) value.new handle.old.value }
+    ensures same { state handle.new.value ≡ state handle.old.value }
     ensures kept { result ≢ done → value.new ≡ value.old }
-
-    ensures missing { result ≡ no_such_marker
-        → Has (λ cells. IsMissing cells (a ∷ b ∷ [])) handle.old.value }
+    ensures missing { result ≡ no_such_marker → HasNone (a ∷ b ∷ []) handle.old.value }
     ensures shut { handle.old.value ≡ None → result ≡ shut }
 {
     handle.equal(alloc, a, b, value).code()
@@ -174,13 +158,10 @@ pub extern "C" fn pep508_marker_disjoint(
     b: usize,
     value: &mut bool,
 ) -> i32
-    ensures done { result ≡ done
-        → Has (λ cells. Tells cells (machine.disjoint a b) value.new) handle.old.value }
-    ensures same { truths handle.new.value ≡ truths handle.old.value }
+    ensures done { result ≡ done → HasAnswer (machine.disjoint a b) value.new handle.old.value }
+    ensures same { state handle.new.value ≡ state handle.old.value }
     ensures kept { result ≢ done → value.new ≡ value.old }
-
-    ensures missing { result ≡ no_such_marker
-        → Has (λ cells. IsMissing cells (a ∷ b ∷ [])) handle.old.value }
+    ensures missing { result ≡ no_such_marker → HasNone (a ∷ b ∷ []) handle.old.value }
     ensures shut { handle.old.value ≡ None → result ≡ shut }
 {
     handle.disjoint(alloc, a, b, value).code()
@@ -197,18 +178,50 @@ pub extern "C" fn pep508_marker_evaluate_number(
     value: &mut bool,
 ) -> i32
     ensures done { result ≡ done
-        → Has (HasValueAt number environment.now (bytes_of extras.now) value.new)
-        handle.old.value }
-    ensures same { truths handle.new.value ≡ truths handle.old.value }
+        → HasValueIn number environment.now (bytes_of extras.now) value.new handle.old.value }
+    ensures same { state handle.new.value ≡ state handle.old.value }
     ensures kept { result ≢ done → value.new ≡ value.old }
-
-    ensures missing { result ≡ no_such_marker
-        → Has (λ cells. IsMissing cells (number ∷ [])) handle.old.value }
+    ensures missing { result ≡ no_such_marker → HasNone (number ∷ []) handle.old.value }
     ensures shut { handle.old.value ≡ None → result ≡ shut }
 {
     handle
         .evaluate(alloc, number, environment, extras, value)
         .code()
+}
+
+/// Sets the environment, with extras, in which `pep508_marker_is_true` evaluates, instead of the
+/// one before.
+#[unsafe(no_mangle)]
+pub extern "C" fn pep508_interner_set_environment(
+    alloc: Global,
+    handle: &mut Handle,
+    environment: &Environment<'_>,
+    extras: &[&[u8]],
+) -> i32
+    ensures done { result ≡ done → SetsEnvironment environment.now (bytes_of extras.now)
+        handle.old.value handle.new.value }
+    ensures kept { result ≢ done → state handle.new.value ≡ state handle.old.value }
+    ensures shut { handle.old.value ≡ None → result ≡ shut }
+{
+    handle.set_environment(alloc, environment, extras).code()
+}
+
+/// Writes whether a marker is true in the environment that was set.
+#[unsafe(no_mangle)]
+pub extern "C" fn pep508_marker_is_true(
+    alloc: Global,
+    handle: &mut Handle,
+    number: usize,
+    value: &mut bool,
+) -> i32
+    ensures done { result ≡ done → IsTrueThere number value.new handle.old.value }
+    ensures same { state handle.new.value ≡ state handle.old.value }
+    ensures kept { result ≢ done → value.new ≡ value.old }
+    ensures missing { result ≡ no_such_marker → HasNone (number ∷ []) handle.old.value }
+    ensures unset { result ≡ no_environment → HasNoEnvironment handle.old.value }
+    ensures shut { handle.old.value ≡ None → result ≡ shut }
+{
+    handle.is_true(alloc, number, value).code()
 }
 
 /// Writes the text of a marker, which is empty if it is true everywhere.
@@ -220,16 +233,14 @@ pub extern "C" fn pep508_marker_text(
     buffer: &mut [u8],
     needed: &mut usize,
 ) -> i32
-    ensures done { result ≡ done → Has (λ cells. Writes (HasText cells number)
-        buffer.old buffer.new needed.new) handle.old.value }
-    ensures too_small { result ≡ too_small → Has (λ cells. WouldWrite
-        (HasText cells number) buffer.old buffer.new needed.new) handle.old.value }
-    ensures same { truths handle.new.value ≡ truths handle.old.value }
+    ensures done { result ≡ done
+        → WritesText number buffer.old buffer.new needed.new handle.old.value }
+    ensures too_small { result ≡ too_small
+        → WouldWriteText number buffer.old buffer.new needed.new handle.old.value }
+    ensures same { state handle.new.value ≡ state handle.old.value }
     ensures kept { result ≢ done → buffer.new ≡ buffer.old }
-
     ensures none { result ≢ done → result ≢ too_small → needed.new ≡ 0 }
-    ensures missing { result ≡ no_such_marker
-        → Has (λ cells. IsMissing cells (number ∷ [])) handle.old.value }
+    ensures missing { result ≡ no_such_marker → HasNone (number ∷ []) handle.old.value }
     ensures shut { handle.old.value ≡ None → result ≡ shut }
 {
     handle.text(alloc, number, buffer, needed).code()

@@ -9,8 +9,9 @@ mod scripts;
 
 pub use handles::{
     pep508_interner_free, pep508_interner_mark, pep508_interner_new, pep508_interner_release,
-    pep508_marker_and, pep508_marker_disjoint, pep508_marker_equal, pep508_marker_evaluate_number,
-    pep508_marker_not, pep508_marker_or, pep508_marker_parse, pep508_marker_text,
+    pep508_interner_set_environment, pep508_marker_and, pep508_marker_disjoint,
+    pep508_marker_equal, pep508_marker_evaluate_number, pep508_marker_is_true, pep508_marker_not,
+    pep508_marker_or, pep508_marker_parse, pep508_marker_text,
 };
 pub use markers::{
     pep508_marker_evaluate, pep508_marker_normalize, pep508_marker_simplify,

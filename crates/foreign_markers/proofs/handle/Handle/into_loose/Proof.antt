@@ -1,16 +1,16 @@
 -- `into_loose` hands the box on, where there is one.
-use Rattle.std.proofs.Common.{◌≡◌, ℕ, List, [], ◌∷◌, ◌++◌, refl, sym, ap, subst}
-use mathlib.Core.Bool.{Bool, true, false, ◌&&◌}
+use Rattle.std.proofs.Common.{◌≡◌, List, [], ◌∷◌, ◌++◌, refl, sym, subst}
+use mathlib.Core.Bool.{true, false, ◌&&◌}
 use lib.Dec.{T, lit<}
 use mir.Syntax.{Ty}
 use denote.Param.{layout}
 use Rattle.core.proofs.cell.Inside.{Good}
 use Rattle.std_alloc.proofs.ResultValues.{and_tt}
-use mir.Val.{Val, vptr, vbool, vnil, of_list, has_ty, WT}
+use mir.Val.{Val, vptr, vbool, of_list, has_ty, WT}
 use base.Logic.{SProp, ent, emp, id⊢}
 use base.Fml.{ftrue}
 use prog.Wp.{WpFn}
-use types.Kit.{‵, raw, ◌⊛◌, ◌$◌, ◌∵◌, !, qed, by, move, keep, drop, at_ret, split, join, fsplit, fjoin, suffices, use0, use1}
+use types.Kit.{‵, raw, ◌⊛◌, ◌$◌, ◌∵◌, !, qed, by, move, keep, at_ret, split, fsplit, fjoin, suffices, use0, use1}
 use types.Match.{live}
 use types.Run.{lit, of_opd, fld, stop, and_then, no_more, first, branches, exec, returns, enter}
 use types.ByLocal.{alloc_all, pass_all, free_all, look_at, get, get_in, sets, sets_last, env}
