@@ -68,15 +68,15 @@ fn operator_of(run: &str) -> Option<Operator>
     ensures written { IfSome result (λ operator. is_star operator ≡ false) }
     ensures none { IfNone result ((operator : Operator) → run.now ≢ operator_text operator) }
 {
-    match run {
-        "==" => Some(Operator::Equal),
-        "===" => Some(Operator::ExactEqual),
-        "!=" => Some(Operator::NotEqual),
-        "~=" => Some(Operator::TildeEqual),
-        "<" => Some(Operator::LessThan),
-        "<=" => Some(Operator::LessThanEqual),
-        ">" => Some(Operator::GreaterThan),
-        ">=" => Some(Operator::GreaterThanEqual),
+    match run.as_bytes() {
+        [b'=', b'='] => Some(Operator::Equal),
+        [b'=', b'=', b'='] => Some(Operator::ExactEqual),
+        [b'!', b'='] => Some(Operator::NotEqual),
+        [b'~', b'='] => Some(Operator::TildeEqual),
+        [b'<'] => Some(Operator::LessThan),
+        [b'<', b'='] => Some(Operator::LessThanEqual),
+        [b'>'] => Some(Operator::GreaterThan),
+        [b'>', b'='] => Some(Operator::GreaterThanEqual),
         _ => None,
     }
 }

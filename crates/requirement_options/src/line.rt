@@ -7,6 +7,7 @@ ghost use Rattle.requirement_lines.specs.declared.sets.Mark.TheVariants.{Options
 ghost use Rattle.requirement_options.specs.Forms.{argument_in, IsArgument, IsLine};
 ghost use Rattle.requirement_options.specs.Found.{settings_in, Tells};
 ghost use Rattle.requirement_options.specs.Content.{read_with, IsReadAs, Says};
+ghost use Rattle.requirement_options.specs.Line.{said_by};
 ghost use Rattle.requirement_options.specs.Line as spec;
 
 use crate::fault::{OptionFault, OptionFaultKind};
@@ -113,8 +114,7 @@ fn said_by<'a>(
     front: Vec<Piece<'a>>,
     options: &[LineOption<'a>],
 ) -> Result<Content<'a>, AllocError>
-    ensures { IfOk result
-        (Says (spec.said_by (line_of front.entry.items) (settings_in options.now))) }
+    ensures { IfOk result (Says (said_by (line_of front.entry.items) (settings_in options.now))) }
 {
     match next_character(front.as_slice(), whole_line()) {
         Some(_) => Ok(Content::Requirement(front)),
@@ -128,8 +128,7 @@ fn ignored(
     line: LineKind,
     options: &[LineOption<'_>],
 ) -> Result<Vec<OptionFault>, AllocError>
-    ensures { IfOk result (λ faults.
-        faults.items ≡ spec.ignored line false (settings_in options.now)) }
+    ensures { IfOk result (λ v. v.items ≡ spec.ignored line false (settings_in options.now)) }
 {
     let mut faults = Vec::new(alloc);
     let mut taken = false;

@@ -4,7 +4,9 @@
 #![tactic(auto)]
 
 use anyhow::Result;
-use pep508_rs::{Interner, MarkerText, MarkerTree, VerbatimUrl};
+use marker_graph::{Interner, MarkerTree};
+use pep508_markers::MarkerText;
+use pep508_urls::VerbatimUrl;
 use std::cmp::Ordering;
 
 // Prints the order of two markers that are parsed by two interners.
