@@ -38,12 +38,13 @@ def of_crate(repository: Repository, crate: str) -> dict[str, int]:
 def of_families(root: Path) -> dict[str, dict[str, int]]:
     """How many growths are refused in each family of calls, and how many things that must meet."""
     return {
-        f"{program}, {family.name}": {
+        f"{crate}, {family.name}": {
             "growths": family.growths,
             "met": len(family.all_met()),
             "hints": family.hints,
         }
-        for program, families in script(root / ".ci" / "refusals").SWEEPS
+        for its in script(root / ".ci" / "refusals").PROGRAMS.values()
+        for crate, families in its.items()
         for family in families
     }
 

@@ -15,21 +15,33 @@ from pathlib import Path
 from checks.kit import Repository, kit
 from checks.unproved import link, quick_kit, workspace
 
-# Keeps the text that is compiled with checks of memory: the compiled run is made of it.
+# Keeps the text that is to be compiled with checks of memory, and stops: the program is made of it.
 KEEPER = """\
 #!/bin/sh
-case " $* " in *fsanitize*) cp module.bc '%s' ;; esac
+case " $* " in *fsanitize*) cp module.bc '%s'; exit 1 ;; esac
 exec '%s' "$@"
 """
+# How a compiled text is given to the compiler, and how it is compiled.
+IR = ["--target=x86_64-unknown-linux-gnu", "--no-default-config", "-x", "ir"]
+FLAGS = ["-fintegrated-cc1", "-march=x86-64", "-ffunction-sections", "-fdata-sections"]
 TRAP = re.compile(r"^  call void @llvm\.trap\(\)$", re.MULTILINE)
-# A function that is to keep a place of its own on the stack, which a proof keeps and `rt try` drops.
-APART = re.compile(r"^#\[inline\(never\)\]\n(?:pub(?:\(crate\))? )?fn (\w+)", re.MULTILINE)
+# The hints of functions, which a proved build follows and `rt try` drops, and their words in LLVM.
+HINT = re.compile(
+    r"^ *#\[inline\((never|always)\)\]\n *(?:pub(?:\(crate\))? )?fn (\w+)", re.MULTILINE
+)
+ATTRIBUTES = {"never": "noinline", "always": "alwaysinline"}
 TOTAL = re.compile(r"Collected : (\d+)")
 
 
 def compiled(repository: Repository, program: str, room: Path) -> Path | None:
     """A program as it is measured, or nothing where it cannot be made."""
     workspace(repository, [program], room / "copy")
+    module = kept_text(room, room / "copy" / "crates" / program)
+    return module and without_checks(module, hints(repository, program), room)
+
+
+def kept_text(room: Path, crate: Path, *words: str) -> Path | None:
+    """The text that `rt try` compiles of a crate, or nothing where it cannot be made."""
     rt = quick_kit(room / "kit")
     tools, ours = kit() / "toolchain", room / "kit" / "toolchain"
     ours.unlink()
@@ -39,8 +51,8 @@ def compiled(repository: Repository, program: str, room: Path) -> Path | None:
     clang.write_text(KEEPER % (module, tools / "bin" / "clang"))
     clang.chmod(0o755)
     tried = subprocess.run(
-        [rt, "try"],
-        cwd=room / "copy" / "crates" / program,
+        [rt, "try", *words],
+        cwd=crate,
         stdin=subprocess.DEVNULL,
         stdout=subprocess.PIPE,
         stderr=subprocess.STDOUT,
@@ -49,39 +61,39 @@ def compiled(repository: Repository, program: str, room: Path) -> Path | None:
     if not module.is_file():
         print(tried.stdout[-2000:])
         return None
-    apart = functions_apart(repository, program)
-    return without_checks(module, apart, tools / "bin" / "clang", room)
+    return module
 
 
-def functions_apart(repository: Repository, program: str) -> set[str]:
-    """The functions of a program that are never to be a part of another one."""
+def hints(repository: Repository, program: str) -> set[tuple[str, str, str]]:
+    """The hints of the functions of a program: each with its module and its function."""
     return {
-        f"{crate}::{file.stem}::{name}"
+        (hint, f"{crate}::{file.stem}", name)
         for crate in repository.below(program)
         for file in repository.files(crate)
         if file.suffix == ".rt"
-        for name in APART.findall(file.read_text(encoding="utf-8"))
+        for hint, name in HINT.findall(file.read_text(encoding="utf-8"))
     }
 
 
-def kept_apart(text: str, functions: set[str]) -> str:
-    """A compiled text in which these functions are no part of others."""
-    names = "|".join(map(re.escape, sorted(functions)))
-    if not names:
-        return text
-    begin = rf'^(define internal [^@\n]*@"(?:{names})(?:::<[^"\n]*)?"\(.*\)) (#\d+ {{)$'
-    return re.sub(begin, r"\1 noinline \2", text, flags=re.MULTILINE)
+def hinted(text: str, found: set[tuple[str, str, str]]) -> str:
+    """A compiled text with these hints."""
+    for hint, attribute in ATTRIBUTES.items():
+        named = [f"{module}::(?:\\w+::)?{name}" for it, module, name in sorted(found) if it == hint]
+        names = "|".join(named)
+        if named:
+            begin = rf'^(define internal [^@\n]*@"(?:{names})(?:::<[^"\n]*)?"\(.*\)) (#\d+ {{)$'
+            text = re.sub(begin, rf"\1 {attribute} \2", text, flags=re.MULTILINE)
+    return text
 
 
-def without_checks(module: Path, apart: set[str], clang: Path, room: Path) -> Path:
+def without_checks(module: Path, found: set[tuple[str, str, str]], room: Path) -> Path:
     """The program of a compiled text, with each check taken as true."""
     text, plain = room / "module.ll", room / "plain.ll"
-    command = [clang, "--target=x86_64-unknown-linux-gnu", "--no-default-config", "-x", "ir"]
-    subprocess.run([*command, "-S", "-emit-llvm", module, "-o", text], check=True)
+    clang = [kit() / "toolchain" / "bin" / "clang", *IR]
+    subprocess.run([*clang, "-S", "-emit-llvm", module, "-o", text], check=True)
     said = TRAP.sub("", text.read_text(encoding="utf-8")).replace("sanitize_address", "")
-    plain.write_text(kept_apart(said, apart), encoding="utf-8")
-    flags = ["-fintegrated-cc1", "-march=x86-64", "-ffunction-sections", "-fdata-sections", "-O2"]
-    subprocess.run([*command, *flags, "-c", plain, "-o", room / "plain.o"], check=True)
+    plain.write_text(hinted(said, found), encoding="utf-8")
+    subprocess.run([*clang, *FLAGS, "-O2", "-c", plain, "-o", room / "plain.o"], check=True)
     libraries = [kit() / "c" / "liblibc_c.a", kit() / "c" / "libos_c.a"]
     linked = ["cc", "-no-pie", "-Wl,--gc-sections", room / "plain.o", *libraries]
     subprocess.run([*linked, "-o", room / "measured"], check=True)

@@ -78,7 +78,7 @@ def clauses_of(text: str, module: str) -> list[Clause]:
     owners, name, function, is_public, inside = frozenset([module]), "", 0, False, False
     begun: dict[int, int] = defaultdict(int)
     for line in text.splitlines():
-        if owner := OWNER.match(line):
+        if (owner := OWNER.match(line)) and not line.endswith("{}"):
             owners = owners_of(owner[2])
             is_open = owner[1] == "trait" or " for " in owner[2]
         elif line == "}":

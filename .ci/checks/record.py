@@ -2,13 +2,19 @@
 
 A file keeps, for each crate whose edits were tried, a sum of all that their outcome depends on: the
 crate and its edits, all crates below it, the toolchain's line, and these scripts. Lines that are
-comments change nothing of it, and are no part of the sum.
+comments change nothing of it, and are no part of the sum. The prover sees only the statements of a
+crate below, so for its edits the bodies of functions there are no part either, nor private functions,
+functions that nothing names, and lemmas that nothing cites.
 """
 
 from __future__ import annotations
 
 import hashlib
+import re
 import threading
+from collections.abc import Iterable, Iterator
+from dataclasses import dataclass
+from functools import cache
 from pathlib import Path
 
 from checks import edits
@@ -42,6 +48,117 @@ def code_of(file: Path) -> bytes:
     return b"\n".join(line for line in lines if not line.lstrip().startswith(begin.encode()))
 
 
+# How a function begins whose body no other crate sees: that of a `const fn` may be computed there.
+FUNCTION = re.compile(r"( *)(pub(?:\(crate\))? )?(?:unsafe )?fn (\w+)")
+# How a block begins whose functions are seen though no `pub` stands before them.
+TRAIT = re.compile(r"(?:pub )?trait |impl\b.* for ")
+CITED = re.compile(r"\b(\w+)(?:\.|::)proofs(?:\.|::)(\w+)")
+IMPORT = re.compile(r"^ *((?:ghost |pub )?use) ([^;]+);\n?", re.MULTILINE)
+# What is said of a function to the compiler, or to the prover of its own crate.
+ATTRIBUTE = re.compile(r"^ *#\[(?:inline|tactic|must_use)\b.*\]\n", re.MULTILINE)
+WORD = re.compile(r"[\w'-]+")
+
+
+@dataclass(frozen=True)
+class Statements:
+    """What other crates may see of a laid-out file: its imports, by the name of each, the heads of
+    public functions by their names, and all else but bodies and private functions."""
+
+    imports: tuple[tuple[str, str], ...]
+    functions: tuple[tuple[str, str], ...]
+    others: str
+
+    def seen(self, names: set[str]) -> str:
+        """The part that matters to who uses these names alone."""
+        functions = "\n".join(head for name, head in self.functions if name in names)
+        text = f"{self.others}\n{functions}"
+        words = words_of(text)
+        imports = [
+            f"{path} {name}"
+            for path, name in self.imports
+            if is_named(name, names if path.startswith("pub ") else words, text)
+        ]
+        return "\n".join([*sorted(imports), text])
+
+
+def words_of(text: str) -> set[str]:
+    return set(WORD.findall(text))
+
+
+def is_named(name: str, words: set[str], text: str) -> bool:
+    """Whether a text has a name, or each sign of an operator."""
+    if WORD.fullmatch(name):
+        return name in words
+    return all(sign in text for sign in name.split("◌"))
+
+
+def imports_of(text: str) -> Iterator[tuple[str, str]]:
+    """The imports of a file: what stands before each name, and the name by which it is used."""
+    for kind, path in IMPORT.findall(text):
+        front, brace, names = path.partition("{")
+        if not brace:
+            front, _, names = path.rpartition("::")
+        for name in re.split(r",\s*", names.rstrip("}").strip().rstrip(",")):
+            given, _, own = name.strip().partition(" as ")
+            yield f"{kind} {front}{given}", own or given
+
+
+def statements(text: str) -> Statements:
+    """What other crates may see of a laid-out file without comments."""
+    others: list[str] = []
+    functions: list[tuple[str, list[str]]] = []
+    # The line that began the last block, how far the function is set in whose head is not at its
+    # end, where its lines go, and the line that ends a body.
+    block, head, end = "", None, None
+    kept = others
+    for line in ATTRIBUTE.sub("", IMPORT.sub("", text)).splitlines():
+        if end is not None:
+            end = None if line == end else end
+            continue
+        if line[:1].strip():
+            block = line
+        if head is None and (found := FUNCTION.match(line)):
+            head, word, name = found.groups()
+            kept = others if TRAIT.match(block) else []
+            if word == "pub " and kept is not others:
+                functions.append((name, kept))
+        kept.append(line)
+        if head is None:
+            continue
+        is_set_in = line.startswith(head + " ")
+        if line.endswith(";") or (line.endswith("{}") and not is_set_in):
+            head, kept = None, others
+        elif line.endswith("{") and not is_set_in:
+            head, end, kept = None, head + "}", others
+    heads = ((name, "\n".join(lines)) for name, lines in functions)
+    return Statements(tuple(imports_of(text)), tuple(heads), "\n".join(others))
+
+
+@cache
+def statements_of(file: Path) -> Statements:
+    """What other crates may see of a file. Files with macros, and those of specs, are seen whole."""
+    text = code_of(file).decode()
+    if file.suffix != ".rt" or "macro_rules!" in text:
+        return Statements((), (), text)
+    return statements(text)
+
+
+def used(files: list[Statements], names: set[str]) -> set[str]:
+    """These names, those of all that is no function in files, and those of the functions of files
+    that bear such a name."""
+    found = names.union(*(words_of(it.others) for it in files))
+    left = [function for it in files for function in it.functions]
+    while named := [it for it in left if it[0] in found]:
+        left = [it for it in left if it[0] not in found]
+        found = found.union(*(words_of(head) for _, head in named))
+    return found
+
+
+def cited(texts: Iterable[str]) -> set[tuple[str, str]]:
+    """The files of lemmas that texts cite: a crate, and the name of one of its files."""
+    return {found for text in texts for found in CITED.findall(text)}
+
+
 class Record:
     """The sums that stand in the file, and those of the repository as it is."""
 
@@ -57,16 +174,42 @@ class Record:
         scripts.append(repository.root / ".ci" / "wrong_bodies")
         self.common = f"{version()}\n{repository.sum_of(scripts)}"
 
-    def sum_of(self, crate: str, tried: list[Edit]) -> str:
-        """The sum of what the outcome of edits depends on that are tried by a crate."""
+    def seen(self, crate: str, own: list[Path]) -> list[Path]:
+        """The files of the crates below of which the prover sees something when it checks these
+        files: none of proofs but what is cited."""
+        folders = [self.repository.folder(name) for name in self.repository.below(crate)]
+        files = [file for it in folders for file in self.repository.files(it.name)]
+        seen = [file for file in files if not any(it / "proofs" in file.parents for it in folders)]
+        waiting = [*own, *(file for file in seen if file.suffix == ".antt")]
+        while waiting:
+            names = cited(file.read_text() for file in waiting)
+            found = {it / "proofs" / f"{name}.antt" for it in folders for of, name in names if of == it.name}
+            waiting = [file for file in files if file in found and file not in seen]
+            seen += waiting
+        return sorted(seen)
+
+    def sum_below(self, crate: str, own: list[Path]) -> str:
+        """The sum of what the prover sees of the crates below when it checks these files."""
+        files = self.seen(crate, own)
+        texts = {file: statements_of(file) for file in files}
+        names = used(list(texts.values()), set().union(*(words_of(it.read_text()) for it in own)))
+        return self.repository.sum_of(files, lambda file: texts[file].seen(names).encode())
+
+    def sum_of(self, task: str, tried: list[Edit]) -> str:
+        """The sum of what the outcome of the edits of a task depends on: for the prover, of the
+        statements of the crates below, and for tests, of all that they run."""
+        kind, _, crate = task.partition("-")
         root = self.repository
-        names = [*root.below(crate), crate, *(edit.crate for edit in tried)]
-        files = [file for name in dict.fromkeys(names) for file in root.files(name)]
+        below = root.below(crate)
+        whole = [*(below if kind != "refused" else []), crate, *(edit.crate for edit in tried)]
+        files = [file for name in dict.fromkeys(whole) for file in root.files(name)]
         files += [edit.path for edit in tried]
+        seen = self.sum_below(crate, files) if kind == "refused" else ""
         if any(edit.fields.get("test") == STORED_RUN for edit in tried):
             files += [root.folder(PROGRAM) / name for name in ("stdin", "stdout")]
-        uses = "\n".join(f"{name}: {' '.join(root.uses[name])}" for name in dict.fromkeys(names))
-        total = root.sum_of(files, code_of)
+        names = dict.fromkeys([*below, *whole])
+        uses = "\n".join(f"{name}: {' '.join(root.uses[name])}" for name in names)
+        total = f"{seen}\n{root.sum_of(files, code_of)}"
         return hashlib.sha256(f"{self.common}\n{uses}\n{total}".encode()).hexdigest()
 
     def stands(self, task: str, total: str) -> bool:

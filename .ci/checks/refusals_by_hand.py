@@ -68,7 +68,7 @@ HANDED_ON = {
     "crates/requirement_words/src/extras.rt": 1,
     "crates/requirement_words/src/head.rt": 4,
     "crates/requirement_words/src/specifiers.rt": 1,
-    "crates/selection_commands/src/tables.rt": 4,
+    "crates/selection_commands/src/tables.rt": 3,
     "crates/version_ranges/src/gather.rt": 1,
 }
 # How often one is made up: a clone that is not equal to its source, since `Clone` has no law that

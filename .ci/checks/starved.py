@@ -14,6 +14,35 @@ from checks.unproved import link, quick_kit, workspace
 
 NOTHING = "nothing was refused"
 
+# The program that serves lines.
+SERVER = "markers"
+# A program that makes the calls of families, of which each crate has its own.
+PROGRAM = """\
+//! Makes the calls of families while one allocation fails.
+#![tactic(auto)]
+
+use starved::{Families, Met, run};
+use std::alloc::Global;
+use std::io;
+
+struct Calls;
+
+impl Families for Calls {
+    fn make(alloc: Global, family: &str) -> Option<Met> {
+        match family {
+%s            _ => None,
+        }
+    }
+}
+
+fn main(rt: HostRuntime) -> io::Result<()> {
+    run::<Calls, _>(&rt)
+}
+"""
+ARM = """\
+            "%s" => %s::Calls::make(alloc, family),
+"""
+
 # A linker that keeps the program that it links.
 LINKER = """\
 #!/bin/sh
@@ -70,6 +99,16 @@ def faults_of(family: Family, growth: int, answers: list[tuple[int, str]]) -> li
     return wrong + [f"{family.name}: never {met}" for met in family.all_met() if met not in found]
 
 
+def write_program(name: str, families: dict[str, list[Family]], room: Path) -> None:
+    """Writes a program into a repository that makes the calls of families of these crates: so what
+    they share is compiled once."""
+    arms = [ARM % (family.name, crate) for crate, its in families.items() for family in its]
+    (room / "crates" / name / "src").mkdir(parents=True)
+    (room / "crates" / name / "src" / "main.rt").write_text(PROGRAM % "".join(arms))
+    with (room / "crates.txt").open("a") as listed:
+        listed.write(f"{name}: {' '.join(['starved', *families])}\n")
+
+
 def keeping_kit(room: Path, kept: Path) -> Path:
     """Makes a copy of the toolchain whose linker keeps the program that it links, and answers its
     `rt`: a run of that program takes a fiftieth of the time of a run by `rt try`."""
@@ -95,14 +134,23 @@ class Starved:
     """Runs of programs with one growth refused, and what was wrong with them."""
 
     def __init__(
-        self, repository: Repository, programs: list[str], room: Path, tell: Callable[[str], None]
+        self,
+        repository: Repository,
+        programs: dict[str, dict[str, list[Family]]],
+        room: Path,
+        tell: Callable[[str], None],
     ) -> None:
+        self.programs = programs
         self.room = room
         self.tell = tell
-        workspace(repository, programs, room / "copy")
+        crates = [crate for families in programs.values() for crate in families]
+        workspace(repository, [*crates, SERVER], room / "copy")
+        for program, families in programs.items():
+            write_program(program, families, room / "copy")
 
     def built(self, program: str, growth: int) -> Path:
-        """Builds a program in which this growth is refused, and answers where it is."""
+        """Builds a program in which this growth is refused, and answers where it is. Tells why it
+        was not built, if it was not."""
         kept = self.room / f"{program}-{growth}"
         rt = keeping_kit(self.room / f"kit-{program}-{growth}", kept)
         said = subprocess.run(
@@ -115,7 +163,8 @@ class Starved:
             errors="replace",
         )
         if not kept.is_file():
-            self.tell("\n".join(said.stdout.splitlines()[-5:]))
+            self.tell("\n".join(said.stdout.splitlines()[-20:]))
+            self.tell(f"refusals: {program} was not built")
         return kept
 
     def run(self, program: Path, given: str) -> Run:
@@ -131,36 +180,43 @@ class Starved:
                 return Run(None, str(error))
         return Run(ran.returncode, ran.stdout.decode(errors="replace"))
 
-    def sweep(self, program: str, families: list[Family]) -> list[bool]:
-        """Refuses each growth of each family in turn, and answers which families are right. The
-        same growth of the whole run is refused each time, which is another one of the family for
-        each number of growths before."""
-        growth = max(family.growths for family in families)
+    def sweep(self, program: str) -> list[bool]:
+        """Refuses each growth of each family of a program in turn, and answers which families are
+        right. The same growth of the whole run is refused each time, which is another one of the
+        family for each number of growths before."""
+        families = [(it, family) for it, its in self.programs[program].items() for family in its]
+        growth = max(family.growths for _, family in families)
         built = self.built(program, growth)
-        return [self.judge(program, family, growth, built) for family in families]
+        if not built.is_file():
+            return [False for _ in families]
+        return [self.judge(crate, family, growth, built) for crate, family in families]
 
-    def judge(self, program: str, family: Family, growth: int, built: Path) -> bool:
+    def judge(self, crate: str, family: Family, growth: int, built: Path) -> bool:
         """Whether the runs of a family are right, in which this growth of the whole run was
-        refused. Tells what is wrong with them."""
-        every = range(growth - family.growths, growth)
-        runs = [(held, self.run(built, f"{held} {family.name}\n")) for held in every]
+        refused. Tells what is wrong with them. The lines of all runs are as long, so that none
+        asks for memory more often than another."""
         answers = []
-        for held, ran in runs:
-            found = re.fullmatch(rf"{held} {re.escape(family.name)}: (.*)\n", ran.said)
+        bad = []
+        for held in range(growth - family.growths, growth):
+            line = f"{held:0{len(str(growth))}} {family.name}"
+            ran = self.run(built, f"{line}\n")
+            found = re.fullmatch(rf"{re.escape(line)}: (.*)\n", ran.said)
             if ran.status == 0 and found:
                 answers.append((held, found[1]))
+            else:
+                bad.append(ran.said)
         wrong = faults_of(family, growth, answers)
         refused = sum(met.startswith("refused ") for _, met in answers)
-        self.tell(f"refusals: {program}, {family.name}: {refused} growths refused")
-        bad = [ran for _, ran in runs if ran.status != 0]
-        return self.passed(program, wrong, bad[0].said if bad else "")
+        runs = f"{refused} growths refused in {family.growths} runs"
+        self.tell(f"refusals: {crate}, {family.name}: {runs}")
+        return self.passed(crate, wrong, bad[0] if bad else "")
 
     def long_input(self, lines: int, growths: int) -> list[bool]:
         """Serves a long line and so many short ones, of which no cell is left, and refuses the
         growth after so many: there is none, so memory grows with the longest line and not with
         their number."""
         given = f"{0:020000}\n" + "noop\n" * lines
-        ran = self.run(self.built("markers", growths + 1), given)
+        ran = self.run(self.built(SERVER, growths + 1), given)
         answers = len(re.findall(r"^error command$", ran.said, re.M))
         wrong = []
         if answers != lines + 1:
@@ -168,19 +224,19 @@ class Starved:
         if ran.status != 0:
             wrong.append("serving ended otherwise")
         self.tell(f"refusals: markers: {answers} lines served with at most {growths} growths")
-        return [self.passed("markers", wrong, ran.said)]
+        return [self.passed(SERVER, wrong, ran.said)]
 
     def refused_start(self) -> list[bool]:
         """Refuses the first growth of a run, that of the arguments: the program tells it and ends
         with status 1."""
-        ran = self.run(self.built("markers", 1), "noop\n")
+        ran = self.run(self.built(SERVER, 1), "noop\n")
         wrong = []
         if not re.search(r"^markers: out of memory$", ran.said, re.M):
             wrong.append("a refused start is not told")
         if ran.status != 1:
             wrong.append("a refused start ended otherwise")
         self.tell("refusals: markers: a start without memory is tried")
-        return [self.passed("markers", wrong, ran.said)]
+        return [self.passed(SERVER, wrong, ran.said)]
 
     def passed(self, program: str, wrong: list[str], said: str) -> bool:
         """Tells what is wrong with the runs of a program, if anything is."""

@@ -24,8 +24,15 @@ from checks import house
 
 ROOT = Path(__file__).resolve().parent.parent.parent
 README, PROOFS = Path("README.md"), Path("docs/PROOFS.md")
-# Pages on the program and on the library for C, and for who reads hostile texts.
-NOT_COUNTED = {"PROGRAM.md", "PROGRAM_PROOFS.md", "HOSTILE_TEXTS.md", "LIBRARY_FOR_C.md"}
+# Pages on the program, on the library for C and on the floors of speed, and for who reads hostile
+# texts.
+NOT_COUNTED = {
+    "PROGRAM.md",
+    "PROGRAM_PROOFS.md",
+    "HOSTILE_TEXTS.md",
+    "LIBRARY_FOR_C.md",
+    "SPEED_FLOORS.md",
+}
 SHORT = (README, Path("docs/ARCHITECTURE.md"))
 LONG = 30
 
