@@ -1,6 +1,6 @@
 -- What an environment shows, and its valuation with a list of extras (PEP 508, "Environment
 -- Markers").
-use Rattle.std.specs.Prelude.{◌≡◌, ◌≢◌, ℕ, false, List, string_bytes, bytes_eq, ⊤}
+use Rattle.std.specs.Prelude.{◌≡◌, ◌≢◌, ℕ, false, List, string_bytes, bytes_eq, ⊤, String}
 use Rattle.std.specs.List.{list_any}
 use Rattle.refusal.specs.declared.Refusal.{Refusal}
 use Rattle.refusal.specs.declared.Refusal.TheVariants.{OutOfMemory, SegmentAtEnd, Fault}
@@ -13,11 +13,12 @@ use Rattle.marker_words.specs.declared.key.TextVariable.TheVariants.{Implementat
 use Rattle.marker_words.specs.declared.key.MarkerValueVersion.{MarkerValueVersion}
 use Rattle.marker_words.specs.declared.key.MarkerValueVersion.TheVariants.{ImplementationVersion, PythonFullVersion, PythonVersion}
 use Rattle.marker_words.specs.Key.{version_variable_key}
-use Rattle.marker_environment.specs.Written.{Written, written}
+use Rattle.marker_environment.specs.Written.{Written, written, Says}
 use Rattle.marker_environment.specs.Substring.{is_part_of}
 use Rattle.marker_environment.specs.Valuation.{Valuation}
 use Rattle.marker_environment.specs.declared.builder.MarkerEnvironmentBuilder.{MarkerEnvironmentBuilder}
 use Rattle.marker_environment.specs.declared.environment.MarkerEnvironment.{MarkerEnvironment}
+use Rattle.marker_environment.specs.declared.string_version.StringVersion.{StringVersion}
 
 -- the values of the modern keys
 pub record Values : Type 0 where
@@ -88,6 +89,35 @@ pub record SetsVersion (old new : Values) (key : MarkerValueVersion) (value : Wr
   pub others : (other : MarkerValueVersion) → other ≢ key → new.version other ≡ old.version other
   pub texts : new.text ≡ old.text
 
+-- an environment with another text for a variable
+abbrev pub ChangesText : {A : Type 0} → MarkerEnvironment → MarkerEnvironment → TextVariable
+    → String A → Type 0
+ChangesText old new variable value =
+    SetsText (values_of old) (values_of new) variable (string_bytes value)
+
+-- an environment with another version for a key
+abbrev pub ChangesVersion : MarkerEnvironment → MarkerEnvironment → MarkerValueVersion
+    → StringVersion → Type 0
+ChangesVersion old new key value = SetsVersion (values_of old) (values_of new) key (written value)
+
+-- this is the environment's version of a key
+abbrev pub IsVersionOf : MarkerEnvironment → MarkerValueVersion → StringVersion → Type 0
+IsVersionOf e key version = written version ≡ version_of e key
+
+-- the environment has the texts of the builder
+abbrev pub HasTextsOf : MarkerEnvironmentBuilder → MarkerEnvironment → Type 0
+HasTextsOf builder environment = (variable : TextVariable)
+    → text_of environment variable ≡ texts_of builder variable
+
+-- and its versions are those that the builder's texts say
+abbrev pub HasVersionsOf : MarkerEnvironmentBuilder → MarkerEnvironment → Type 0
+HasVersionsOf builder environment = (key : MarkerValueVersion)
+    → Says (version_texts_of builder key) (version_of environment key)
+
+-- two environments have the same values
+abbrev pub HaveSameValues : MarkerEnvironment → MarkerEnvironment → Type 0
+HaveSameValues e f = HasSameValues (values_of e) (values_of f)
+
 -- Each variable is at its value, substring tests are computed on the values, the listed extras are
 -- true, and all others and each arbitrary one false. The value of `python_version` is not read.
 abbrev pub valuation_of : Values → List (List ℕ) → Valuation
@@ -99,3 +129,8 @@ valuation_of values extras = record {
   extra = λ name. list_any (λ listed. bytes_eq listed name) extras;
   arbitrary = λ text. false;
 }
+
+-- another value of `python_version` changes nothing that a marker sees
+abbrev pub LeavesValuations : Values → Values → Written → Type 0
+LeavesValuations old new value = (extras : List (List ℕ)) → SetsVersion old new PythonVersion value
+    → valuation_of new extras ≡ valuation_of old extras

@@ -2,3 +2,4 @@ pub mod Written
 pub mod Substring
 pub mod Valuation
 pub mod Environment
+pub mod Deserialized

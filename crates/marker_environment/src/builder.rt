@@ -54,7 +54,7 @@ pub struct MarkerEnvironmentBuilder<'a> {
 
 impl MarkerEnvironmentBuilder<'_> {
     ghost use Rattle.std.specs.Prelude.{IfErr, IfOk};
-    ghost use Rattle.marker_environment.specs.Written.{written, Says};
+    ghost use Rattle.marker_environment.specs.Written.{SaysVersion};
     ghost use Rattle.marker_environment.specs.Environment.{version_texts_of, IsRefusal};
 
     // The version of the key's text.
@@ -64,8 +64,7 @@ impl MarkerEnvironmentBuilder<'_> {
         alloc: Global,
         key: MarkerValueVersion,
     ) -> Result<StringVersion, Refusal<VersionParseError>>
-        ensures says { IfOk result (λ version.
-            Says (version_texts_of self.now key) (written version)) }
+        ensures says { IfOk result (SaysVersion (version_texts_of self.now key)) }
         ensures refused { IfErr result (IsRefusal self.now) }
     {
         let text = match key {

@@ -41,12 +41,11 @@ pub struct MarkerEnvironment {
 }
 
 impl MarkerEnvironment {
-    ghost use Rattle.std.specs.Prelude.{◌≡◌, IfErr, IfOk, string_bytes};
+    ghost use Rattle.std.specs.Prelude.{◌≡◌, IfErr, IfOk};
     ghost use Rattle.marker_words.specs.declared.key.MarkerValueVersion.{MarkerValueVersion};
     ghost use Rattle.marker_words.specs.declared.key.TextVariable.{TextVariable};
     ghost use Rattle.marker_words.specs.Key.{variable_of};
-    ghost use Rattle.marker_environment.specs.Written.{written, Says};
-    ghost use Rattle.marker_environment.specs.Environment.{text_of, version_of, values_of, texts_of, version_texts_of, IsRefusal, SetsText, SetsVersion};
+    ghost use Rattle.marker_environment.specs.Environment.{text_of, version_of, values_of, IsRefusal, ChangesText, ChangesVersion, HasTextsOf, HasVersionsOf, IsVersionOf};
 
     /// Returns an environment with copies of the builder's texts, and the versions of the version
     /// keys.
@@ -58,10 +57,8 @@ impl MarkerEnvironment {
         alloc: Global,
         builder: MarkerEnvironmentBuilder<'_>,
     ) -> Result<MarkerEnvironment, Refusal<VersionParseError>>
-        ensures texts { IfOk result (λ environment. (variable : TextVariable) →
-            text_of environment variable ≡ texts_of builder.entry variable) }
-        ensures versions { IfOk result (λ environment. (key : MarkerValueVersion) →
-            Says (version_texts_of builder.entry key) (version_of environment key)) }
+        ensures texts { IfOk result (HasTextsOf builder.entry) }
+        ensures versions { IfOk result (HasVersionsOf builder.entry) }
         ensures refused { IfErr result (IsRefusal builder.entry) }
     {
         Ok(MarkerEnvironment {
@@ -103,7 +100,7 @@ impl MarkerEnvironment {
 
     /// Returns the value of the version key.
     pub fn string_version(&self, key: MarkerValueVersion) -> &StringVersion
-        ensures { written result.now ≡ version_of self.now key }
+        ensures { IsVersionOf self.now key result.now }
     {
         match key {
             MarkerValueVersion::ImplementationVersion => &self.implementation_version,
@@ -136,8 +133,7 @@ impl MarkerEnvironment {
 
     /// Returns the value of `implementation_version`, Python's `sys.implementation.version`.
     pub fn implementation_version(&self) -> &StringVersion
-        ensures { written result.now
-            ≡ version_of self.now MarkerValueVersion.ImplementationVersion }
+        ensures { IsVersionOf self.now MarkerValueVersion.ImplementationVersion result.now }
     {
         &self.implementation_version
     }
@@ -187,7 +183,7 @@ impl MarkerEnvironment {
 
     /// Returns the value of `python_full_version`, Python's `platform.python_version()`.
     pub fn python_full_version(&self) -> &StringVersion
-        ensures { written result.now ≡ version_of self.now MarkerValueVersion.PythonFullVersion }
+        ensures { IsVersionOf self.now MarkerValueVersion.PythonFullVersion result.now }
     {
         &self.python_full_version
     }
@@ -195,7 +191,7 @@ impl MarkerEnvironment {
     /// Returns the value of `python_version`, the first two of Python's
     /// `platform.python_version_tuple()`.
     pub fn python_version(&self) -> &StringVersion
-        ensures { written result.now ≡ version_of self.now MarkerValueVersion.PythonVersion }
+        ensures { IsVersionOf self.now MarkerValueVersion.PythonVersion result.now }
     {
         &self.python_version
     }
@@ -209,7 +205,7 @@ impl MarkerEnvironment {
 
     /// Changes the value of the variable.
     pub fn set_string(&mut self, variable: TextVariable, value: String)
-        ensures { SetsText (values_of self.old) (values_of self.new) variable (string_bytes value) }
+        ensures { ChangesText self.old self.new variable value }
     {
         match variable {
             TextVariable::ImplementationName => self.implementation_name = value,
@@ -227,7 +223,7 @@ impl MarkerEnvironment {
 
     /// Changes the value of the version key.
     pub fn set_version(&mut self, key: MarkerValueVersion, value: StringVersion)
-        ensures { SetsVersion (values_of self.old) (values_of self.new) key (written value) }
+        ensures { ChangesVersion self.old self.new key value }
     {
         match key {
             MarkerValueVersion::ImplementationVersion => self.implementation_version = value,
@@ -238,7 +234,7 @@ impl MarkerEnvironment {
 
     /// Returns the environment with another value of the variable.
     pub fn with_string(self, variable: TextVariable, value: String) -> MarkerEnvironment
-        ensures { SetsText (values_of self) (values_of result) variable (string_bytes value) }
+        ensures { ChangesText self result variable value }
     {
         let mut environment = self;
         environment.set_string(variable, value);
@@ -247,7 +243,7 @@ impl MarkerEnvironment {
 
     /// Returns the environment with another value of the version key.
     pub fn with_version(self, key: MarkerValueVersion, value: StringVersion) -> MarkerEnvironment
-        ensures { SetsVersion (values_of self) (values_of result) key (written value) }
+        ensures { ChangesVersion self result key value }
     {
         let mut environment = self;
         environment.set_version(key, value);
@@ -256,88 +252,77 @@ impl MarkerEnvironment {
 
     /// Returns the environment with another value of `implementation_name`.
     pub fn with_implementation_name(self, value: String) -> MarkerEnvironment
-        ensures { SetsText (values_of self) (values_of result)
-            TextVariable.ImplementationName (string_bytes value) }
+        ensures { ChangesText self result TextVariable.ImplementationName value }
     {
         self.with_string(TextVariable::ImplementationName, value)
     }
 
     /// Returns the environment with another value of `implementation_version`.
     pub fn with_implementation_version(self, value: StringVersion) -> MarkerEnvironment
-        ensures { SetsVersion (values_of self) (values_of result)
-            MarkerValueVersion.ImplementationVersion (written value) }
+        ensures { ChangesVersion self result MarkerValueVersion.ImplementationVersion value }
     {
         self.with_version(MarkerValueVersion::ImplementationVersion, value)
     }
 
     /// Returns the environment with another value of `os_name`.
     pub fn with_os_name(self, value: String) -> MarkerEnvironment
-        ensures { SetsText (values_of self) (values_of result)
-            TextVariable.OsName (string_bytes value) }
+        ensures { ChangesText self result TextVariable.OsName value }
     {
         self.with_string(TextVariable::OsName, value)
     }
 
     /// Returns the environment with another value of `platform_machine`.
     pub fn with_platform_machine(self, value: String) -> MarkerEnvironment
-        ensures { SetsText (values_of self) (values_of result)
-            TextVariable.PlatformMachine (string_bytes value) }
+        ensures { ChangesText self result TextVariable.PlatformMachine value }
     {
         self.with_string(TextVariable::PlatformMachine, value)
     }
 
     /// Returns the environment with another value of `platform_python_implementation`.
     pub fn with_platform_python_implementation(self, value: String) -> MarkerEnvironment
-        ensures { SetsText (values_of self) (values_of result)
-            TextVariable.PlatformPythonImplementation (string_bytes value) }
+        ensures { ChangesText self result TextVariable.PlatformPythonImplementation value }
     {
         self.with_string(TextVariable::PlatformPythonImplementation, value)
     }
 
     /// Returns the environment with another value of `platform_release`.
     pub fn with_platform_release(self, value: String) -> MarkerEnvironment
-        ensures { SetsText (values_of self) (values_of result)
-            TextVariable.PlatformRelease (string_bytes value) }
+        ensures { ChangesText self result TextVariable.PlatformRelease value }
     {
         self.with_string(TextVariable::PlatformRelease, value)
     }
 
     /// Returns the environment with another value of `platform_system`.
     pub fn with_platform_system(self, value: String) -> MarkerEnvironment
-        ensures { SetsText (values_of self) (values_of result)
-            TextVariable.PlatformSystem (string_bytes value) }
+        ensures { ChangesText self result TextVariable.PlatformSystem value }
     {
         self.with_string(TextVariable::PlatformSystem, value)
     }
 
     /// Returns the environment with another value of `platform_version`.
     pub fn with_platform_version(self, value: String) -> MarkerEnvironment
-        ensures { SetsText (values_of self) (values_of result)
-            TextVariable.PlatformVersion (string_bytes value) }
+        ensures { ChangesText self result TextVariable.PlatformVersion value }
     {
         self.with_string(TextVariable::PlatformVersion, value)
     }
 
     /// Returns the environment with another value of `python_full_version`.
     pub fn with_python_full_version(self, value: StringVersion) -> MarkerEnvironment
-        ensures { SetsVersion (values_of self) (values_of result)
-            MarkerValueVersion.PythonFullVersion (written value) }
+        ensures { ChangesVersion self result MarkerValueVersion.PythonFullVersion value }
     {
         self.with_version(MarkerValueVersion::PythonFullVersion, value)
     }
 
     /// Returns the environment with another value of `python_version`.
     pub fn with_python_version(self, value: StringVersion) -> MarkerEnvironment
-        ensures { SetsVersion (values_of self) (values_of result)
-            MarkerValueVersion.PythonVersion (written value) }
+        ensures { ChangesVersion self result MarkerValueVersion.PythonVersion value }
     {
         self.with_version(MarkerValueVersion::PythonVersion, value)
     }
 
     /// Returns the environment with another value of `sys_platform`.
     pub fn with_sys_platform(self, value: String) -> MarkerEnvironment
-        ensures { SetsText (values_of self) (values_of result)
-            TextVariable.SysPlatform (string_bytes value) }
+        ensures { ChangesText self result TextVariable.SysPlatform value }
     {
         self.with_string(TextVariable::SysPlatform, value)
     }

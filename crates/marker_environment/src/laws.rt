@@ -2,10 +2,9 @@
 
 ghost use Rattle.std.specs.Prelude.{◌≡◌, ◌↔◌, ℕ, List, true};
 ghost use Rattle.std.specs.Str.Iter.{HasSubslice};
-ghost use Rattle.marker_words.specs.declared.key.MarkerValueVersion.TheVariants.{PythonVersion};
-ghost use Rattle.marker_environment.specs.Written.{Written, written};
+ghost use Rattle.marker_environment.specs.Written.{Written, AreEqualIf, AreWrittenAlike};
 ghost use Rattle.marker_environment.specs.Substring.{is_part_of};
-ghost use Rattle.marker_environment.specs.Environment.{Values, HasSameValues, SetsVersion, valuation_of, values_of};
+ghost use Rattle.marker_environment.specs.Environment.{Values, HasSameValues, LeavesValuations, HaveSameValues};
 ghost use Rattle.marker_environment.specs.declared.environment.MarkerEnvironment.{MarkerEnvironment};
 ghost use Rattle.marker_environment.specs.declared.string_version.StringVersion.{StringVersion};
 
@@ -19,9 +18,7 @@ pub fn a_part_stands_between_a_front_and_a_back()
 
 /// What a marker sees of an environment does not depend on the value of `python_version`.
 pub fn python_version_is_not_read()
-    ensures { (old new : Values) (value : Written) (extras : List (List ℕ)) →
-        SetsVersion old new PythonVersion value →
-        valuation_of new extras ≡ valuation_of old extras }
+    ensures { (old new : Values) (value : Written) → LeavesValuations old new value }
 {}
 
 /// Values that are equal key by key are equal.
@@ -31,12 +28,10 @@ pub fn values_are_what_the_keys_show()
 
 /// Versions with the same text and equal parts are equal.
 pub fn same_written_versions_are_equal()
-    ensures { (v w : StringVersion) →
-        written v ≡ written w → ⟦<StringVersion as PartialEq>⟧.eq v w ≡ true }
+    ensures { AreEqualIf AreWrittenAlike ⟦<StringVersion as PartialEq>⟧.eq }
 {}
 
 /// Environments whose values are equal key by key are equal.
 pub fn same_values_make_equal_environments()
-    ensures { (e f : MarkerEnvironment) → HasSameValues (values_of e) (values_of f) →
-        ⟦<MarkerEnvironment as PartialEq>⟧.eq e f ≡ true }
+    ensures { AreEqualIf HaveSameValues ⟦<MarkerEnvironment as PartialEq>⟧.eq }
 {}

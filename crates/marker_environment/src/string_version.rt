@@ -1,13 +1,11 @@
 //! Versions with their texts.
 
-ghost use Rattle.std.specs.Prelude.{◌≡◌, ◌≢◌, ℕ, List, Some, IfErr, IfOk, string_bytes};
+ghost use Rattle.std.specs.Prelude.{◌≡◌, ◌≢◌, Some, IfErr, IfOk, string_bytes};
 ghost use Rattle.refusal.specs.declared.Refusal.TheVariants.{SegmentAtEnd};
 ghost use Rattle.serde.specs.Event.{Logs, text};
-ghost use Rattle.serde.specs.Steps.{Gives};
-ghost use Rattle.pep440_version.specs.Grammar.{IsVersionText};
-ghost use Rattle.refusal.specs.Refused.{IfFault};
-ghost use Rattle.pep440_version.specs.Parts.{Parts};
-ghost use Rattle.marker_environment.specs.Written.{written, normal, Says, IsSaidUnlessMemory};
+ghost use Rattle.refusal.specs.Refused.{FaultIs};
+ghost use Rattle.marker_environment.specs.Written.{written, normal, SaysUnlessMemory, SaysVersion};
+ghost use Rattle.marker_environment.specs.Deserialized.{IsReadFrom};
 
 use pep440_version::{Version, VersionParseError};
 use refusal::Refusal;
@@ -35,14 +33,12 @@ impl StringVersion {
     /// - [`Refusal::OutOfMemory`] when memory runs out.
     pub fn parse(alloc: Global, text: &str) -> Result<StringVersion, Refusal<VersionParseError>>
         // The text is kept, and the version is what it denotes.
-        ensures found { IfOk result (λ version. Says text.now (written version)) }
+        ensures found { IfOk result (SaysVersion text.now) }
 
         // A valid text is parsed, unless memory runs out.
-        ensures only { (v : Parts) →
-            IsVersionText text.now v → IsSaidUnlessMemory result text.now v }
+        ensures only { SaysUnlessMemory text.now result }
         ensures at_end { IfErr result (λ e. e ≢ SegmentAtEnd) }
-        ensures fault { IfErr result (λ e.
-            IfFault e (λ fault. string_bytes fault.text ≡ text.now)) }
+        ensures fault { FaultIs result (λ fault. string_bytes fault.text ≡ text.now) }
     {
         let version = Version::parse(alloc, text)?;
         let string = String::from_str(alloc, text)?;
@@ -96,8 +92,7 @@ impl DeserializeOwned for StringVersion {
         alloc: Global,
         from: &mut Deserializer<'_, '_, F>,
     ) -> Result<StringVersion, F::Error>
-        ensures { IfOk result (λ version. (t : List ℕ)
-            × Gives F.gives from.old (text t) from.new × Says t (written version)) }
+        ensures { IfOk result (IsReadFrom F.gives from.old from.new) }
     {
         let text = from.string(alloc)?;
         match StringVersion::parse(alloc, text.as_str()) {
@@ -116,8 +111,7 @@ impl<'de> Deserialize<'de> for StringVersion {
         alloc: Global,
         from: &mut Deserializer<'de, '_, F>,
     ) -> Result<StringVersion, F::Error>
-        ensures { IfOk result (λ version. (t : List ℕ)
-            × Gives F.gives from.old (text t) from.new × Says t (written version)) }
+        ensures { IfOk result (IsReadFrom F.gives from.old from.new) }
     {
         StringVersion::deserialize_owned(alloc, from)
     }

@@ -127,3 +127,8 @@ pub record MeansExtra (t : List ℕ) (operator : MarkerOperator) (m : Meaning) :
   pub kinds : Kinds
   pub is_extra : IsExtra t which kinds
   pub means : m ≡ extra_meaning operator which kinds
+
+-- the text begins with at most one comparison, which has one meaning
+abbrev pub BeginsWithOne : List ℕ → Type 0
+BeginsWithOne input = (o p : List ℕ) (m n : Meaning)
+    → Compared input o m → Compared input p n → (o ≡ p) × (m ≡ n)

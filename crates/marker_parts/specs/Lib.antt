@@ -7,3 +7,4 @@ pub mod Read
 pub mod Whole
 pub mod Reporting
 pub mod Error
+pub mod Range

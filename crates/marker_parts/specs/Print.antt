@@ -34,6 +34,10 @@ pattern_text s = version_text s.version ++ (if is_star s.operator then codes ".*
 abbrev pub next_version_text : Parts → List ℕ
 next_version_text v = codes " " ++ version_text v
 
+-- versions, each after a space
+abbrev pub others_text : List Parts → List ℕ
+others_text versions = flat_map next_version_text versions
+
 -- versions with a space between each two
 abbrev pub list_text : List Parts → List ℕ
 list_text [] = []

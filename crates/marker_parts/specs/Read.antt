@@ -9,8 +9,10 @@ use Rattle.marker_parts.specs.declared.expression.MarkerExpression.{MarkerExpres
 use Rattle.marker_parts.specs.declared.meaning.Outcome.{Outcome}
 use Rattle.marker_parts.specs.declared.comparison.ComparisonError.{ComparisonError}
 use Rattle.marker_parts.specs.declared.comparison.ComparisonError.TheVariants.{OutOfMemory, Fault}
-use Rattle.marker_parts.specs.Expression.{test_of}
-use Rattle.marker_parts.specs.Comparison.{Meaning, Means, Compared}
+use Rattle.marker_parts.specs.Expression.{test_of, extra_of}
+use Rattle.marker_parts.specs.Comparison.{Meaning, Means, Compared, IsExtra, extra_kinds}
+use Rattle.std.specs.Borrow.{Bor}
+use Rattle.marker_parts.specs.declared.extra.MarkerValueExtra.{MarkerValueExtra}
 
 abbrev pub meaning_of : Outcome → Meaning
 meaning_of outcome = record {
@@ -41,3 +43,16 @@ pub record HasNoComparison (input : List ℕ) : Type 0 where
 abbrev pub IsRefusal : List ℕ → ComparisonError → Type 0
 IsRefusal text OutOfMemory = ⊤
 IsRefusal text (Fault fault) = HasNoComparison (chars text) × IsWordFault text fault
+
+-- the text begins with a comparison, which is read with the rest, and its kinds are appended
+abbrev pub ReadsFront : List ℕ → List MarkerWarningKind → List MarkerWarningKind
+    → Option MarkerExpression × Bor (List ℕ) → Type 0
+ReadsFront text old new read = ReadsComparison text read.1.now read.0 old new
+
+-- an outcome has this meaning
+abbrev pub HasMeaning : Meaning → Outcome → Type 0
+HasMeaning meaning outcome = meaning_of outcome ≡ meaning
+
+-- the extra of a quoted text, with the kinds of its warnings
+abbrev pub IsExtraOf : List ℕ → MarkerValueExtra → Type 0
+IsExtraOf text extra = IsExtra text (extra_of extra) (extra_kinds (extra_of extra))

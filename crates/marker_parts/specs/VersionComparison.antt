@@ -14,8 +14,9 @@ use Rattle.pep508_errors.specs.declared.warning.MarkerWarningKind.{MarkerWarning
 use Rattle.pep508_errors.specs.declared.warning.MarkerWarningKind.TheVariants.{Pep440Error}
 use Rattle.marker_parts.specs.declared.version_operator.VersionOperator.{VersionOperator}
 use Rattle.marker_parts.specs.declared.version_operator.VersionOperator.TheVariants.{Compare, Among, Neither}
-use Rattle.marker_parts.specs.Expression.{Test, version, version_in}
+use Rattle.marker_parts.specs.Expression.{Test, version, version_in, test_of}
 use Rattle.marker_parts.specs.VersionList.{IsVersionList}
+use Rattle.marker_parts.specs.declared.expression.MarkerExpression.{MarkerExpression}
 
 -- what an operator does with versions: it compares with one, or it looks in a list, and may be
 -- negated
@@ -53,3 +54,22 @@ abbrev pub refused_kinds : VersionOperator → List MarkerWarningKind
 refused_kinds (Compare operator) = Pep440Error ∷ []
 refused_kinds (Among negated) = Pep440Error ∷ Pep440Error ∷ []
 refused_kinds Neither = Pep440Error ∷ []
+
+-- the expression has the test of a version key and a text after it, or before it
+abbrev pub IsAsked : MarkerValueVersion → List ℕ → VersionOperator → MarkerExpression → Type 0
+IsAsked key t operator expression = Asks key t operator (test_of expression)
+
+abbrev pub IsAskedBefore : MarkerValueVersion → List ℕ → VersionOperator → MarkerExpression
+    → Type 0
+IsAskedBefore key t operator expression = AsksBefore key t operator (test_of expression)
+
+-- they have no test
+abbrev pub AsksNothing : MarkerValueVersion → List ℕ → VersionOperator → Type 0
+AsksNothing key t operator = (test : Test) → ¬ Asks key t operator test
+
+abbrev pub AsksNothingBefore : MarkerValueVersion → List ℕ → VersionOperator → Type 0
+AsksNothingBefore key t operator = (test : Test) → ¬ AsksBefore key t operator test
+
+-- an operator and a version, with a star or without, make no specifier
+abbrev pub MakesNone : Operator → Parts → Bool → Type 0
+MakesNone operator v star = (s : Specifier) → Makes operator v star s → ⊥

@@ -35,3 +35,7 @@ IsNoComparison text = (m : Meaning) → ¬ IsComparison text m
 abbrev pub IsRefusal : List ℕ → ComparisonError → Type 0
 IsRefusal text OutOfMemory = ⊤
 IsRefusal text (Fault fault) = IsNoComparison text × IsWordFault text fault
+
+-- the expression is read from the text
+abbrev pub IsReadFrom : List ℕ → Option MarkerExpression → Type 0
+IsReadFrom text expression = (kinds : Kinds) × IsRead text expression kinds

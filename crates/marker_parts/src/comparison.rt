@@ -2,7 +2,7 @@
 
 ghost use Rattle.std.specs.Prelude.{◌≡◌, ◌<◌, IfErr, IfOk, OnErr, length};
 ghost use Rattle.pep508_text.specs.Suffix.{IsSuffix};
-ghost use Rattle.marker_parts.specs.Read.{ReadsComparison, IsRefusal};
+ghost use Rattle.marker_parts.specs.Read.{IsRefusal, ReadsFront};
 
 use crate::expression::MarkerExpression;
 use crate::meaning::Outcome;
@@ -48,8 +48,7 @@ pub fn read_comparison<'a>(
     text: &'a str,
     kinds: &mut Vec<MarkerWarningKind>,
 ) -> Result<(Option<MarkerExpression>, &'a str), ComparisonError<'a>>
-    ensures found { IfOk result (λ read.
-        ReadsComparison text.now read.1.now read.0 kinds.old.items kinds.new.items) }
+    ensures found { IfOk result (ReadsFront text.now kinds.old.items kinds.new.items) }
     ensures suffix { IfOk result (λ read. IsSuffix text.now read.1.now) }
     ensures shorter { IfOk result (λ read. length read.1.now < length text.now) }
 

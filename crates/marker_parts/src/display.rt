@@ -1,9 +1,8 @@
 //! How expressions are printed.
 
 ghost use Rattle.std.specs.Prelude.{◌≡◌, Some};
-ghost use Rattle.std.specs.List.{flat_map};
 ghost use Rattle.std.specs.Fmt.{DisplaysOnOk};
-ghost use Rattle.marker_parts.specs.Print.{expression_text, in_text, list_text, next_version_text, pattern_text};
+ghost use Rattle.marker_parts.specs.Print.{expression_text, in_text, list_text, pattern_text, others_text};
 
 use crate::expression::MarkerExpression;
 use marker_words::{MarkerOperator, Quoted};
@@ -34,8 +33,7 @@ fn write_pattern<W: fmt::Write>(
 }
 
 fn write_others<W: fmt::Write>(versions: &[Version], f: &mut fmt::Formatter<W>) -> fmt::Result
-    ensures { DisplaysOnOk W.write_str_gives f.old result
-        (Some (flat_map next_version_text versions.now)) f.new }
+    ensures { DisplaysOnOk W.write_str_gives f.old result (Some (others_text versions.now)) f.new }
 {
     for version in versions {
         write!(f, " {version}")?;

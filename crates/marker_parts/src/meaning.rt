@@ -25,12 +25,10 @@ pub(crate) struct Outcome {
 }
 
 impl Outcome {
-    ghost use Rattle.std.specs.Prelude.{◌++◌, ◌∷◌, [], List, IfOk, IfSome, IfNone, OnOk};
+    ghost use Rattle.std.specs.Prelude.{◌++◌, ◌∷◌, [], IfOk, OnOk};
     ghost use Rattle.pep508_errors.specs.declared.warning.MarkerWarningKind.{MarkerWarningKind};
-    ghost use Rattle.marker_parts.specs.Expression.{extra_of};
-    ghost use Rattle.marker_parts.specs.Comparison.{key_kinds, extra_kinds, dropped_with, text_meaning, extra_meaning, IsExtra, MeansExtra, MeansBehind, MeansBefore};
-    ghost use Rattle.marker_parts.specs.VersionComparison.{refused_kinds};
-    ghost use Rattle.marker_parts.specs.Read.{meaning_of, IsMeaningOf};
+    ghost use Rattle.marker_parts.specs.Comparison.{key_kinds, dropped_with, text_meaning, MeansExtra, MeansBehind, MeansBefore};
+    ghost use Rattle.marker_parts.specs.Read.{meaning_of, IsMeaningOf, HasMeaning, IsExtraOf};
 
     // The meaning of two sides and the operator between them.
     #[tactic(auto, using(crate::proofs::MeaningLaws::sides_mean))]
@@ -117,8 +115,7 @@ impl Outcome {
         mut kinds: Vec<MarkerWarningKind>,
         reason: MarkerWarningKind,
     ) -> Result<Outcome, AllocError>
-        ensures { IfOk result (λ outcome. meaning_of outcome
-            ≡ dropped_with (kinds.items ++ (reason ∷ []))) }
+        ensures { IfOk result (HasMeaning (dropped_with (kinds.items ++ (reason ∷ [])))) }
     {
         kinds.push(reason)?;
         Ok(Outcome {
@@ -133,8 +130,7 @@ impl Outcome {
         key: MarkerValueString,
         reason: MarkerWarningKind,
     ) -> Result<Outcome, AllocError>
-        ensures { IfOk result (λ outcome. meaning_of outcome
-            ≡ dropped_with (key_kinds key ++ (reason ∷ []))) }
+        ensures { IfOk result (HasMeaning (dropped_with (key_kinds key ++ (reason ∷ [])))) }
     {
         Outcome::dropped_with(Outcome::kinds_of(alloc, key)?, reason)
     }
@@ -186,7 +182,7 @@ impl Outcome {
         operator: MarkerOperator,
         text: &str,
     ) -> Result<Outcome, AllocError>
-        ensures { IfOk result (λ outcome. meaning_of outcome ≡ text_meaning key operator text.now) }
+        ensures { IfOk result (HasMeaning (text_meaning key operator text.now)) }
     {
         let kinds = Outcome::kinds_of(alloc, key)?;
         if operator == MarkerOperator::TildeEqual {
@@ -206,8 +202,7 @@ impl Outcome {
     // A text that is an invalid name is an arbitrary extra.
     #[tactic(auto, using(crate::proofs::MeaningLaws::extra_of_text))]
     fn extra(alloc: Global, text: &str) -> Result<MarkerValueExtra, AllocError>
-        ensures { IfOk result (λ extra. IsExtra text.now
-            (extra_of extra) (extra_kinds (extra_of extra))) }
+        ensures { IfOk result (IsExtraOf text.now) }
     {
         match unless_fault(ExtraName::parse(alloc, text))? {
             Some(name) => Ok(MarkerValueExtra::Extra(name)),

@@ -1,14 +1,14 @@
 //! Parsing a whole text as one comparison.
 
-ghost use Rattle.std.specs.Prelude.{◌≡◌, ◌≢◌, ◌++◌, [], List, IfOk, IfErr, IfSome, IfNone, OnErr, OnOk};
+ghost use Rattle.std.specs.Prelude.{◌≡◌, ◌≢◌, [], IfOk, IfErr, IfSome, IfNone, OnErr, OnOk};
 ghost use Rattle.std.specs.Str.{chars};
 ghost use Rattle.pep508_text.specs.Run.{after_space};
 ghost use Rattle.pep508_errors.specs.declared.warning.MarkerWarningKind.{MarkerWarningKind};
-ghost use Rattle.pep508_errors.specs.Kinds.{Adds, Keeps};
+ghost use Rattle.pep508_errors.specs.Kinds.{Adds};
 ghost use Rattle.marker_words.specs.Fault.{IsWordFault};
 ghost use Rattle.marker_parts.specs.Whole as whole;
-ghost use Rattle.marker_parts.specs.Whole.{IsRead};
-ghost use Rattle.marker_parts.specs.Reporting.{HasBegun, ReportsSome};
+ghost use Rattle.marker_parts.specs.Whole.{IsRead, IsReadFrom};
+ghost use Rattle.marker_parts.specs.Reporting.{ReportsPart, ReadsAndReports, ReportsNone, ReportsSomeOf};
 ghost use Rattle.refusal.specs.Refused.{FaultIs};
 ghost use Rattle.marker_parts.specs.Error.{Tells, Becomes, IsRefusal};
 
@@ -111,8 +111,7 @@ pub fn report_kinds<R: Reporter>(
 ) -> Result<(), AllocError>
     requires { R.can_report reporter.old }
     ensures added { OnOk result (Adds (R.kinds reporter.old) (R.kinds reporter.new) kinds.now) }
-    ensures begun { OnErr result
-        (ReportsSome kinds.now (R.kinds reporter.old) (R.kinds reporter.new)) }
+    ensures begun { OnErr result (ReportsSomeOf R.kinds reporter.old reporter.new kinds.now) }
     ensures again { R.can_report reporter.new }
 {
     for kind in kinds {
@@ -134,8 +133,7 @@ impl MarkerExpression {
         alloc: Global,
         text: &str,
     ) -> Result<Option<MarkerExpression>, Refusal<Pep508Error<T>>>
-        ensures found { IfOk result (λ expression.
-            (kinds : List MarkerWarningKind) × IsRead text.now expression kinds) }
+        ensures found { IfOk result (IsReadFrom text.now) }
         ensures refused { IfErr result (IsRefusal text.now) }
     {
         match read_whole(alloc, text) {
@@ -156,14 +154,10 @@ impl MarkerExpression {
         reporter: &mut R,
     ) -> Result<Option<MarkerExpression>, Refusal<Pep508Error<T>>>
         requires { R.can_report reporter.old }
-        ensures found { IfOk result (λ expression. (kinds : List MarkerWarningKind)
-            × IsRead text.now expression kinds
-            × Adds (R.kinds reporter.old) (R.kinds reporter.new) kinds) }
+        ensures found { IfOk result (ReadsAndReports R.kinds reporter.old reporter.new text.now) }
         ensures refused { IfErr result (IsRefusal text.now) }
-        ensures unreported { FaultIs result (λ _.
-            Keeps (R.kinds reporter.old) (R.kinds reporter.new)) }
-        ensures begun { IfErr result (λ _.
-            HasBegun IsRead text.now (R.kinds reporter.old) (R.kinds reporter.new)) }
+        ensures unreported { FaultIs result (λ _. ReportsNone R.kinds reporter.old reporter.new) }
+        ensures begun { IfErr result (λ _. ReportsPart R.kinds reporter.old reporter.new text.now) }
         ensures again { R.can_report reporter.new }
     {
         match read_whole(alloc, text) {

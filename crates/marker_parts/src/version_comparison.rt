@@ -1,15 +1,12 @@
 //! A version key and a quoted text.
 
-ghost use Rattle.std.specs.Prelude.{◌≡◌, ◌<◌, ℕ, List, [], Bool, false, IfOk, IfSome, IfNone, length};
+ghost use Rattle.std.specs.Prelude.{◌<◌, [], false, IfOk, IfSome, IfNone, length};
 ghost use Rattle.std.specs.Str.{chars};
 ghost use Rattle.pep508_text.specs.Run.{Spaces};
 ghost use Rattle.pep508_text.specs.Suffix.{IsSuffix};
-ghost use Rattle.pep440_version.specs.Grammar.{IsVersionText, IsPatternText};
-ghost use Rattle.pep440_version.specs.Parts.{Parts};
-ghost use Rattle.pep440_specifier.specs.Specifier.{Specifier, Makes};
-ghost use Rattle.marker_parts.specs.Expression.{Test, test_of};
-ghost use Rattle.marker_parts.specs.VersionList.{IsEntry, IsVersionList};
-ghost use Rattle.marker_parts.specs.VersionComparison.{Asks, AsksBefore};
+ghost use Rattle.pep440_specifier.specs.Specifier.{Makes};
+ghost use Rattle.marker_parts.specs.VersionList.{IsEntry, ListsNone, ListsVersions};
+ghost use Rattle.marker_parts.specs.VersionComparison.{AsksNothing, AsksNothingBefore, IsAsked, IsAskedBefore, MakesNone};
 
 use crate::expression::MarkerExpression;
 use crate::version_operator::VersionOperator;
@@ -26,10 +23,8 @@ pub(crate) fn asked_behind(
     operator: VersionOperator,
     text: &str,
 ) -> Result<Option<MarkerExpression>, AllocError>
-    ensures found { IfOk result (λ asked. IfSome asked (λ expression.
-        Asks key text.now operator (test_of expression))) }
-    ensures none { IfOk result (λ asked. IfNone asked (
-        (test : Test) → ¬ Asks key text.now operator test)) }
+    ensures found { IfOk result (λ asked. IfSome asked (IsAsked key text.now operator)) }
+    ensures none { IfOk result (λ asked. IfNone asked (AsksNothing key text.now operator)) }
 {
     match operator {
         VersionOperator::Compare(operator) => {
@@ -63,10 +58,8 @@ pub(crate) fn asked_before(
     operator: VersionOperator,
     text: &str,
 ) -> Result<Option<MarkerExpression>, AllocError>
-    ensures found { IfOk result (λ asked. IfSome asked (λ expression.
-        AsksBefore key text.now operator (test_of expression))) }
-    ensures none { IfOk result (λ asked. IfNone asked (
-        (test : Test) → ¬ AsksBefore key text.now operator test)) }
+    ensures found { IfOk result (λ asked. IfSome asked (IsAskedBefore key text.now operator)) }
+    ensures none { IfOk result (λ asked. IfNone asked (AsksNothingBefore key text.now operator)) }
 {
     match operator {
         VersionOperator::Compare(operator) => {
@@ -85,8 +78,7 @@ pub(crate) fn asked_before(
 // The specifier of an operator and a pattern, or `None` if they do not fit.
 fn specifier(operator: Operator, pattern: VersionPattern) -> Option<VersionSpecifier>
     ensures found { IfSome result (λ s. Makes operator pattern.version pattern.wildcard s) }
-    ensures none { IfNone result (
-        (s : Specifier) → Makes operator pattern.version pattern.wildcard s → ⊥) }
+    ensures none { IfNone result (MakesNone operator pattern.version pattern.wildcard) }
 {
     match VersionSpecifier::from_pattern(operator, pattern) {
         Ok(specifier) => Some(specifier),
@@ -97,7 +89,7 @@ fn specifier(operator: Operator, pattern: VersionPattern) -> Option<VersionSpeci
 // The specifier of an operator and a version without a star, or `None` if they do not fit.
 fn plain_specifier(operator: Operator, version: Version) -> Option<VersionSpecifier>
     ensures found { IfSome result (λ s. Makes operator version false s) }
-    ensures none { IfNone result ((s : Specifier) → Makes operator version false s → ⊥) }
+    ensures none { IfNone result (MakesNone operator version false) }
 {
     match VersionSpecifier::from_version(operator, version) {
         Ok(specifier) => Some(specifier),
@@ -123,10 +115,8 @@ fn next_entry(text: &str) -> Option<(&str, &str)>
 
 // The versions of a list, or `None` if an entry is an invalid version.
 fn version_list(alloc: Global, text: &str) -> Result<Option<Vec<Version>>, AllocError>
-    ensures found { IfOk result (λ found. IfSome found (λ versions.
-        IsVersionList (chars text.now) versions.items)) }
-    ensures none { IfOk result (λ found. IfNone found (
-        (versions : List Parts) → ¬ IsVersionList (chars text.now) versions)) }
+    ensures found { IfOk result (λ found. IfSome found (ListsVersions text.now)) }
+    ensures none { IfOk result (λ found. IfNone found (ListsNone text.now)) }
 {
     let mut versions = Vec::new(alloc);
     let mut rest = text;

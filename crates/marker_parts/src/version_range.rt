@@ -1,15 +1,10 @@
 //! The versions that satisfy a comparison.
 
 ghost use Rattle.std.specs.Prelude.{◌≡◌, IfOk, IfErr, IfSome, IfNone, OnOk, Some, None};
-ghost use Rattle.version_ranges.specs.Point.{Point};
-ghost use Rattle.version_ranges.specs.Ranges.{contains_point};
-ghost use Rattle.pep440_version.specs.Order.{version_cmp};
-ghost use Rattle.pep440_version.specs.Parts.{Parts};
-ghost use Rattle.pep440_rs.specs.Intervals.{IsRefusal};
-ghost use Rattle.pep440_rs.specs.Lists.{is_in_or_not};
-ghost use Rattle.marker_environment.specs.Valuation.{Valuation};
+ghost use Rattle.pep440_rs.specs.Intervals.{HasTrimmedBounds, IsRefusal};
 ghost use Rattle.marker_parts.specs.Expression as asked;
-ghost use Rattle.marker_parts.specs.Expression.{test_of, asked_version, holds, holds_version, holds_in, version_variable_of, Overflows};
+ghost use Rattle.marker_parts.specs.Expression.{test_of, version_variable_of, Overflows};
+ghost use Rattle.marker_parts.specs.Range.{AsksNoVersion, HasListed, HasSatisfying, HasSetOf, HasVariableOf, RangeOverflows};
 
 use crate::expression::MarkerExpression;
 use marker_words::{MarkerValueVersion, VersionVariable};
@@ -26,7 +21,8 @@ use version_ranges::Ranges;
 
 impl MarkerExpression {
     /// Returns the variable of a comparison with versions, and the set of its values that satisfy
-    /// the comparison. `None` for a comparison with a text or an extra.
+    /// the comparison. `None` for a comparison with a text or an extra. The bounds of the set are
+    /// without zeros at the ends of their releases.
     ///
     /// # Errors
     /// - [`Refusal::SegmentAtEnd`] if the set has a bound above 2^64 - 1.
@@ -35,12 +31,10 @@ impl MarkerExpression {
         &self,
         alloc: Global,
     ) -> Result<Option<(VersionVariable, Ranges<Version>)>, Refusal<Infallible>>
-        ensures variable { IfOk result (λ found. IfSome found (λ range.
-            asked_version (test_of self.now) ≡ Some range.0)) }
-        ensures set { IfOk result (λ found. IfSome found (λ range. (v : Valuation) →
-            holds (test_of self.now) v ≡ contains_point version_cmp range.1 (v.version range.0))) }
-        ensures none { IfOk result (λ found. IfNone found (
-            asked_version (test_of self.now) ≡ None)) }
+        ensures variable { IfOk result (λ found. IfSome found (HasVariableOf self.now)) }
+        ensures set { IfOk result (λ found. IfSome found (HasSetOf self.now)) }
+        ensures bounds { IfOk result (λ found. IfSome found (λ range. HasTrimmedBounds range.1)) }
+        ensures none { IfOk result (λ found. IfNone found (AsksNoVersion self.now)) }
 
         // There is no set only if a bound would be above 2^64 - 1.
         ensures no_overflow { OnOk result (¬ Overflows (test_of self.now)) }
@@ -70,8 +64,8 @@ fn specifier_range(
     key: MarkerValueVersion,
     specifier: &VersionSpecifier,
 ) -> Result<Ranges<Version>, Refusal<Infallible>>
-    ensures set { IfOk result (λ range. (point : Point Parts) →
-        contains_point version_cmp range point ≡ holds_version key specifier.now point) }
+    ensures set { IfOk result (HasSatisfying key specifier.now) }
+    ensures bounds { IfOk result HasTrimmedBounds }
     ensures no_overflow { OnOk result (¬ Overflows (asked.version key specifier.now)) }
     ensures refused { IfErr result (IsRefusal (Overflows (asked.version key specifier.now))) }
 {
@@ -90,12 +84,10 @@ fn list_range(
     versions: &[Version],
     negated: bool,
 ) -> Result<Ranges<Version>, Refusal<Infallible>>
-    ensures set { IfOk result (λ range. (point : Point Parts) →
-        contains_point version_cmp range point
-        ≡ is_in_or_not negated (holds_in key versions.now point)) }
-    ensures no_overflow { OnOk result (¬ Overflows (asked.version_in key versions.now negated)) }
-    ensures refused { IfErr result (
-        IsRefusal (Overflows (asked.version_in key versions.now negated))) }
+    ensures set { IfOk result (HasListed key versions.now negated) }
+    ensures bounds { IfOk result HasTrimmedBounds }
+    ensures no_overflow { OnOk result (¬ RangeOverflows key versions.now negated) }
+    ensures refused { IfErr result (IsRefusal (RangeOverflows key versions.now negated)) }
 {
     match key {
         MarkerValueVersion::ImplementationVersion | MarkerValueVersion::PythonFullVersion => {

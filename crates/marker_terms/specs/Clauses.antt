@@ -1,5 +1,5 @@
 -- What a list of lists of comparisons means: a disjunction of conjunctions.
-use Rattle.std.specs.Prelude.{◌≡◌, Bool, List, Vec, map}
+use Rattle.std.specs.Prelude.{◌≡◌, Bool, List, Vec, map, not}
 use Rattle.std.specs.List.{list_all, list_any}
 use Rattle.marker_environment.specs.Valuation.{Valuation}
 use Rattle.marker_parts.specs.declared.expression.MarkerExpression.{MarkerExpression}
@@ -24,3 +24,16 @@ clauses_hold clauses v = list_any (λ c. clause_holds c v) clauses
 -- the clauses are true exactly where others are
 abbrev pub MeanTheSame : List (List MarkerExpression) → List (List MarkerExpression) → Type 0
 MeanTheSame clauses others = (v : Valuation) → clauses_hold clauses v ≡ clauses_hold others v
+
+-- two comparisons are true together
+abbrev pub HoldAlike : MarkerExpression → MarkerExpression → Type 0
+HoldAlike term other = (v : Valuation) → term_holds term v ≡ term_holds other v
+
+-- one comparison is true exactly where the other is false
+abbrev pub AreNegations : MarkerExpression → MarkerExpression → Type 0
+AreNegations term other = (v : Valuation) → term_holds term v ≡ not (term_holds other v)
+
+-- what is left of clauses is true exactly where they are
+abbrev pub MeansTheSameAs : {A B C D : Type 0} → Vec (Vec MarkerExpression A) B
+    → Vec (Vec MarkerExpression C) D → Type 0
+MeansTheSameAs clauses left = MeanTheSame (clauses_of left.items) (clauses_of clauses.items)

@@ -3,7 +3,7 @@ use Rattle.std.specs.Prelude.{◌≡◌, ◌⊎◌, ◌-◌, ℕ, Vec, true, Lis
 use Rattle.std.specs.List.{Contains}
 use Rattle.marker_terms.specs.declared.numbered.NumberedTerm.{NumberedTerm}
 use Rattle.marker_terms.specs.Reduction.{has_number}
-use Rattle.marker_terms.specs.Numbered.{clause_at, number_of}
+use Rattle.marker_terms.specs.Numbered.{clause_at, number_of, terms_of}
 use Rattle.marker_terms.specs.declared.endings.Endings.{Endings}
 
 -- the last term of a clause
@@ -28,3 +28,12 @@ AreEndingsOf e clauses = (j : ℕ) (c : List NumberedTerm) → clause_at clauses
 pub record AreNear (e : Endings) (clause : List NumberedTerm) (places : List ℕ) : Type 0 where
   pub last : (n j : ℕ) → has_number number_of n clause ≡ true → Contains (places_of e n) j
       → Contains places j
+
+-- what was listed still is
+abbrev pub KeepsListed : Endings → Endings → Type 0
+KeepsListed old new = (c : List NumberedTerm) (j : ℕ) → Lists old c j → Lists new c j
+
+-- the place is listed for the clause, if one is there
+abbrev pub ListsIfThere : {A : Type 0} → Endings → Option (Vec NumberedTerm A) → ℕ → Type 0
+ListsIfThere e clause place =
+    (c : List NumberedTerm) → terms_of clause ≡ Some c → Lists e c place

@@ -1,9 +1,11 @@
 -- The extra that all clauses have in common.
-use Rattle.std.specs.Prelude.{◌≡◌, ◌≢◌, List, [], ◌∷◌, Option, Some, None}
+use Rattle.std.specs.Prelude.{◌≡◌, ◌≢◌, List, [], ◌∷◌, Option, Some, None, Vec}
 use Rattle.std.specs.List.{AllByRecursion}
 use Rattle.marker_words.specs.declared.operator.ExtraOperator.TheVariants as operators
 use Rattle.marker_parts.specs.declared.expression.MarkerExpression.{MarkerExpression}
-use Rattle.marker_parts.specs.Expression.{Extra, Test, extra, test_of, text, version, version_in}
+use Rattle.marker_parts.specs.Expression.{Extra, Test, extra, test_of, text, version, version_in, extra_of}
+use Rattle.marker_parts.specs.declared.extra.MarkerValueExtra.{MarkerValueExtra}
+use Rattle.marker_terms.specs.Clauses.{clauses_of}
 
 -- the extra that a comparison compares with by `==`
 abbrev pub extra_of_test : Test → Option Extra
@@ -30,3 +32,7 @@ first_extra (term ∷ terms) = or_else (asked_extra term) (first_extra terms)
 abbrev pub HasCommonExtra : List (List MarkerExpression) → Extra → Type 0
 HasCommonExtra clauses x = (clauses ≢ [])
     × AllByRecursion (λ clause. first_extra clause ≡ Some x) clauses
+
+-- the clauses have this extra in common
+abbrev pub HaveInCommon : {A : Type 0} → List (Vec MarkerExpression A) → MarkerValueExtra → Type 0
+HaveInCommon clauses x = HasCommonExtra (clauses_of clauses) (extra_of x)

@@ -7,3 +7,5 @@ pub mod Numbering
 pub mod Extra
 pub mod Exclusion
 pub mod Meanings
+pub mod Redundant
+pub mod Outcomes

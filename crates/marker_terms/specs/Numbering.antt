@@ -1,5 +1,5 @@
 -- Comparisons by numbers: a comparison and its negation have the numbers 2 n and 2 n + 1.
-use Rattle.std.specs.Prelude.{◌≡◌, ◌==◌, ◌<◌, ◌/◌, ◌%◌, ◌++◌, ℕ, Bool, not, false, List, length, map, slice_get, if◌then◌else◌}
+use Rattle.std.specs.Prelude.{◌≡◌, ◌==◌, ◌<◌, ◌/◌, ◌%◌, ◌++◌, ℕ, Bool, not, false, List, length, map, slice_get, if◌then◌else◌, Vec}
 use Rattle.std.specs.List.{AllByRecursion}
 use Rattle.std.specs.Option.{option_map_or}
 use Rattle.marker_parts.specs.declared.expression.MarkerExpression.{MarkerExpression}
@@ -7,7 +7,7 @@ use Rattle.marker_terms.specs.declared.numbered.NumberedTerm.{NumberedTerm}
 use Rattle.marker_terms.specs.Numbered.{number_of}
 use Rattle.marker_terms.specs.Reduction.{reduced}
 use Rattle.marker_environment.specs.Valuation.{Valuation}
-use Rattle.marker_terms.specs.Clauses.{term_holds}
+use Rattle.marker_terms.specs.Clauses.{term_holds, clauses_of}
 
 -- whether the comparison with a name holds: none does past the names
 abbrev pub name_holds : List MarkerExpression → ℕ → Valuation → Bool
@@ -47,3 +47,12 @@ pub record IsReductionOf (remaining clauses : List (List MarkerExpression)) : Ty
   pub numbered : List (List NumberedTerm)
   pub numbering : IsNumberingOf clauses numbered
   pub left : remaining ≡ map (map expression_of) (reduced number_of numbered)
+
+-- what is left of clauses is a reduction of them
+abbrev pub IsReducedFrom : {A B C D : Type 0} → Vec (Vec MarkerExpression A) B
+    → Vec (Vec MarkerExpression C) D → Type 0
+IsReducedFrom clauses left = IsReductionOf (clauses_of left.items) (clauses_of clauses.items)
+
+-- the comparisons of numbered terms
+abbrev pub expressions_of : List (List NumberedTerm) → List (List MarkerExpression)
+expressions_of numbered = map (map expression_of) numbered

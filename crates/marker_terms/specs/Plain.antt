@@ -8,6 +8,10 @@ use Rattle.pep508_names.specs.Name.{IsName, NormalizesTo}
 use Rattle.marker_words.specs.declared.operator.MarkerOperator.TheVariants.{TildeEqual}
 use Rattle.marker_parts.specs.declared.expression.MarkerExpression.{MarkerExpression}
 use Rattle.marker_parts.specs.Expression.{Extra, Overflows, Test, arbitrary, extra, name, test_of, text, version, version_in}
+use Rattle.std.specs.Borrow.{Bor}
+use Rattle.std.specs.declared.ops.Bound.{Bound}
+use Rattle.pep440_version.specs.Parts.{Parts}
+use Rattle.pep440_specifier.specs.Bounds.{bound_specifiers}
 
 -- one of the two quotes, 39 and 34, is not in the text, and so can enclose it
 abbrev pub is_plain : List ℕ → Bool
@@ -54,3 +58,12 @@ pub record ArePrintable (clauses : List (List MarkerExpression)) : Type 0 where
 pub record IsPrintableSpecifier (s : Specifier) : Type 0 where
   pub operator : s.operator ≢ ExactEqual
   pub fits : ¬ releases.Overflows s.operator s.version.release
+
+-- a specifier is printable if another one is
+abbrev pub IsPrintableAs : Specifier → Specifier → Type 0
+IsPrintableAs other s = IsPrintableSpecifier other → IsPrintableSpecifier s
+
+-- each specifier of a range is printable
+abbrev pub HasPrintableSpecifiers : Bound (Bor Parts) → Bound (Bor Parts) → Type 0
+HasPrintableSpecifiers lower upper =
+    AllByRecursion IsPrintableSpecifier (bound_specifiers lower upper)

@@ -1,8 +1,7 @@
 //! Which clauses end with a term.
 
-ghost use Rattle.std.specs.Prelude.{◌≡◌, ℕ, List, Some, IfOk, OnOk, Contains};
-ghost use Rattle.marker_terms.specs.Numbered.{terms_of};
-ghost use Rattle.marker_terms.specs.Endings.{AreEndingsOf, AreNear, Lists, places_of};
+ghost use Rattle.std.specs.Prelude.{◌≡◌, Some, IfOk, OnOk, Contains};
+ghost use Rattle.marker_terms.specs.Endings.{AreEndingsOf, AreNear, Lists, places_of, KeepsListed, ListsIfThere};
 
 use crate::numbered::NumberedTerm;
 use std::alloc::{AllocError, Global};
@@ -36,10 +35,8 @@ fn list_place(
     clause: &Option<Vec<NumberedTerm>>,
     place: usize,
 ) -> Result<(), AllocError>
-    ensures listed { OnOk result ((c : List NumberedTerm) → terms_of clause.now ≡ Some c
-        → Lists endings.new c place) }
-    ensures kept { OnOk result ((c : List NumberedTerm) (j : ℕ) → Lists endings.old c j
-        → Lists endings.new c j) }
+    ensures listed { OnOk result (ListsIfThere endings.new clause.now place) }
+    ensures kept { OnOk result (KeepsListed endings.old endings.new) }
 {
     if let Some(clause) = clause {
         list_clause(endings, clause, place)?;
@@ -66,8 +63,7 @@ pub(crate) fn list_clause(
     place: usize,
 ) -> Result<(), AllocError>
     ensures listed { OnOk result (Lists endings.new clause.now place) }
-    ensures kept { OnOk result ((c : List NumberedTerm) (j : ℕ) → Lists endings.old c j
-        → Lists endings.new c j) }
+    ensures kept { OnOk result (KeepsListed endings.old endings.new) }
 {
     let Some(term) = clause.last() else {
         return list_always(endings, place);
@@ -84,8 +80,7 @@ pub(crate) fn list_clause(
 // Lists a place for all terms.
 fn list_always(endings: &mut Endings, place: usize) -> Result<(), AllocError>
     ensures listed { OnOk result (Contains endings.new.always.items place) }
-    ensures kept { OnOk result ((c : List NumberedTerm) (j : ℕ) → Lists endings.old c j
-        → Lists endings.new c j) }
+    ensures kept { OnOk result (KeepsListed endings.old endings.new) }
 {
     if !endings.always.contains(&place) {
         endings.always.push(place)?;

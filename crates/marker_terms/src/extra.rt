@@ -4,7 +4,7 @@ ghost use Rattle.std.specs.Prelude.{◌≡◌, ◌↔◌, IfNone, IfSome, IsTrue
 ghost use Rattle.std.specs.Option.{option_map};
 ghost use Rattle.marker_parts.specs.Expression.{Extra, extra_of};
 ghost use Rattle.marker_terms.specs.Clauses.{clauses_of};
-ghost use Rattle.marker_terms.specs.Extra.{asked_extra, first_extra, HasCommonExtra};
+ghost use Rattle.marker_terms.specs.Extra.{asked_extra, first_extra, HasCommonExtra, HaveInCommon};
 
 use marker_parts::{MarkerExpression, MarkerValueExtra};
 use marker_words::ExtraOperator;
@@ -12,8 +12,7 @@ use marker_words::ExtraOperator;
 /// Returns the extra of the first `extra ==` of each clause, if there is a clause and all are the
 /// same.
 pub fn common_extra(clauses: &[Vec<MarkerExpression>]) -> Option<&MarkerValueExtra>
-    ensures found { IfSome result (λ extra.
-        HasCommonExtra (clauses_of clauses.now) (extra_of extra.now)) }
+    ensures found { IfSome result (λ extra. HaveInCommon clauses.now extra.now) }
     ensures none { IfNone result ((x : Extra) → ¬ HasCommonExtra (clauses_of clauses.now) x) }
 {
     let (clause, others) = clauses.split_first()?;

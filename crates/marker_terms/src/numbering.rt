@@ -2,7 +2,7 @@
 
 ghost use Rattle.std.specs.Prelude.{◌≡◌, ◌≤◌, map, vec_len, IfOk, IfSome, OnOk};
 ghost use Rattle.marker_terms.specs.Clauses.{clauses_of};
-ghost use Rattle.marker_terms.specs.Numbering.{AreNumbered, Extends, IsNumbered, IsNumberingOf, expression_of};
+ghost use Rattle.marker_terms.specs.Numbering.{AreNumbered, Extends, IsNumbered, IsNumberingOf, expression_of, expressions_of};
 ghost use Rattle.marker_terms.specs.Numbered.{left_of};
 
 use crate::numbered::NumberedTerm;
@@ -139,8 +139,7 @@ pub(crate) fn clauses_left(
     alloc: Global,
     clauses: Vec<Option<Vec<NumberedTerm>>>,
 ) -> Result<Vec<Vec<MarkerExpression>>, AllocError>
-    ensures { IfOk result (λ c. clauses_of c.items
-        ≡ map (map expression_of) (left_of clauses.items)) }
+    ensures { IfOk result (λ c. clauses_of c.items ≡ expressions_of (left_of clauses.items)) }
 {
     let mut left = Vec::new(alloc);
     for place in clauses {

@@ -1,12 +1,12 @@
 //! Redundant terms and clauses of a disjunction.
 
-ghost use Rattle.std.specs.Prelude.{◌≡◌, ◌++◌, ◌≤◌, ◌<◌, true, false, length, take, drop, set, vec_len, ℕ, List, [], None, Some, slice_get, Contains, OnOk, IfOk};
-ghost use Rattle.std.specs.Option.{option_map_or};
-ghost use Rattle.marker_terms.specs.Clauses.{MeanTheSame, clauses_of};
-ghost use Rattle.marker_terms.specs.Numbering.{IsReductionOf};
-ghost use Rattle.marker_terms.specs.Numbered.{FailAt, IsJudged, clause_at, left_of, number_of, terms_left};
+ghost use Rattle.std.specs.Prelude.{◌≡◌, ◌≤◌, ◌<◌, true, false, length, vec_len, Some, OnOk, IfOk};
+ghost use Rattle.marker_terms.specs.Clauses.{MeansTheSameAs};
+ghost use Rattle.marker_terms.specs.Numbering.{IsReducedFrom};
+ghost use Rattle.marker_terms.specs.Numbered.{FailAt, left_of, number_of, terms_left};
 ghost use Rattle.marker_terms.specs.Endings.{AreEndingsOf, AreNear};
-ghost use Rattle.marker_terms.specs.Reduction.{has_all, is_redundant, is_spare, needed, reduced, shortened, stands_for, without_terms};
+ghost use Rattle.marker_terms.specs.Reduction.{has_all, is_redundant, is_spare, reduced, stands_for};
+ghost use Rattle.marker_terms.specs.Redundant.{AreReduced, IsKeptIfNeeded, IsRedundant, IsShortened, NoneStandsAt, TellsRedundant, passes_there, stands_beside, without_redundant};
 
 use crate::endings::{Endings, always_listed, ending_with, endings_of, list_clause, near_places};
 use crate::numbered::{NumberedTerm, has_all, negation, stands_for};
@@ -27,10 +27,8 @@ pub fn reduce(
     alloc: Global,
     clauses: Vec<Vec<MarkerExpression>>,
 ) -> Result<Vec<Vec<MarkerExpression>>, AllocError>
-    ensures reduced { IfOk result (λ left. IsReductionOf (clauses_of left.items)
-        (clauses_of clauses.items)) }
-    ensures means { IfOk result (λ left. MeanTheSame (clauses_of left.items)
-        (clauses_of clauses.items)) }
+    ensures reduced { IfOk result (IsReducedFrom clauses) }
+    ensures means { IfOk result (MeansTheSameAs clauses) }
 {
     if clauses.len() < 2 {
         return Ok(clauses);
@@ -55,8 +53,7 @@ fn stands_at(
     kept: &[NumberedTerm],
     rest: &[NumberedTerm],
 ) -> bool
-    ensures { result ≡ option_map_or (stands_for number_of term.now (kept.now ++ rest.now))
-        (clause_at clauses.now place) false }
+    ensures { result ≡ passes_there clauses.now place (stands_beside term.now kept.now rest.now) }
 {
     match clauses.get(place) {
         Some(Some(other)) => stands_for(other, term, kept, rest),
@@ -72,10 +69,8 @@ fn is_made_up_for(
     kept: &[NumberedTerm],
     rest: &[NumberedTerm],
 ) -> bool
-    ensures found { result ≡ true
-        → is_redundant number_of (left_of clauses.now) (kept.now ++ rest.now) term.now ≡ true }
-    ensures none { result ≡ false → FailAt (stands_for number_of term.now (kept.now ++ rest.now))
-        clauses.now places.now }
+    ensures found { result ≡ true → IsRedundant clauses.now term.now kept.now rest.now }
+    ensures none { result ≡ false → NoneStandsAt clauses.now places.now term.now kept.now rest.now }
 {
     for place in places {
         if stands_at(clauses, *place, term, kept, rest) {
@@ -99,8 +94,7 @@ fn is_redundant(
     requires order { kept ≤ index }
     requires listed { AreEndingsOf endings.now clauses.now }
     requires near { AreNear endings.now (terms_left kept index clause.now) near.now }
-    ensures { (t : NumberedTerm) → slice_get clause.now index ≡ Some t → result
-        ≡ is_redundant number_of (left_of clauses.now) (terms_left kept index clause.now) t }
+    ensures { TellsRedundant clauses.now clause.now kept index result }
 {
     let term = &clause[index];
     let before = &clause[..kept];
@@ -123,8 +117,7 @@ fn drop_terms(
     endings: &Endings,
 ) -> Result<(), AllocError>
     requires { AreEndingsOf endings.now others.now }
-    ensures { OnOk result (clause.new.items
-        ≡ without_terms number_of (left_of others.now) [] clause.old.items) }
+    ensures { OnOk result (clause.new.items ≡ without_redundant others.now clause.old.items) }
 {
     let near = near_places(alloc, endings, clause)?;
     let mut kept = 0;
@@ -147,8 +140,7 @@ fn shorten(
 ) -> Result<(), AllocError>
     requires within { place < vec_len clauses.old }
     requires listed { AreEndingsOf endings.old clauses.old.items }
-    ensures judged { OnOk result (IsJudged (shortened number_of) clauses.old.items clauses.new.items
-        place) }
+    ensures judged { OnOk result (IsShortened clauses.old.items clauses.new.items place) }
     ensures listed { OnOk result (AreEndingsOf endings.new clauses.new.items) }
 {
     let Some(mut clause) = clauses[place].take() else {
@@ -162,8 +154,7 @@ fn shorten(
 
 // Whether there is a clause at a place all of whose terms a clause has.
 fn has_all_at(clauses: &[Option<Vec<NumberedTerm>>], place: usize, clause: &[NumberedTerm]) -> bool
-    ensures { result ≡ option_map_or (has_all number_of clause.now) (clause_at clauses.now place)
-        false }
+    ensures { result ≡ passes_there clauses.now place (has_all number_of clause.now) }
 {
     match clauses.get(place) {
         Some(Some(other)) => has_all(clause, other),
@@ -214,8 +205,7 @@ fn drop_spare(
 ) -> Result<(), AllocError>
     requires within { place < vec_len clauses.old }
     requires listed { AreEndingsOf endings.now clauses.old.items }
-    ensures judged { OnOk result (IsJudged (needed number_of) clauses.old.items clauses.new.items
-        place) }
+    ensures judged { OnOk result (IsKeptIfNeeded clauses.old.items clauses.new.items place) }
     ensures listed { OnOk result (AreEndingsOf endings.now clauses.new.items) }
 {
     let Some(clause) = clauses[place].take() else {
@@ -234,8 +224,7 @@ fn reduce_listed(
     endings: &mut Endings,
 ) -> Result<(), AllocError>
     requires { AreEndingsOf endings.old clauses.old.items }
-    ensures { OnOk result (left_of clauses.new.items
-        ≡ reduced number_of (left_of clauses.old.items)) }
+    ensures { OnOk result (AreReduced clauses.old.items clauses.new.items) }
 {
     for place in 0..clauses.len() {
         shorten(alloc, clauses, place, endings)?;

@@ -1,17 +1,13 @@
 //! Comparisons that are equal, or each other's negation.
 
-ghost use Rattle.std.specs.Prelude.{◌≡◌, ◌++◌, ◌∷◌, [], IfOk, IfSome, OnOk, Some, length, not, true};
+ghost use Rattle.std.specs.Prelude.{◌≡◌, ◌++◌, ◌∷◌, [], IfOk, IfSome, OnOk, Some, true};
 ghost use Rattle.std.specs.Ordering.{eq_by_cmp};
-ghost use Rattle.version_ranges.specs.Point.{Point};
 ghost use Rattle.pep440_version.specs.Order.{version_cmp};
-ghost use Rattle.pep440_version.specs.Parts.{Parts};
-ghost use Rattle.pep440_specifier.specs.Operator.{is_star, negated};
-ghost use Rattle.marker_words.specs.declared.key.MarkerValueVersion.{MarkerValueVersion};
-ghost use Rattle.marker_environment.specs.Valuation.{Valuation};
-ghost use Rattle.marker_parts.specs.Expression.{holds_version};
-ghost use Rattle.marker_terms.specs.Clauses.{clause_holds, clauses_hold, clauses_of, term_holds};
+ghost use Rattle.pep440_specifier.specs.Operator.{negated};
+ghost use Rattle.marker_terms.specs.Clauses.{clause_holds, AreNegations, HoldAlike};
 ghost use Rattle.marker_terms.specs.Meanings.{AreOpposite};
-ghost use Rattle.marker_terms.specs.Plain.{AllPrintable, HavePrintableTerms};
+ghost use Rattle.marker_terms.specs.Plain.{AllPrintable};
+ghost use Rattle.marker_terms.specs.Outcomes.{AreCountedAlike, ArePrintableIf, ClausesHoldWhere, TakeTheOthers, TakeTheSame};
 
 use marker_parts::MarkerExpression;
 use marker_words::MarkerOperator;
@@ -23,7 +19,7 @@ use std::cmp::Ordering;
 /// Returns whether two terms are the same comparison. A comparison with a list of versions, which
 /// the clauses of a tree never have, is the same as no other.
 pub(crate) fn is_same(term: &MarkerExpression, other: &MarkerExpression) -> bool
-    ensures { result ≡ true → (v : Valuation) → term_holds term.now v ≡ term_holds other.now v }
+    ensures { result ≡ true → HoldAlike term.now other.now }
 {
     match (term, other) {
         (
@@ -59,8 +55,7 @@ pub(crate) fn is_same(term: &MarkerExpression, other: &MarkerExpression) -> bool
 /// Returns whether a term is written as the negation of another one: with the same key and value,
 /// as many numbers for stars, and the negated operator.
 pub(crate) fn is_negation(term: &MarkerExpression, other: &MarkerExpression) -> bool
-    ensures { result ≡ true → (v : Valuation)
-        → term_holds term.now v ≡ not (term_holds other.now v) }
+    ensures { result ≡ true → AreNegations term.now other.now }
 {
     match (term, other) {
         (
@@ -188,8 +183,7 @@ fn text_sign(operator: MarkerOperator) -> u8 {
 
 // Equal specifiers have the same set.
 fn is_same_specifier(specifier: &VersionSpecifier, other: &VersionSpecifier) -> bool
-    ensures { result ≡ true → (key : MarkerValueVersion) (p : Point Parts)
-        → holds_version key specifier.now p ≡ holds_version key other.now p }
+    ensures { result ≡ true → TakeTheSame specifier.now other.now }
 {
     normal_text_reads_back(specifier.version());
     normal_text_reads_back(other.version());
@@ -198,8 +192,7 @@ fn is_same_specifier(specifier: &VersionSpecifier, other: &VersionSpecifier) -> 
 
 // Specifiers with negated operators and equal versions.
 fn is_negated_specifier(specifier: &VersionSpecifier, other: &VersionSpecifier) -> bool
-    ensures { result ≡ true → (key : MarkerValueVersion) (p : Point Parts)
-        → holds_version key specifier.now p ≡ not (holds_version key other.now p) }
+    ensures { result ≡ true → TakeTheOthers specifier.now other.now }
 {
     normal_text_reads_back(specifier.version());
     normal_text_reads_back(other.version());
@@ -223,8 +216,7 @@ fn has_negated_operator(specifier: &VersionSpecifier, other: &VersionSpecifier) 
 
 // For a star the number of release numbers counts.
 fn counts_alike(specifier: &VersionSpecifier, other: &VersionSpecifier) -> bool
-    ensures { result ≡ true → is_star specifier.now.operator ≡ true
-        → length specifier.now.version.release ≡ length other.now.version.release }
+    ensures { result ≡ true → AreCountedAlike specifier.now other.now }
 {
     !specifier.operator().is_star()
         || specifier.version().release().len() == other.version().release().len()
@@ -266,10 +258,8 @@ pub fn one_clause(
     alloc: Global,
     terms: Vec<MarkerExpression>,
 ) -> Result<Vec<Vec<MarkerExpression>>, AllocError>
-    ensures means { IfOk result (λ clauses. (v : Valuation)
-        → clauses_hold (clauses_of clauses.items) v ≡ clause_holds terms.items v) }
-    ensures printable { IfOk result (λ clauses. AllPrintable terms.items
-        → HavePrintableTerms (clauses_of clauses.items)) }
+    ensures means { IfOk result (ClausesHoldWhere (clause_holds terms.items)) }
+    ensures printable { IfOk result (ArePrintableIf (AllPrintable terms.items)) }
 {
     let mut clauses = Vec::with_capacity(alloc, 1)?;
     clauses.push(terms)?;

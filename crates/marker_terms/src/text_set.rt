@@ -3,10 +3,8 @@
 ghost use Rattle.std.specs.Prelude.{◌≡◌, IfOk, IfSome, not, string_bytes, true};
 ghost use Rattle.marker_parts.specs.Expression as asked;
 ghost use Rattle.marker_parts.specs.Expression.{test_of};
-ghost use Rattle.marker_terms.specs.Clauses.{clauses_of};
-ghost use Rattle.marker_terms.specs.Exclusion.{ExcludesTexts};
-ghost use Rattle.marker_terms.specs.Meanings.{ClausesMean, HasPlainTexts, IsOnlyText, IsPlainAt, TermsMean, in_text_range, in_texts};
-ghost use Rattle.marker_terms.specs.Plain.{AllPrintable, HavePrintableTerms, IsPrintable, is_plain};
+ghost use Rattle.marker_terms.specs.Meanings.{HasPlainTexts, in_text_range, in_texts};
+ghost use Rattle.marker_terms.specs.Outcomes.{ArePrintableBetween, ArePrintableIf, ArePrintableIfPlain, ClausesHoldWhere, ExcludesTextsOf, HoldOutside, HoldWhere, IsOnlyTextOf, IsPlainIfAt, IsPrintableIfPlain};
 
 use crate::term::{one_clause, push_large};
 use marker_parts::MarkerExpression;
@@ -25,10 +23,8 @@ pub fn text_clauses(
     key: MarkerValueString,
     set: &Ranges<String>,
 ) -> Result<Vec<Vec<MarkerExpression>>, AllocError>
-    ensures means { IfOk result (λ clauses.
-        ClausesMean (in_texts key set.now) (clauses_of clauses.items)) }
-    ensures printable { IfOk result (λ clauses.
-        HasPlainTexts set.now → HavePrintableTerms (clauses_of clauses.items)) }
+    ensures means { IfOk result (ClausesHoldWhere (in_texts key set.now)) }
+    ensures printable { IfOk result (ArePrintableIf (HasPlainTexts set.now)) }
 {
     if !is_unbounded(set) {
         return interval_clauses(alloc, key, set);
@@ -54,10 +50,8 @@ fn interval_clauses(
     key: MarkerValueString,
     set: &Ranges<String>,
 ) -> Result<Vec<Vec<MarkerExpression>>, AllocError>
-    ensures means { IfOk result (λ clauses.
-        ClausesMean (in_texts key set.now) (clauses_of clauses.items)) }
-    ensures printable { IfOk result (λ clauses.
-        HasPlainTexts set.now → HavePrintableTerms (clauses_of clauses.items)) }
+    ensures means { IfOk result (ClausesHoldWhere (in_texts key set.now)) }
+    ensures printable { IfOk result (ArePrintableIf (HasPlainTexts set.now)) }
 {
     let mut clauses = Vec::new(alloc);
     for bounds in set.iter() {
@@ -73,10 +67,8 @@ fn exclusions(
     key: MarkerValueString,
     outside: &Ranges<String>,
 ) -> Result<Option<Vec<MarkerExpression>>, AllocError>
-    ensures means { IfOk result (λ found. IfSome found (λ terms.
-        TermsMean (λ v. not (in_texts key outside.now v)) terms.items)) }
-    ensures printable { IfOk result (λ found. IfSome found (λ terms.
-        HasPlainTexts outside.now → AllPrintable terms.items)) }
+    ensures means { IfOk result (λ found. IfSome found (HoldOutside (in_texts key outside.now))) }
+    ensures printable { IfOk result (λ found. IfSome found (ArePrintableIfPlain outside.now)) }
 {
     let mut terms = Vec::new(alloc);
     for bounds in outside.iter() {
@@ -95,10 +87,8 @@ pub fn text_exclusion(
     key: MarkerValueString,
     bounds: (Bound<&String>, Bound<&String>),
 ) -> Result<Option<MarkerExpression>, AllocError>
-    ensures means { IfOk result (λ found. IfSome found
-        (ExcludesTexts key bounds.entry.0 bounds.entry.1)) }
-    ensures printable { IfOk result (λ found. IfSome found (λ term.
-        IsPlainAt bounds.entry.0 → IsPrintable term)) }
+    ensures means { IfOk result (λ found. IfSome found (ExcludesTextsOf key bounds.entry)) }
+    ensures printable { IfOk result (λ found. IfSome found (IsPrintableIfPlain bounds.entry.0)) }
 {
     match single_text(bounds) {
         Some(text) => Ok(Some(comparison(key, MarkerOperator::NotEqual, text)?)),
@@ -108,10 +98,8 @@ pub fn text_exclusion(
 
 // The text of a range of one text.
 fn single_text<'a>(bounds: (Bound<&'a String>, Bound<&'a String>)) -> Option<&'a String>
-    ensures single { IfSome result (λ text.
-        IsOnlyText bounds.entry.0 bounds.entry.1 (string_bytes text.now)) }
-    ensures plain { IfSome result (λ text. IsPlainAt bounds.entry.0
-        → is_plain (string_bytes text.now) ≡ true) }
+    ensures single { IfSome result (IsOnlyTextOf bounds.entry) }
+    ensures plain { IfSome result (IsPlainIfAt bounds.entry.0) }
 {
     let mut pairs = MarkerOperator::from_bounds(bounds);
     let (operator, text) = pairs.next()?;
@@ -129,10 +117,8 @@ pub fn text_range_terms(
     key: MarkerValueString,
     bounds: (Bound<&String>, Bound<&String>),
 ) -> Result<Vec<MarkerExpression>, AllocError>
-    ensures means { IfOk result (λ terms.
-        TermsMean (in_text_range bounds.entry.0 bounds.entry.1 key) terms.items) }
-    ensures printable { IfOk result (λ terms. IsPlainAt bounds.entry.0
-        → IsPlainAt bounds.entry.1 → AllPrintable terms.items) }
+    ensures means { IfOk result (HoldWhere (in_text_range bounds.entry.0 bounds.entry.1 key)) }
+    ensures printable { IfOk result (ArePrintableBetween bounds.entry) }
 {
     let mut terms = Vec::new(alloc);
     for (operator, text) in MarkerOperator::from_bounds(bounds) {

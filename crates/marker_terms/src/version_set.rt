@@ -1,20 +1,12 @@
 //! The clauses of a set of versions.
 
-ghost use Rattle.std.specs.Prelude.{◌≡◌, IfOk, IfSome, not};
+ghost use Rattle.std.specs.Prelude.{IfOk, IfSome, not};
 ghost use Rattle.std.specs.Borrow.{Bor};
-ghost use Rattle.std.specs.List.{AllByRecursion};
 ghost use Rattle.std.specs.declared.ops.Bound.{Bound};
-ghost use Rattle.version_ranges.specs.Point.{Point};
 ghost use Rattle.pep440_version.specs.Parts.{Parts};
-ghost use Rattle.pep440_specifier.specs.Bounds.{bound_specifiers};
-ghost use Rattle.pep440_rs.specs.Bounds.{IsAtRelease};
-ghost use Rattle.pep440_rs.specs.Intervals.{is_in};
-ghost use Rattle.marker_environment.specs.Valuation.{Valuation};
-ghost use Rattle.marker_parts.specs.Expression.{holds, test_of};
 ghost use Rattle.marker_terms.specs.Clauses.{clauses_of};
-ghost use Rattle.marker_terms.specs.Exclusion.{ExcludesVersions};
-ghost use Rattle.marker_terms.specs.Meanings.{ClausesMean, HasReleaseBounds, HasVersionsOutside, TermsMean, in_version_range, in_versions};
-ghost use Rattle.marker_terms.specs.Plain.{AllPrintable, HavePrintableTerms, IsPrintable, IsPrintableSpecifier};
+ghost use Rattle.marker_terms.specs.Plain.{AllPrintable, HavePrintableTerms, IsPrintable, IsPrintableSpecifier, HasPrintableSpecifiers, IsPrintableAs};
+ghost use Rattle.marker_terms.specs.Outcomes.{ComparesWith, ExcludesVersionsOf, IsNegationOf, IsOutside, MeanVersionRange, MeanVersions, MeanVersionsOutside};
 
 use crate::term::{one_clause, push_large};
 use marker_parts::MarkerExpression;
@@ -38,8 +30,7 @@ pub fn version_clauses(
     variable: VersionVariable,
     set: &Ranges<Version>,
 ) -> Result<Vec<Vec<MarkerExpression>>, AllocError>
-    ensures means { IfOk result (λ clauses. HasReleaseBounds set.now
-        → ClausesMean (in_versions variable set.now) (clauses_of clauses.items)) }
+    ensures means { IfOk result (MeanVersions variable set.now) }
     ensures printable { IfOk result (λ clauses. HavePrintableTerms (clauses_of clauses.items)) }
 {
     if !is_unbounded(set) {
@@ -66,8 +57,7 @@ fn interval_clauses(
     variable: VersionVariable,
     set: &Ranges<Version>,
 ) -> Result<Vec<Vec<MarkerExpression>>, AllocError>
-    ensures means { IfOk result (λ clauses. HasReleaseBounds set.now
-        → ClausesMean (in_versions variable set.now) (clauses_of clauses.items)) }
+    ensures means { IfOk result (MeanVersions variable set.now) }
     ensures printable { IfOk result (λ clauses. HavePrintableTerms (clauses_of clauses.items)) }
 {
     let mut clauses = Vec::new(alloc);
@@ -85,8 +75,7 @@ fn exclusions(
     variable: VersionVariable,
     outside: &Ranges<Version>,
 ) -> Result<Option<Vec<MarkerExpression>>, AllocError>
-    ensures means { IfOk result (λ found. IfSome found (λ terms. HasReleaseBounds outside.now
-        → TermsMean (λ v. not (in_versions variable outside.now v)) terms.items)) }
+    ensures means { IfOk result (λ found. IfSome found (MeanVersionsOutside variable outside.now)) }
     ensures printable { IfOk result (λ found. IfSome found (λ terms. AllPrintable terms.items)) }
 {
     let mut terms = Vec::new(alloc);
@@ -112,8 +101,7 @@ pub fn version_exclusion(
     variable: VersionVariable,
     bounds: (Bound<&Version>, Bound<&Version>),
 ) -> Result<Option<MarkerExpression>, AllocError>
-    ensures means { IfOk result (λ found. IfSome found
-        (ExcludesVersions variable bounds.entry.0 bounds.entry.1)) }
+    ensures means { IfOk result (λ found. IfSome found (ExcludesVersionsOf variable bounds.entry)) }
     ensures printable { IfOk result (λ found. IfSome found IsPrintable) }
 {
     match exclusion(alloc, bounds)? {
@@ -127,8 +115,7 @@ fn exclusion(
     alloc: Global,
     bounds: (Bound<&Version>, Bound<&Version>),
 ) -> Result<Option<VersionSpecifier>, AllocError>
-    ensures means { IfOk result (λ found. IfSome found
-        (λ s. HasVersionsOutside bounds.entry.0 bounds.entry.1 s.operator s.version)) }
+    ensures means { IfOk result (λ found. IfSome found (IsOutside bounds.entry)) }
     ensures printable { IfOk result (λ found. IfSome found IsPrintableSpecifier) }
 {
     range_specifiers_are_printable(bounds.1);
@@ -145,10 +132,8 @@ fn exclusion(
 // The negation of a specifier that is `==` or has a star.
 #[tactic(auto, using(pep440_rs::proofs::Complements::complements))]
 fn inequality(specifier: VersionSpecifier) -> Option<VersionSpecifier>
-    ensures means { IfSome result (λ s. (p : Point Parts) → is_in s.operator s.version.release p
-        ≡ not (is_in specifier.operator specifier.version.release p)) }
-    ensures printable { IfSome result (λ s.
-        IsPrintableSpecifier specifier → IsPrintableSpecifier s) }
+    ensures means { IfSome result (IsNegationOf specifier) }
+    ensures printable { IfSome result (IsPrintableAs specifier) }
 {
     let (operator, version) = specifier.into_parts();
     let negated = match operator {
@@ -170,8 +155,7 @@ pub fn version_range_terms(
     variable: VersionVariable,
     bounds: (Bound<&Version>, Bound<&Version>),
 ) -> Result<Vec<MarkerExpression>, AllocError>
-    ensures means { IfOk result (λ terms. IsAtRelease bounds.entry.0 → IsAtRelease bounds.entry.1
-        → TermsMean (in_version_range variable bounds.entry.0 bounds.entry.1) terms.items) }
+    ensures means { IfOk result (MeanVersionRange variable bounds.entry) }
     ensures printable { IfOk result (λ terms. AllPrintable terms.items) }
 {
     range_specifiers_are_printable(bounds.1);
@@ -184,8 +168,7 @@ pub fn version_range_terms(
 
 // The comparison of a variable's key.
 fn comparison(variable: VersionVariable, specifier: VersionSpecifier) -> MarkerExpression
-    ensures means { (v : Valuation) → holds (test_of result) v
-        ≡ is_in specifier.operator specifier.version.release (v.version variable) }
+    ensures means { ComparesWith variable specifier result }
     ensures printable { IsPrintableSpecifier specifier → IsPrintable result }
 {
     specifiers_are_well_formed(&specifier);
@@ -196,8 +179,7 @@ fn comparison(variable: VersionVariable, specifier: VersionSpecifier) -> MarkerE
 // The specifiers of a range are printable, because the version at its upper bound is valid: the
 // number after that of a star exists.
 fn range_specifiers_are_printable(upper: Bound<&Version>)
-    ensures { (lower : Bound (Bor Parts))
-        → AllByRecursion IsPrintableSpecifier (bound_specifiers lower upper.entry) }
+    ensures { (lower : Bound (Bor Parts)) → HasPrintableSpecifiers lower upper.entry }
 {
     range_specifiers_raise_nothing();
     match upper {

@@ -1,5 +1,5 @@
 -- Ranges of releases, and the specifiers that mean them.
-use Rattle.std.specs.Prelude.{◌≡◌, ◌==◌, ◌&&◌, ⊤, Bool, List}
+use Rattle.std.specs.Prelude.{◌≡◌, ◌==◌, ◌&&◌, ⊤, Bool, List, ℕ}
 use Rattle.std.specs.Borrow.{Bor}
 use Rattle.std.specs.List.{list_all}
 use Rattle.std.specs.Range.Bound.{bound_map}
@@ -12,6 +12,7 @@ use Rattle.pep440_version.specs.Valid.{IsValid}
 use Rattle.pep440_specifier.specs.Alone.{is_alone}
 use Rattle.pep440_specifier.specs.Specifier.{Specifier}
 use Rattle.pep440_rs.specs.Intervals.{is_in}
+use Rattle.pep440_specifier.specs.declared.operator.Operator.{Operator}
 
 -- whether a point is in the set of each specifier
 abbrev pub is_in_all : List Specifier → Point Parts → Bool
@@ -41,3 +42,11 @@ IsAtValid Unbounded = ⊤
 abbrev pub is_within : Bound (Bor Parts) → Bound (Bor Parts) → Point Parts → Bool
 is_within lower upper p =
     is_in_bounds version_cmp (bound_map (λ v. v.now) lower) (bound_map (λ v. v.now) upper) p
+
+-- whether a point is in the set of a specifier, given the sets of operators and releases
+abbrev pub points_of : (Operator → List ℕ → Point Parts → Bool) → Specifier → Point Parts → Bool
+points_of set s = set s.operator s.version.release
+
+-- a fact of operators and releases is true of a specifier
+abbrev pub HoldsOf : (Operator → List ℕ → Type 0) → Specifier → Type 0
+HoldsOf Fact s = Fact s.operator s.version.release

@@ -12,7 +12,7 @@ use Rattle.refusal.specs.declared.Refusal.TheVariants.{OutOfMemory, SegmentAtEnd
 use Rattle.version_ranges.specs.declared.ranges.Ranges.{Ranges}
 use Rattle.version_ranges.specs.Bounds.{all_bounds}
 use Rattle.version_ranges.specs.Point.{Point, is_in_bounds}
-use Rattle.version_ranges.specs.Ranges.{IsSet}
+use Rattle.version_ranges.specs.Ranges.{IsSet, contains_point}
 use Rattle.pep440_version.specs.Order.{trimmed, version_cmp}
 use Rattle.pep440_version.specs.Parts.{Parts, release_only}
 use Rattle.pep440_specifier.specs.declared.operator.Operator.{Operator}
@@ -42,6 +42,14 @@ at_numbers bound = bound_map (λ r. r.now) bound
 abbrev pub is_between : Bound (List ℕ) → Bound (List ℕ) → Point Parts → Bool
 is_between lower upper p =
     is_in_bounds version_cmp (bound_map release_only lower) (bound_map release_only upper) p
+
+-- whether a point is between two bounds at borrowed releases
+abbrev pub is_between_borrowed : Bound (Bor (List ℕ)) → Bound (Bor (List ℕ)) → Point Parts → Bool
+is_between_borrowed lower upper = is_between (at_numbers lower) (at_numbers upper)
+
+-- whether a point is from a release on and below the end of a prefix
+abbrev pub is_below_end : List ℕ → List ℕ → Point Parts → Bool
+is_below_end release prefix = is_between (Included release) (Excluded (raised prefix))
 
 -- whether a point is in the set of an operator and a release
 abbrev pub is_in : Operator → List ℕ → Point Parts → Bool
@@ -92,6 +100,14 @@ IsSameBound (Excluded v) (Excluded w) = version_cmp v w ≡ Equal
 IsSameBound Unbounded Unbounded = ⊤
 IsSameBound lower upper = ⊥
 
+-- a bound at a version with this release
+abbrev pub at_version : Bound (List ℕ) → Bound Parts
+at_version bound = bound_map release_only bound
+
+-- a bound at a version with this release, without the zeros at its end
+abbrev pub at_trimmed : Bound (Bor (List ℕ)) → Bound Parts
+at_trimmed bound = bound_map (λ r. release_only (trimmed r.now)) bound
+
 -- whether a version is written without zeros at the end of its release, down to one number
 abbrev pub is_trimmed : Parts → Bool
 is_trimmed v = length v.release == length (trimmed v.release)
@@ -104,3 +120,7 @@ module _ {a : _} {b : _} {c : _} where
   -- a set has these points
   abbrev pub HasPoints : (Point Parts → Bool) → Ranges Parts a b c → Type 0
   HasPoints points set = IsSet version_cmp set points
+
+  -- whether a set has the point
+  abbrev pub has_point : Ranges Parts a b c → Point Parts → Bool
+  has_point set = contains_point version_cmp set

@@ -33,3 +33,15 @@ raises_greatest versions = list_any (λ v. minor_number v.release == 18446744073
 -- has no ends
 abbrev pub ListOverflows : List Parts → Type 0
 ListOverflows versions = (has_long versions ≡ false) × (raises_greatest versions ≡ true)
+
+-- two lists of versions list the same
+abbrev pub ListTheSame : List Parts → List Parts → Type 0
+ListTheSame versions others = (p : Point Parts) → is_listed versions p ≡ is_listed others p
+
+-- whether a point is in one of the listed minors
+abbrev pub is_in_some_minor : List Parts → Point Parts → Bool
+is_in_some_minor versions = λ p. list_any (λ v. is_in_minor v.release p) versions
+
+-- the listed points, or the others if it is negated
+abbrev pub listed_or_not : Bool → (Point Parts → Bool) → Point Parts → Bool
+listed_or_not negated listed = λ p. is_in_or_not negated (listed p)

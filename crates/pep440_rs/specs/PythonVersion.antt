@@ -38,6 +38,10 @@ is_same_minor r p = not (has_more r) && is_in_minor r p
 abbrev pub is_in_star : List ℕ → Point Parts → Bool
 is_in_star r p = not (has_more r) && is_in operator.EqualStar r p
 
+-- the full versions that a comparison takes as it is written, with at most two numbers
+abbrev pub is_in_written : Operator → List ℕ → Point Parts → Bool
+is_in_written o r = λ p. not (has_more r) && is_in o r p
+
 -- the first `python_version` that is not below a release
 abbrev pub first_minor : List ℕ → List ℕ
 first_minor r = if has_more r then next_minor r else minor_release r
@@ -63,6 +67,18 @@ raised_by r few more = if has_more r then more else few
 -- `m`, if `M.(m+1)` is an end
 abbrev pub minor_raised : List ℕ → Option ℕ
 minor_raised r = Some (minor_number r)
+
+-- the number that the end of a minor raises, if the release has at most two numbers
+abbrev pub same_minor_raised : List ℕ → Option ℕ
+same_minor_raised r = raised_by r (minor_raised r) None
+
+-- the number that the first `python_version` raises, which is not below a release
+abbrev pub first_minor_raised : List ℕ → Option ℕ
+first_minor_raised r = raised_by r None (minor_raised r)
+
+-- the number that a comparison raises as it is written
+abbrev pub written_raised : Operator → List ℕ → Option ℕ
+written_raised o r = raised_by r (raised_number o r) None
 
 -- the number that a comparison raises, if any
 abbrev pub python_raised_number : Operator → List ℕ → Option ℕ

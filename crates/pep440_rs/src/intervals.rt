@@ -1,14 +1,14 @@
 //! The sets of versions of version specifiers, by releases only.
 
-ghost use Rattle.std.specs.Prelude.{◌≡◌, ◌<◌, ◌≤◌, ℕ, true, length, IfOk};
-ghost use Rattle.std.specs.Range.Bound.{bound_map};
+ghost use Rattle.std.specs.Prelude.{◌≡◌, ◌<◌, ◌≤◌, true, length, IfOk};
 ghost use Rattle.std.specs.declared.cmp.Ordering.TheVariants.{Equal};
 ghost use Rattle.std.specs.declared.ops.Bound.TheVariants.{Included, Excluded};
 ghost use Rattle.version_ranges.specs.Bounds.{passes_at};
-ghost use Rattle.version_ranges.specs.Ranges.{IsComplement, IsSet};
+ghost use Rattle.version_ranges.specs.Ranges.{IsComplement};
 ghost use Rattle.pep440_version.specs.Order.{trimmed, version_cmp};
 ghost use Rattle.pep440_version.specs.Parts.{release_only};
-ghost use Rattle.pep440_rs.specs.Intervals.{HasNumbers, HasPoints, HasTrimmedBounds, IsGreatest, IsSameBound, Overflows, RefusedWhere, at_numbers, is_between, is_in, is_trimmed, last_number, raised};
+ghost use Rattle.pep440_rs.specs.Intervals.{HasNumbers, HasPoints, HasTrimmedBounds, IsGreatest, IsSameBound, Overflows, RefusedWhere, at_numbers, is_in, is_trimmed, last_number, raised, at_trimmed, at_version, is_between_borrowed, is_below_end};
+ghost use Rattle.pep440_rs.specs.Bounds.{HoldsOf, points_of};
 
 use pep440_specifier::{Operator, VersionSpecifier};
 use pep440_version::{Refusal, Version};
@@ -30,10 +30,8 @@ fn trimmed_version(alloc: Global, release: &[u64]) -> Result<Version, AllocError
 // A bound at these release numbers.
 fn release_bound(alloc: Global, bound: Bound<&[u64]>) -> Result<Bound<Version>, AllocError>
     requires { HasNumbers (at_numbers bound) }
-    ensures value { IfOk result (λ b.
-        b ≡ bound_map (λ r. release_only (trimmed r.now)) bound.entry) }
-    ensures same { IfOk result (λ b. IsSameBound b
-        (bound_map release_only (at_numbers bound.entry))) }
+    ensures value { IfOk result (λ b. b ≡ at_trimmed bound.entry) }
+    ensures same { IfOk result (λ b. IsSameBound b (at_version (at_numbers bound.entry))) }
     ensures trimmed { IfOk result (λ b. passes_at is_trimmed b ≡ true) }
 {
     match bound {
@@ -51,8 +49,7 @@ pub(crate) fn between(
 ) -> Result<Ranges<Version>, AllocError>
     requires lower { HasNumbers (at_numbers lower) }
     requires upper { HasNumbers (at_numbers upper) }
-    ensures set { IfOk result (HasPoints
-        (is_between (at_numbers lower.entry) (at_numbers upper.entry))) }
+    ensures set { IfOk result (HasPoints (is_between_borrowed lower.entry upper.entry)) }
     ensures bounds { IfOk result HasTrimmedBounds }
 {
     let lower = release_bound(alloc, lower)?;
@@ -96,8 +93,7 @@ fn up_to_raised(
 ) -> Result<Ranges<Version>, Refusal<Infallible>>
     requires release { 0 < length release.now }
     requires prefix { 0 < length prefix.now }
-    ensures set { IfOk result (HasPoints
-        (is_between (Included release.now) (Excluded (raised prefix.now)))) }
+    ensures set { IfOk result (HasPoints (is_below_end release.now prefix.now)) }
     ensures bounds { IfOk result HasTrimmedBounds }
     ensures refused { RefusedWhere result (IsGreatest (last_number prefix.now)) }
 {
@@ -149,11 +145,9 @@ pub fn release_specifier_to_range(
     alloc: Global,
     specifier: &VersionSpecifier,
 ) -> Result<Ranges<Version>, Refusal<Infallible>>
-    ensures set { IfOk result (HasPoints
-        (is_in specifier.now.operator specifier.now.version.release)) }
+    ensures set { IfOk result (HasPoints (points_of is_in specifier.now)) }
     ensures bounds { IfOk result HasTrimmedBounds }
-    ensures refused { RefusedWhere result
-        (Overflows specifier.now.operator specifier.now.version.release) }
+    ensures refused { RefusedWhere result (HoldsOf Overflows specifier.now) }
 {
     release_to_range(alloc, specifier.operator(), specifier.version().release())
 }

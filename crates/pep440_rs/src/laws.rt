@@ -1,24 +1,22 @@
 //! Laws of the sets. Each is a function that does nothing, whose contract is the law.
 
-ghost use Rattle.std.specs.Prelude.{◌≡◌, ◌<◌, ◌↔◌, ℕ, List, length, true};
+ghost use Rattle.std.specs.Prelude.{◌≡◌, ◌<◌, ◌↔◌, ℕ, List, true};
 ghost use Rattle.std.specs.Borrow.{Bor};
-ghost use Rattle.std.specs.List.{AllByRecursion, list_all};
+ghost use Rattle.std.specs.List.{list_all};
 ghost use Rattle.std.specs.Set.{ClonesAreEqual};
 ghost use Rattle.std.specs.declared.cmp.Ordering.TheVariants.{Equal};
 ghost use Rattle.std.specs.declared.ops.Bound.{Bound};
 ghost use Rattle.version_ranges.specs.Bounds.{passes_at_both};
 ghost use Rattle.version_ranges.specs.Intervals.{intervals_of};
-ghost use Rattle.version_ranges.specs.Point.{Point};
-ghost use Rattle.pep440_specifier.specs.Bounds.{bound_specifiers};
 ghost use Rattle.pep440_specifier.specs.Order.{specifier_cmp};
 ghost use Rattle.pep440_specifier.specs.Specifier.{Specifier};
 ghost use Rattle.pep440_specifier.specs.declared.operator.Operator.{Operator};
 ghost use Rattle.pep440_version.specs.Order.{trimmed_parts, version_cmp};
 ghost use Rattle.pep440_version.specs.Parts.{Parts};
-ghost use Rattle.pep440_rs.specs.Bounds.{IsAtRelease, IsAtValid, IsRelease, is_release};
-ghost use Rattle.pep440_rs.specs.Ends.{IsReleasePoint, ends_of, python_ends_of};
-ghost use Rattle.pep440_rs.specs.Intervals.{HasTrimmedBounds, Overflows, is_in, is_trimmed};
-ghost use Rattle.pep440_rs.specs.Laws.{ChangesAtEnds, IsRangeAt, NegationIsComplement, StandAlike};
+ghost use Rattle.pep440_rs.specs.Bounds.{IsAtValid, IsRelease, is_release};
+ghost use Rattle.pep440_rs.specs.Ends.{ends_of, python_ends_of};
+ghost use Rattle.pep440_rs.specs.Intervals.{HasTrimmedBounds, is_in, is_trimmed};
+ghost use Rattle.pep440_rs.specs.Laws.{ChangesAtEnds, NegationIsComplement, StandAlike, AreTrimmedAlike, ComparePythonAlike, EndsAtReleases, IsRange, RaisesNothing};
 ghost use Rattle.pep440_rs.specs.PythonVersion.{python_is_in};
 
 use pep440_version::Version;
@@ -38,15 +36,13 @@ pub fn version_clones_are_equal()
 /// A point is between two bounds that are releases exactly if it is in the set of each specifier of
 /// the range.
 pub fn range_is_its_specifiers()
-    ensures { (lower upper : Bound (Bor Parts)) (p : Point Parts)
-        → IsAtRelease lower → IsAtRelease upper → IsRangeAt lower upper p }
+    ensures { (lower upper : Bound (Bor Parts)) → IsRange lower upper }
 {}
 
 /// Equal versions with only release numbers are the same without the zeros at the end of their
 /// releases.
 pub fn tied_versions_are_trimmed_alike()
-    ensures { (v w : Parts) → 0 < length v.release → 0 < length w.release
-        → version_cmp v w ≡ Equal → trimmed_parts v ≡ trimmed_parts w }
+    ensures { (v w : Parts) → AreTrimmedAlike v w }
 {}
 
 /// If the bounds of a set have no zeros at the end of their releases, neither have the bounds of
@@ -62,17 +58,13 @@ pub fn trimmed_bounds_have_no_zeros(set: &Ranges<Version>)
 /// Equal specifiers have the same set, and so do their comparisons of `python_version`.
 pub fn equal_specifiers_stand_for_one_set()
     ensures release { (s t : Specifier) → specifier_cmp s t ≡ Equal → StandAlike is_in s t }
-    ensures python_version { (s t : Specifier) → specifier_cmp s t ≡ Equal
-        → 0 < length s.version.release → 0 < length t.version.release
-        → StandAlike python_is_in s t }
+    ensures python_version { (s t : Specifier) → ComparePythonAlike s t }
 {}
 
 /// The specifiers of a range have no bound above 2^64 - 1: the upper bound of a star is the end of
 /// the range.
 pub fn range_specifiers_raise_nothing()
-    ensures { (lower upper : Bound (Bor Parts)) → IsAtValid upper
-        → AllByRecursion (λ s. ¬ Overflows s.operator s.version.release)
-        (bound_specifiers lower upper) }
+    ensures { (lower upper : Bound (Bor Parts)) → IsAtValid upper → RaisesNothing lower upper }
 {}
 
 /// A version that is equal to a release has only release numbers.
@@ -86,6 +78,5 @@ pub fn versions_tied_with_releases_are_releases()
 pub fn sets_change_at_their_ends()
     ensures release { ChangesAtEnds is_in ends_of }
     ensures python_version { ChangesAtEnds python_is_in python_ends_of }
-    ensures ends { (o : Operator) (r : List ℕ) → AllByRecursion IsReleasePoint (ends_of o r)
-        × AllByRecursion IsReleasePoint (python_ends_of o r) }
+    ensures ends { (o : Operator) (r : List ℕ) → EndsAtReleases o r }
 {}

@@ -1,14 +1,10 @@
 //! The sets of versions of `in` and `not in` with a list of versions.
 
 ghost use Rattle.std.specs.Prelude.{◌≡◌, ◌||◌, false, map, true, IfErr, IfOk, OnOk};
-ghost use Rattle.std.specs.List.{list_all, list_any};
-ghost use Rattle.version_ranges.specs.Point.{Point};
-ghost use Rattle.version_ranges.specs.Ranges.{contains_point, IsSet};
-ghost use Rattle.pep440_version.specs.Order.{trimmed_parts, version_cmp};
-ghost use Rattle.pep440_version.specs.Parts.{Parts};
-ghost use Rattle.pep440_rs.specs.Intervals.{HasPoints, HasTrimmedBounds, IsRefusal, RefusedWhere, is_trimmed};
-ghost use Rattle.pep440_rs.specs.Lists.{ListOverflows, has_long, is_in_or_not, is_listed, is_minor_listed, raises_greatest};
-ghost use Rattle.pep440_rs.specs.PythonVersion.{is_in_minor};
+ghost use Rattle.std.specs.List.{list_all};
+ghost use Rattle.pep440_version.specs.Order.{trimmed_parts};
+ghost use Rattle.pep440_rs.specs.Intervals.{HasPoints, HasTrimmedBounds, IsRefusal, RefusedWhere, is_trimmed, has_point};
+ghost use Rattle.pep440_rs.specs.Lists.{ListOverflows, has_long, is_listed, is_minor_listed, raises_greatest, ListTheSame, is_in_some_minor, listed_or_not};
 
 use crate::intervals::outside;
 use crate::python_version::{has_more, minor_to_range};
@@ -20,8 +16,7 @@ use version_ranges::Ranges;
 // The versions without the zeros at the end of their releases, as at bounds.
 fn trimmed_versions(alloc: Global, versions: &[Version]) -> Result<Vec<Version>, AllocError>
     ensures value { IfOk result (λ r. r.items ≡ map trimmed_parts versions.now) }
-    ensures same { IfOk result (λ r. (p : Point Parts)
-        → is_listed r.items p ≡ is_listed versions.now p) }
+    ensures same { IfOk result (λ r. ListTheSame r.items versions.now) }
     ensures trimmed { IfOk result (λ r. list_all is_trimmed r.items ≡ true) }
 {
     let mut trimmed = Vec::with_capacity(alloc, versions.len())?;
@@ -38,7 +33,7 @@ pub fn version_list_to_range(
     versions: &[Version],
     negated: bool,
 ) -> Result<Ranges<Version>, AllocError>
-    ensures set { IfOk result (HasPoints (λ p. is_in_or_not negated (is_listed versions.now p))) }
+    ensures set { IfOk result (HasPoints (listed_or_not negated (is_listed versions.now))) }
     ensures bounds { IfOk result HasTrimmedBounds }
 {
     let listed = listed_versions(alloc, versions)?;
@@ -74,8 +69,7 @@ fn either(
 ) -> Result<Ranges<Version>, AllocError>
     requires left { HasTrimmedBounds left.now }
     requires right { HasTrimmedBounds right.now }
-    ensures set { IfOk result (HasPoints
-        (λ p. contains_point version_cmp left.now p || contains_point version_cmp right.now p)) }
+    ensures set { IfOk result (HasPoints (λ p. has_point left.now p || has_point right.now p)) }
     ensures bounds { IfOk result HasTrimmedBounds }
 {
     left.union(alloc, right)
@@ -88,8 +82,7 @@ fn minors_to_range(
     alloc: Global,
     versions: &[Version],
 ) -> Result<Ranges<Version>, Refusal<Infallible>>
-    ensures set { IfOk result (HasPoints
-        (λ p. list_any (λ v. is_in_minor v.release p) versions.now)) }
+    ensures set { IfOk result (HasPoints (is_in_some_minor versions.now)) }
     ensures bounds { IfOk result HasTrimmedBounds }
     ensures no_overflow { OnOk result (raises_greatest versions.now ≡ false) }
     ensures refused { IfErr result (IsRefusal (raises_greatest versions.now ≡ true)) }
@@ -137,8 +130,7 @@ pub fn python_version_list_to_range(
     versions: &[Version],
     negated: bool,
 ) -> Result<Ranges<Version>, Refusal<Infallible>>
-    ensures set { IfOk result (HasPoints
-        (λ p. is_in_or_not negated (is_minor_listed versions.now p))) }
+    ensures set { IfOk result (HasPoints (listed_or_not negated (is_minor_listed versions.now))) }
     ensures bounds { IfOk result HasTrimmedBounds }
     ensures refused { RefusedWhere result (ListOverflows versions.now) }
 {

@@ -1,12 +1,12 @@
 //! The sets of full versions of Python that match comparisons of `python_version`.
 
-ghost use Rattle.std.specs.Prelude.{◌≡◌, ◌<◌, ◌≤◌, ◌&&◌, ℕ, None, get_or, length, not, IfErr, IfOk};
+ghost use Rattle.std.specs.Prelude.{◌≡◌, ◌<◌, ◌≤◌, get_or, length, not, IfErr, IfOk};
 ghost use Rattle.std.specs.declared.ops.Bound.TheVariants.{Excluded, Included, Unbounded};
 ghost use Rattle.refusal.specs.declared.Refusal.TheVariants.{OutOfMemory};
-ghost use Rattle.version_ranges.specs.Ranges.{IsSet};
-ghost use Rattle.pep440_version.specs.Order.{trimmed as trimmed_of, version_cmp};
-ghost use Rattle.pep440_rs.specs.Intervals.{HasPoints, HasTrimmedBounds, IsGreatest, RefusedWhere, is_between, is_in, raised_number};
-ghost use Rattle.pep440_rs.specs.PythonVersion.{PythonOverflows, first_minor, has_more, is_in_minor, is_same_minor, minor_raised, minor_release, next_minor, python_is_in, raised_by};
+ghost use Rattle.pep440_version.specs.Order.{trimmed as trimmed_of};
+ghost use Rattle.pep440_rs.specs.Intervals.{HasPoints, HasTrimmedBounds, IsGreatest, RefusedWhere, is_between};
+ghost use Rattle.pep440_rs.specs.PythonVersion.{PythonOverflows, first_minor, has_more, is_in_minor, is_same_minor, minor_raised, minor_release, next_minor, python_is_in, first_minor_raised, same_minor_raised, is_in_written, written_raised};
+ghost use Rattle.pep440_rs.specs.Bounds.{HoldsOf, points_of};
 
 use crate::intervals::{between, outside, release_to_range};
 use pep440_specifier::{Operator, VersionSpecifier};
@@ -51,8 +51,7 @@ fn next_minor(release: &[u64]) -> Result<[u64; 2], Refusal<Infallible>>
 // The first `M.m` that is not below a release.
 fn first_minor(release: &[u64]) -> Result<[u64; 2], Refusal<Infallible>>
     ensures value { IfOk result (λ first. first ≡ first_minor release.now) }
-    ensures refused { RefusedWhere result
-        (IsGreatest (raised_by release.now None (minor_raised release.now))) }
+    ensures refused { RefusedWhere result (IsGreatest (first_minor_raised release.now)) }
 {
     if has_more(release) {
         next_minor(release)
@@ -83,8 +82,7 @@ fn same_minor_to_range(
 ) -> Result<Ranges<Version>, Refusal<Infallible>>
     ensures set { IfOk result (HasPoints (is_same_minor release.now)) }
     ensures bounds { IfOk result HasTrimmedBounds }
-    ensures refused { RefusedWhere result
-        (IsGreatest (raised_by release.now (minor_raised release.now) None)) }
+    ensures refused { RefusedWhere result (IsGreatest (same_minor_raised release.now)) }
 {
     if has_more(release) {
         return Ok(Ranges::empty(alloc));
@@ -101,11 +99,9 @@ fn written_to_range(
 ) -> Result<Ranges<Version>, Refusal<Infallible>>
     requires some { 0 < length release.now }
     requires compatible { operator ≡ Operator.TildeEqual → 2 ≤ length release.now }
-    ensures set { IfOk result (HasPoints
-        (λ p. not (has_more release.now) && is_in operator release.now p)) }
+    ensures set { IfOk result (HasPoints (is_in_written operator release.now)) }
     ensures bounds { IfOk result HasTrimmedBounds }
-    ensures refused { RefusedWhere result
-        (IsGreatest (raised_by release.now (raised_number operator release.now) None)) }
+    ensures refused { RefusedWhere result (IsGreatest (written_raised operator release.now)) }
 {
     if has_more(release) {
         return Ok(Ranges::empty(alloc));
@@ -180,11 +176,9 @@ pub fn python_version_specifier_to_range(
     alloc: Global,
     specifier: &VersionSpecifier,
 ) -> Result<Ranges<Version>, Refusal<Infallible>>
-    ensures set { IfOk result (HasPoints
-        (python_is_in specifier.now.operator specifier.now.version.release)) }
+    ensures set { IfOk result (HasPoints (points_of python_is_in specifier.now)) }
     ensures bounds { IfOk result HasTrimmedBounds }
-    ensures refused { RefusedWhere result
-        (PythonOverflows specifier.now.operator specifier.now.version.release) }
+    ensures refused { RefusedWhere result (HoldsOf PythonOverflows specifier.now) }
 {
     let version = specifier.version();
     python_to_range(

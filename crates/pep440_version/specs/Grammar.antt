@@ -117,6 +117,10 @@ pub data IsVersion : List ℕ → Parts → Type 0 where
 abbrev pub IsVersionText : List ℕ → Parts → Type 0
 IsVersionText text v = IsVersion (map to_ascii_lowercase (trim text)) v
 
+-- the text is no text of a version
+abbrev pub IsNoVersionText : List ℕ → Type 0
+IsNoVersionText text = (v : Parts) → ¬ IsVersionText text v
+
 -- only an epoch and a release
 abbrev pub starred_parts : ℕ → List ℕ → Parts
 starred_parts n ns =

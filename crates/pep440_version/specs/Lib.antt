@@ -10,3 +10,6 @@ pub mod Message
 pub mod Grammar
 pub mod Parse
 pub mod Reading
+pub mod Laws
+pub mod Local
+pub mod Deserialized

@@ -119,9 +119,17 @@ unfoldable pub more_at : ℕ → List ℕ → List ℕ × List ℕ
 more_at zero t = ([], t)
 more_at (suc k) t = more_of t (more_at k) (number_after 46 t)
 
+-- the numbers after the first one
+abbrev pub others : List ℕ → List ℕ
+others t = (more_at (length t) t).0
+
 abbrev pub release_of : Option (ℕ × List ℕ) → Option (List ℕ × List ℕ)
 release_of None = None
 release_of (Some x) = Some (x.0 ∷ (more_at (length x.1) x.1).0, (more_at (length x.1) x.1).1)
+
+-- a release with this first number, from the text after it
+abbrev pub release_from : ℕ → List ℕ → Option (List ℕ × List ℕ)
+release_from first t = release_of (Some (first, t))
 
 unfoldable pub release_at : List ℕ → Option (List ℕ × List ℕ)
 release_at t = release_of (number_at t)
@@ -195,6 +203,10 @@ unfoldable pub segments_at : ℕ → List ℕ → Option (List Segment)
 segments_at zero t = None
 segments_at (suc k) t = segments_of (segments_at k) (segment_at t)
 
+-- the segments to the end of the text
+abbrev pub local_segments : List ℕ → Option (List Segment)
+local_segments t = segments_at (length t) t
+
 abbrev pub locals_at : List ℕ → Option (List Segment)
 locals_at [] = Some []
 locals_at (b ∷ rest) = if b == 43 then segments_at (length rest) rest else None
@@ -233,6 +245,14 @@ after_release epoch (Some r) =
     let q = post_at p.1 in
     let d = dev_at q.1 in
     finish epoch r.0 p.0 q.0 d.0 (locals_at d.1)
+
+-- a version with this epoch and these release numbers, from the text after them
+abbrev pub after_numbers : ℕ → List ℕ → List ℕ → Option Parts
+after_numbers epoch numbers t = after_release epoch (Some (numbers, t))
+
+-- the same of a text with letters in any case
+abbrev pub version_after : ℕ → List ℕ → List ℕ → Option Parts
+version_after epoch numbers t = after_numbers epoch numbers (lower t)
 
 unfoldable pub version_at : List ℕ → Option Parts
 version_at t = after_release (epoch_at (after_mark t)).0 (release_at (epoch_at (after_mark t)).1)
@@ -283,6 +303,10 @@ tagged_parts star (Some v) = Some (v, star)
 
 unfoldable pub pattern_at : List ℕ → Option (Parts × Bool)
 pattern_at t = option_or (tagged_parts true (star_at t)) (tagged_parts false (version_at t))
+
+-- the same of a text with letters in any case
+abbrev pub pattern_of : List ℕ → Option (Parts × Bool)
+pattern_of t = pattern_at (lower t)
 
 abbrev pub pattern_view : Option VersionPattern → Option (Parts × Bool)
 pattern_view None = None

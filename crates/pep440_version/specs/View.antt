@@ -1,5 +1,5 @@
 -- What a contract sees of a version.
-use Rattle.std.specs.Prelude.{map, string_bytes}
+use Rattle.std.specs.Prelude.{map, string_bytes, ◌≡◌, List}
 use Rattle.pep440_version.specs.declared.version.LocalSegment.{LocalSegment}
 use Rattle.pep440_version.specs.declared.version.LocalSegment.TheVariants.{String, Number}
 use Rattle.pep440_version.specs.declared.version.Version.TheInside.{Inside}
@@ -18,3 +18,7 @@ parts_of v = record {
   dev = v.dev;
   locals = map segment_of v.local.items;
 }
+
+-- two lists have the same segments
+abbrev pub HaveSameSegments : List LocalSegment → List LocalSegment → Type 0
+HaveSameSegments copy locals = map segment_of copy ≡ map segment_of locals

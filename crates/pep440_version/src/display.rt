@@ -1,9 +1,10 @@
 //! The normal text of a version (PEP 440, "Normalization").
 
-ghost use Rattle.std.specs.Prelude.{Some, map};
+ghost use Rattle.std.specs.Prelude.{Some};
 ghost use Rattle.std.specs.Fmt.{DisplaysOnOk};
-ghost use Rattle.pep440_version.specs.Text.{dotted, dotted_segments, epoch_text, kind_text, local_text, release_text, segment_text, suffix_text, version_text};
+ghost use Rattle.pep440_version.specs.Text.{dotted, epoch_text, kind_text, release_text, segment_text, suffix_text, version_text};
 ghost use Rattle.pep440_version.specs.View.{segment_of};
+ghost use Rattle.pep440_version.specs.Local.{after_dots, local_part};
 
 use crate::version::{LocalSegment, Prerelease, PrereleaseKind, Version};
 use std::fmt;
@@ -44,8 +45,7 @@ fn write_segments<W: fmt::Write>(
     segments: &[LocalSegment],
     f: &mut fmt::Formatter<W>,
 ) -> fmt::Result
-    ensures { DisplaysOnOk W.write_str_gives f.old result
-        (Some (dotted_segments (map segment_of segments.now))) f.new }
+    ensures { DisplaysOnOk W.write_str_gives f.old result (Some (after_dots segments.now)) f.new }
 {
     for segment in segments {
         write!(f, ".{segment}")?;
@@ -96,8 +96,7 @@ fn write_suffix<W: fmt::Write>(
 }
 
 fn write_local<W: fmt::Write>(segments: &[LocalSegment], f: &mut fmt::Formatter<W>) -> fmt::Result
-    ensures { DisplaysOnOk W.write_str_gives f.old result
-        (Some (local_text (map segment_of segments.now))) f.new }
+    ensures { DisplaysOnOk W.write_str_gives f.old result (Some (local_part segments.now)) f.new }
 {
     match segments {
         [first, others @ ..] => {

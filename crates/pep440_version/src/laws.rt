@@ -1,18 +1,19 @@
 //! Laws of versions. Each is a function that does nothing, whose contract is the law.
 
-ghost use Rattle.std.specs.Prelude.{◌≡◌, ◌↔◌, ℕ, Bool, List, true};
+ghost use Rattle.std.specs.Prelude.{◌≡◌, ◌↔◌, ℕ, List, true};
 ghost use Rattle.std.specs.Cmp.{IsTotalOrder};
 ghost use Rattle.std.specs.Hash.{Alike};
 ghost use Rattle.std.specs.List.{list_all};
 ghost use Rattle.std.specs.Ordering.{eq_by_cmp};
 ghost use Rattle.std.specs.declared.cmp.Ordering.TheVariants.{Equal};
-ghost use Rattle.pep440_version.specs.Grammar.{IsPatternText, IsVersionText, starred_parts};
+ghost use Rattle.pep440_version.specs.Grammar.{IsVersionText};
 ghost use Rattle.pep440_version.specs.Order.{IsSameVersion, version_cmp};
 ghost use Rattle.pep440_version.specs.HashInput.{version_writes};
 ghost use Rattle.pep440_version.specs.Parts.{Parts};
 ghost use Rattle.pep440_version.specs.Plain.{IsPlainByte, is_version_byte};
-ghost use Rattle.pep440_version.specs.Text.{starred_text, version_text};
+ghost use Rattle.pep440_version.specs.Text.{version_text};
 ghost use Rattle.pep440_version.specs.Valid.{IsValid};
+ghost use Rattle.pep440_version.specs.Laws.{SaysOnePattern, StarredTextReadsBack};
 
 use crate::version::Version;
 
@@ -39,8 +40,7 @@ pub fn text_says_one_version()
 
 /// A text denotes at most one pattern: no version ends in `.*`.
 pub fn text_says_one_pattern()
-    ensures { (text : List ℕ) (v w : Parts) (star end : Bool)
-        → IsPatternText text v star → IsPatternText text w end → (v ≡ w) × (star ≡ end) }
+    ensures { (text : List ℕ) → SaysOnePattern text }
 {}
 
 /// The parts of a version are valid, and its normal text parses back to that version, with as many
@@ -63,6 +63,5 @@ pub fn normal_text_is_plain()
 /// The normal text of a release, with or without an epoch, followed by `.*` parses back to that
 /// release with a star.
 pub fn starred_text_reads_back()
-    ensures { (epoch : ℕ) (release : List ℕ) → IsValid (starred_parts epoch release)
-        → IsPatternText (starred_text epoch release) (starred_parts epoch release) true }
+    ensures { (epoch : ℕ) (release : List ℕ) → StarredTextReadsBack epoch release }
 {}

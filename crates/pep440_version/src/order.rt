@@ -1,14 +1,15 @@
 //! The order, equality and hash of versions. Each visits each part once and allocates nothing.
 
-ghost use Rattle.std.specs.Prelude.{◌↔◌, IsTrue, ◌≡◌, ◌≤◌, ◌<◌, Some, fold, length, map, refl, take};
+ghost use Rattle.std.specs.Prelude.{◌↔◌, IsTrue, ◌≡◌, ◌≤◌, ◌<◌, Some, fold, length, map, refl};
 ghost use Rattle.std.specs.Hash as fed;
 ghost use Rattle.std.specs.Cmp.{eq_by_cmp_equiv, partial_equiv_from_equiv, po};
 ghost use Rattle.std.specs.Cmp.Lexicographic.{slice_cmp};
 ghost use Rattle.std.specs.Ordering.{eq_by_cmp};
-ghost use Rattle.pep440_version.specs.HashInput.{segment_writes, version_writes};
+ghost use Rattle.pep440_version.specs.HashInput.{version_writes};
 ghost use Rattle.pep440_version.specs.Order.{IsSameVersion, dev_key, kind_rank, padded_cmp, pre_key, segment_cmp, significant, trimmed, version_cmp};
 ghost use Rattle.pep440_version.specs.OrderLaws.{version_alike, version_total};
 ghost use Rattle.pep440_version.specs.View.{segment_of};
+ghost use Rattle.pep440_version.specs.Local.{local_writes};
 
 use crate::version::{LocalSegment, PrereleaseKind, Version};
 use std::cmp::Ordering;
@@ -108,8 +109,7 @@ fn is_same_version(a: &Version, b: &Version) -> bool
 }
 
 fn hash_locals<H: Hasher>(locals: &[LocalSegment], state: &mut H)
-    ensures { state.new
-        ≡ fold H.write state.old (fed.slice segment_writes (map segment_of locals.now)) }
+    ensures { state.new ≡ fold H.write state.old (local_writes locals.now) }
 {
     locals.hash(state);
 }

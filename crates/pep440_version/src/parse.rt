@@ -2,8 +2,8 @@
 
 ghost use Rattle.std.specs.Prelude.{◌≡◌, ◌≢◌, IfErr, IfNone, IfOk, IfSome, string_bytes};
 ghost use Rattle.refusal.specs.declared.Refusal.TheVariants.{SegmentAtEnd};
-ghost use Rattle.pep440_version.specs.Grammar.{IsVersionText};
-ghost use Rattle.refusal.specs.Refused.{IfFault};
+ghost use Rattle.pep440_version.specs.Grammar.{IsVersionText, IsNoVersionText};
+ghost use Rattle.refusal.specs.Refused.{FaultIs};
 ghost use Rattle.pep440_version.specs.Parse.{IsGivenUnlessMemory};
 ghost use Rattle.pep440_version.specs.Parts.{Parts};
 
@@ -18,8 +18,7 @@ impl Version {
     /// making an error.
     pub fn read(alloc: Global, text: &str) -> Result<Option<Version>, AllocError>
         ensures found { IfOk result (λ found. IfSome found (IsVersionText text.now)) }
-        ensures none { IfOk result (λ found. IfNone found (
-            (v : Parts) → ¬ IsVersionText text.now v)) }
+        ensures none { IfOk result (λ found. IfNone found (IsNoVersionText text.now)) }
     {
         read::version(alloc, text.trim().as_bytes())
     }
@@ -38,8 +37,7 @@ impl Version {
         // A valid text is parsed, unless memory runs out.
         ensures only { (v : Parts) → IsVersionText text.now v → IsGivenUnlessMemory result v }
         ensures at_end { IfErr result (λ e. e ≢ SegmentAtEnd) }
-        ensures fault { IfErr result (λ e. IfFault e
-            (λ fault. string_bytes fault.text ≡ text.now)) }
+        ensures fault { FaultIs result (λ fault. string_bytes fault.text ≡ text.now) }
     {
         match Version::read(alloc, text)? {
             Some(version) => Ok(version),

@@ -1,6 +1,6 @@
 //! Patterns of version specifiers: a version, or a release with `.*` after it.
 
-ghost use Rattle.std.specs.Prelude.{◌≡◌, ◌≢◌, IfErr, IfNone, IfOk, IfSome, string_bytes, Bool};
+ghost use Rattle.std.specs.Prelude.{◌≡◌, ◌≢◌, IfErr, IfNone, IfOk, IfSome, string_bytes};
 ghost use Rattle.refusal.specs.declared.Refusal.TheVariants.{SegmentAtEnd};
 
 use crate::error::VersionParseError;
@@ -18,17 +18,14 @@ pub struct VersionPattern {
 
 impl VersionPattern {
     ghost use Rattle.pep440_version.specs.Grammar.{IsPatternText};
-    ghost use Rattle.refusal.specs.Refused.{IfFault};
-    ghost use Rattle.pep440_version.specs.Parse.{IsPatternGivenUnlessMemory};
-    ghost use Rattle.pep440_version.specs.Parts.{Parts};
+    ghost use Rattle.refusal.specs.Refused.{FaultIs};
+    ghost use Rattle.pep440_version.specs.Parse.{Denotes, DenotesNone, GivesUnlessMemory};
 
     /// Parses a pattern as [`VersionPattern::parse`] does, and returns `None` for an invalid one,
     /// without making an error.
     pub fn read(alloc: Global, text: &str) -> Result<Option<VersionPattern>, AllocError>
-        ensures found { IfOk result (λ found. IfSome found (λ p.
-            IsPatternText text.now p.version p.wildcard)) }
-        ensures none { IfOk result (λ found. IfNone found (
-            (v : Parts) (star : Bool) → ¬ IsPatternText text.now v star)) }
+        ensures found { IfOk result (λ found. IfSome found (Denotes text.now)) }
+        ensures none { IfOk result (λ found. IfNone found (DenotesNone text.now)) }
     {
         read::pattern(alloc, text.trim().as_bytes())
     }
@@ -44,11 +41,9 @@ impl VersionPattern {
         ensures found { IfOk result (λ p. IsPatternText text.now p.version p.wildcard) }
 
         // A valid text is parsed, unless memory runs out.
-        ensures only { (v : Parts) (star : Bool) → IsPatternText text.now v star
-            → IsPatternGivenUnlessMemory result v star }
+        ensures only { GivesUnlessMemory text.now result }
         ensures at_end { IfErr result (λ e. e ≢ SegmentAtEnd) }
-        ensures fault { IfErr result (λ e. IfFault e
-            (λ fault. string_bytes fault.text ≡ text.now)) }
+        ensures fault { FaultIs result (λ fault. string_bytes fault.text ≡ text.now) }
     {
         match VersionPattern::read(alloc, text)? {
             Some(pattern) => Ok(pattern),

@@ -171,8 +171,7 @@ pub(crate) fn dev(text: &[u8]) -> (Option<u64>, &[u8])
 
 // Adds the further numbers of a release, and gives the text after them.
 fn more<'a>(numbers: &mut SmallVec<u64, 4>, text: &'a [u8]) -> Result<&'a [u8], AllocError>
-    ensures numbers { OnOk result (numbers.new.items
-        ≡ numbers.old.items ++ (Spec.more_at (length text.now) text.now).0) }
+    ensures numbers { OnOk result (numbers.new.items ≡ numbers.old.items ++ Spec.others text.now) }
     ensures rest { IfOk result (λ rest. rest.now ≡ (Spec.more_at (length text.now) text.now).1) }
 {
     let mut rest = text;
@@ -192,8 +191,7 @@ fn numbers_from(
     first: u64,
     text: &[u8],
 ) -> Result<(SmallVec<u64, 4>, &[u8]), AllocError>
-    ensures { IfOk result (λ r.
-        Some (r.0.items, r.1.now) ≡ Spec.release_of (Some (first, text.now))) }
+    ensures { IfOk result (λ r. Some (r.0.items, r.1.now) ≡ Spec.release_from first text.now) }
 {
     let mut numbers = SmallVec::new(alloc);
     numbers.push(first)?;
@@ -268,8 +266,7 @@ fn segment(alloc: Global, text: &[u8]) -> Result<Option<(LocalSegment, &[u8])>, 
 }
 
 fn segments(alloc: Global, text: &[u8]) -> Result<Option<Vec<LocalSegment>>, AllocError>
-    ensures { IfOk result (λ found. Spec.segments_view found
-        ≡ Spec.segments_at (length text.now) text.now) }
+    ensures { IfOk result (λ found. Spec.segments_view found ≡ Spec.local_segments text.now) }
 {
     let mut segments = Vec::new(alloc);
     let mut rest = text;
@@ -330,8 +327,7 @@ fn with_suffixes(
     text: &[u8],
 ) -> Result<Option<Version>, AllocError>
     requires { AreNumbers release.items }
-    ensures { IfOk result (λ found.
-        found ≡ Spec.after_release epoch (Some (release.items, text.now))) }
+    ensures { IfOk result (λ found. found ≡ Spec.after_numbers epoch release.items text.now) }
 {
     let (pre, text) = pre(text);
     let (post, text) = post(text);
@@ -364,8 +360,7 @@ pub(crate) fn version_from(
     text: &[u8],
 ) -> Result<Option<Version>, AllocError>
     requires { AreNumbers release.items }
-    ensures { IfOk result (λ found.
-        found ≡ Spec.after_release epoch (Some (release.items, Spec.lower text.now))) }
+    ensures { IfOk result (λ found. found ≡ Spec.version_after epoch release.items text.now) }
 {
     if text.is_empty() {
         return Ok(Some(released(alloc, epoch, release)));
@@ -394,8 +389,7 @@ fn is_star(text: &[u8]) -> bool
 
 // The pattern of a whole text.
 pub(crate) fn pattern(alloc: Global, text: &[u8]) -> Result<Option<VersionPattern>, AllocError>
-    ensures { IfOk result (λ found.
-        Spec.pattern_view found ≡ Spec.pattern_at (Spec.lower text.now)) }
+    ensures { IfOk result (λ found. Spec.pattern_view found ≡ Spec.pattern_of text.now) }
 {
     let Some((epoch, release, rest)) = head(alloc, after_mark(text))? else {
         return Ok(None);

@@ -1,10 +1,9 @@
 //! Versions in `serde`'s formats: the normal text, which `parse` parses back.
 
-ghost use Rattle.std.specs.Prelude.{List, ℕ, IfOk, OnOk};
+ghost use Rattle.std.specs.Prelude.{IfOk};
 ghost use Rattle.serde.specs.Event.{Logs, text};
-ghost use Rattle.serde.specs.Steps.{Gives};
-ghost use Rattle.pep440_version.specs.Grammar.{IsVersionText};
 ghost use Rattle.pep440_version.specs.Text.{version_text};
+ghost use Rattle.pep440_version.specs.Deserialized.{IsReadFrom};
 
 use crate::version::Version;
 use refusal::Refusal;
@@ -34,8 +33,7 @@ impl DeserializeOwned for Version {
         alloc: Global,
         from: &mut Deserializer<'_, '_, F>,
     ) -> Result<Version, F::Error>
-        ensures { IfOk result (λ v. (t : List ℕ) × Gives F.gives from.old (text t) from.new
-            × IsVersionText t v) }
+        ensures { IfOk result (IsReadFrom F.gives from.old from.new) }
     {
         let text = from.string(alloc)?;
         match Version::parse(alloc, text.as_str()) {
@@ -54,8 +52,7 @@ impl<'de> Deserialize<'de> for Version {
         alloc: Global,
         from: &mut Deserializer<'de, '_, F>,
     ) -> Result<Version, F::Error>
-        ensures { IfOk result (λ v. (t : List ℕ) × Gives F.gives from.old (text t) from.new
-            × IsVersionText t v) }
+        ensures { IfOk result (IsReadFrom F.gives from.old from.new) }
     {
         Version::deserialize_owned(alloc, from)
     }

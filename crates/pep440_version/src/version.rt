@@ -1,7 +1,7 @@
 //! Versions (PEP 440) and their parts.
 
 ghost use Rattle.std.specs.Prelude.{◌≡◌, ◌<◌, ◌≤◌, [], length, map, IfOk, IsOk};
-ghost use Rattle.pep440_version.specs.View.{segment_of};
+ghost use Rattle.pep440_version.specs.View.{segment_of, HaveSameSegments};
 
 use crate::order::trimmed;
 use smallvec::SmallVec;
@@ -175,8 +175,7 @@ impl Version {
 
 // An empty list needs no allocation.
 fn clone_locals(locals: &Vec<LocalSegment>) -> Result<Vec<LocalSegment>, AllocError>
-    ensures value { IfOk result (λ copy.
-        map segment_of copy.items ≡ map segment_of locals.now.items) }
+    ensures value { IfOk result (λ copy. HaveSameSegments copy.items locals.now.items) }
     ensures none { map segment_of locals.now.items ≡ [] → IsOk result }
 {
     if locals.is_empty() {
