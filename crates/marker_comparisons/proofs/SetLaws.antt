@@ -1,5 +1,5 @@
 -- Sets of the values of one variable, and the ids that they come from.
-use Rattle.std.proofs.Common.{◌≡◌, ℕ, zero, suc, ◌⊎◌, inl, inr, Bool, true, false, cond, List, [], ◌∷◌, ◌++◌, length, Some, slice_get, string_bytes, refl, sym, ap, ◌∙◌, subst}
+use Rattle.std.proofs.Common.{◌≡◌, ℕ, zero, suc, ◌⊎◌, inl, inr, Bool, true, false, cond, ◌&&◌, List, [], ◌∷◌, ◌++◌, length, Some, slice_get, string_bytes, refl, sym, ap, ◌∙◌, subst}
 use Rattle.std.proofs.lemmas.List.{nil_from_length}
 use Rattle.std.specs.Prelude.{String}
 use Rattle.std.specs.Borrow.{Bor}
@@ -7,7 +7,8 @@ use Rattle.std.specs.Global.{Global}
 use Rattle.std.specs.Cmp.Lexicographic.{nat_list_cmp_total}
 use Rattle.std.specs.String.{string_cmp, string_cmp_total}
 use Rattle.std.specs.declared.cmp.Ordering.{Ordering}
-use Rattle.std.proofs.lemmas.Bool.{false≢true}
+use Rattle.std.proofs.lemmas.Bool.{and_parts, false≢true}
+use Rattle.version_ranges.specs.Bounds.{IsCloned, IsKeptByClones, all_bounds, all_cuts, all_sets}
 use Rattle.version_ranges.specs.declared.cuts.Cuts.{Cuts}
 use Rattle.version_ranges.specs.declared.ranges.Ranges.{Ranges}
 use Rattle.version_ranges.specs.Point.{Point}
@@ -81,6 +82,18 @@ module _ {T : Type 0} {a : _} {b : _} {c : _} {a' : _} {b' : _} {c' : _} (cmp : 
 
     pub last_points : x.0.now ≡ opposite inside → y.0.now ≡ inside → (p : Point T) → value_of cmp edges p ≡ cond (contains_point cmp y.1 p) inside (opposite inside)
     last_points f g p = points_at h (of_two (inr f) (inl g)) 1 y (at_two 1 y refl) g p
+
+-- the bounds of the sets of two values
+module _ {T : Type 0} {a : _} {b : _} {c : _} {a' : _} {b' : _} {c' : _} (C : T → T → Type 0) (edges : Cuts T NodeId a b c) (pairs : List (Bor NodeId × Ranges T a' b' c')) (x y : Bor NodeId × Ranges T a' b' c')
+    (two : pairs ≡ x ∷ y ∷ []) (h : IsCloned C all_cuts edges all_sets pairs) where
+  both_pass : (test : T → Bool) → IsKeptByClones C test → all_cuts test edges ≡ true → (all_bounds test x.1 && (all_bounds test y.1 && true)) ≡ true
+  both_pass test k e = sym (ap (all_sets test) two) ∙ h test k e
+
+  pub first_bounds : IsCloned C all_cuts edges all_bounds x.1
+  first_bounds test k e = (and_parts (all_bounds test x.1) _ (both_pass test k e)).0
+
+  pub last_bounds : IsCloned C all_cuts edges all_bounds y.1
+  last_bounds test k e = (and_parts (all_bounds test y.1) _ ((and_parts (all_bounds test x.1) _ (both_pass test k e)).1)).0
 
 -- children that are a constant or its negation
 signed_constant : (s b : Bool) → signed_id s (cond b (signed_id s TRUE) (opposite (signed_id s TRUE))) ≡ cond b TRUE FALSE

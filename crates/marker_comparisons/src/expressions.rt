@@ -1,18 +1,17 @@
 //! Comparisons as ids.
 
-ghost use Rattle.std.specs.Prelude.{◌≡◌, IfErr, IfNone, IfOk, IfSome, None, OnOk, Some, string_bytes};
+ghost use Rattle.std.specs.Prelude.{◌≡◌, IfErr, IfNone, IfOk, None, OnOk, Some};
 ghost use Rattle.std.specs.Set.{ClonesAreEqual};
-ghost use Rattle.version_ranges.specs.Point.{Point};
-ghost use Rattle.version_ranges.specs.Ranges.{contains_point};
-ghost use Rattle.pep440_version.specs.Order.{version_cmp};
+ghost use Rattle.version_ranges.specs.Ranges.{IsSet};
+ghost use Rattle.pep440_rs.specs.Intervals.{HasTrimmedBounds};
 ghost use Rattle.marker_words.specs.Compare.{beside, holds_beside};
 ghost use Rattle.marker_environment.specs.Valuation.{Valuation};
-ghost use Rattle.marker_parts.specs.Expression as asked;
-ghost use Rattle.marker_parts.specs.Expression.{Overflows, asked_version, extra_of, holds, holds_extra, test_of};
+ghost use Rattle.marker_parts.specs.Expression.{Overflows, asked_version, extra, extra_of, holds, holds_extra, test_of};
 ghost use Rattle.marker_nodes.specs.Variable.{answer};
 ghost use Rattle.marker_diagrams.specs.Diagram.{IsStore, Keeps};
 ghost use Rattle.marker_nodes.specs.Node.{markers};
-ghost use Rattle.marker_comparisons.specs.Expression.{IsInvalid, IsTruthOf, IsUnmade};
+ghost use Rattle.marker_comparisons.specs.Expression.{IsInvalid, IsTruthOf, IsUnmade, text_test};
+ghost use Rattle.marker_comparisons.specs.Found.{IfFound, IsRangeOf};
 
 use crate::questions::{asks, asks_text, asks_version};
 use marker_nodes::{NodeId, NodeTable, TruthVariable};
@@ -80,10 +79,9 @@ fn compares_text(
 ) -> Result<NodeId, Refusal<InvalidExpression>>
     ensures kept { Keeps markers nodes.old nodes.new }
     ensures rules { IsStore markers nodes.old → IsStore markers nodes.new }
-    ensures asks { IfOk result (IsTruthOf nodes.new
-        (holds (asked.text key operator (string_bytes value)))) }
-    ensures not_invalid { OnOk result (¬ IsInvalid (asked.text key operator (string_bytes value))) }
-    ensures err { IfErr result (IsUnmade (asked.text key operator (string_bytes value))) }
+    ensures asks { IfOk result (IsTruthOf nodes.new (holds (text_test key operator value))) }
+    ensures not_invalid { OnOk result (¬ IsInvalid (text_test key operator value)) }
+    ensures err { IfErr result (IsUnmade (text_test key operator value)) }
 {
     let variable = key.variable();
     match operator {
@@ -118,8 +116,7 @@ fn compares_extra(
 ) -> Result<NodeId, AllocError>
     ensures kept { Keeps markers nodes.old nodes.new }
     ensures rules { IsStore markers nodes.old → IsStore markers nodes.new }
-    ensures asks { IfOk result (IsTruthOf nodes.new
-        (holds (asked.extra operator (extra_of name)))) }
+    ensures asks { IfOk result (IsTruthOf nodes.new (holds (extra operator (extra_of name)))) }
 {
     let id = asks(nodes, extra_variable(name))?;
     match operator {
@@ -133,13 +130,10 @@ fn version_range(
     alloc: Global,
     expression: &MarkerExpression,
 ) -> Result<Option<(VersionVariable, Ranges<Version>)>, Refusal<InvalidExpression>>
-    ensures variable { IfOk result (λ found. IfSome found
-        (λ range. asked_version (test_of expression.now) ≡ Some range.0)) }
-    ensures set { IfOk result (λ found. IfSome found
-        (λ range. (v : Valuation) → holds (test_of expression.now) v
-        ≡ contains_point version_cmp range.1 (v.version range.0))) }
-    ensures none { IfOk result (λ found. IfNone found
-        (asked_version (test_of expression.now) ≡ None)) }
+    ensures variable { IfFound result (λ r. asked_version (test_of expression.now) ≡ Some r.0) }
+    ensures set { IfFound result (IsRangeOf (test_of expression.now)) }
+    ensures bounds { IfFound result (λ r. HasTrimmedBounds r.1) }
+    ensures none { IfOk result (λ r. IfNone r (asked_version (test_of expression.now) ≡ None)) }
     ensures no_overflow { OnOk result (¬ Overflows (test_of expression.now)) }
     ensures err { IfErr result (IsUnmade (test_of expression.now)) }
 {
@@ -157,8 +151,7 @@ fn range_beside<T: Ord + Clone>(
     value: T,
 ) -> Result<Ranges<T>, AllocError>
     requires clones { ClonesAreEqual T.eq T.is_clone }
-    ensures { IfOk result (λ r. (p : Point T)
-        → contains_point T.cmp r p ≡ holds_beside operator (beside T.cmp p value)) }
+    ensures { IfOk result (λ r. IsSet T.cmp r (λ p. holds_beside operator (beside T.cmp p value))) }
 {
     match operator {
         MarkerOperator::Equal => Ranges::singleton(alloc, value),

@@ -10,4 +10,4 @@ mod value_set;
 
 pub use expressions::{InvalidExpression, expression};
 pub use questions::{asks, asks_text, asks_version};
-pub use value_set::ValueSet;
+pub use value_set::{TrimmedRanges, ValueSet};

@@ -1,13 +1,12 @@
 //! The ids of conditions on one variable.
 
-ghost use Rattle.std.specs.Prelude.{◌≡◌, IfOk, string_bytes};
-ghost use Rattle.version_ranges.specs.Ranges.{contains_by, contains_point};
-ghost use Rattle.pep440_version.specs.Order.{version_cmp};
-ghost use Rattle.marker_words.specs.Compare.{text_cmp};
+ghost use Rattle.std.specs.Prelude.{IfOk};
+ghost use Rattle.pep440_rs.specs.Intervals.{HasTrimmedBounds};
 ghost use Rattle.marker_diagrams.specs.Diagram.{IsStore, Keeps};
 ghost use Rattle.marker_nodes.specs.Node.{markers};
 ghost use Rattle.marker_nodes.specs.Variable.{answer};
 ghost use Rattle.marker_comparisons.specs.Expression.{IsTruthOf};
+ghost use Rattle.marker_comparisons.specs.Found.{has_text_in, has_version_in};
 
 use marker_nodes::{Branches, NodeId, NodeTable, TruthVariable};
 use marker_words::{TextVariable, VersionVariable};
@@ -25,16 +24,17 @@ pub fn asks(nodes: &mut NodeTable, variable: TruthVariable) -> Result<NodeId, Al
     nodes.place_joined(Branches::Truth(variable, NodeId::TRUE, NodeId::FALSE))
 }
 
-/// Returns the id that is true if the variable's version is in the set.
+/// Returns the id that is true if the variable's version is in the set, whose bounds are without
+/// zeros at the ends of their releases.
 pub fn asks_version(
     nodes: &mut NodeTable,
     variable: VersionVariable,
     range: Ranges<Version>,
 ) -> Result<NodeId, AllocError>
+    requires { HasTrimmedBounds range }
     ensures kept { Keeps markers nodes.old nodes.new }
     ensures rules { IsStore markers nodes.old → IsStore markers nodes.new }
-    ensures asks { IfOk result
-        (IsTruthOf nodes.new (λ v. contains_point version_cmp range (v.version variable))) }
+    ensures asks { IfOk result (IsTruthOf nodes.new (has_version_in variable range)) }
 {
     if let Some((Bound::Unbounded, _)) = range.bounding_range() {
         let edges = Cuts::from_ranges(range, NodeId::TRUE, NodeId::FALSE)?;
@@ -54,8 +54,7 @@ pub fn asks_text(
 ) -> Result<NodeId, AllocError>
     ensures kept { Keeps markers nodes.old nodes.new }
     ensures rules { IsStore markers nodes.old → IsStore markers nodes.new }
-    ensures asks { IfOk result
-        (IsTruthOf nodes.new (λ v. contains_by string_bytes text_cmp range (v.text variable))) }
+    ensures asks { IfOk result (IsTruthOf nodes.new (has_text_in variable range)) }
 {
     // As above: few sets of texts begin before all texts.
     let edges = Cuts::from_ranges(range, NodeId::FALSE, NodeId::TRUE)?;

@@ -1,11 +1,10 @@
 //! Sets of the values of one variable.
 
-ghost use Rattle.std.specs.Prelude.{◌≡◌, IfOk, IfSome, if◌then◌else◌};
+ghost use Rattle.std.specs.Prelude.{◌≡◌, IfOk, true};
 ghost use Rattle.std.specs.Set.{ClonesAreEqual};
-ghost use Rattle.version_ranges.specs.Point.{Point};
-ghost use Rattle.version_ranges.specs.Cuts.{value_of};
-ghost use Rattle.version_ranges.specs.Ranges.{contains_point};
-ghost use Rattle.marker_diagrams.specs.Id.{opposite};
+ghost use Rattle.version_ranges.specs.Bounds.{IsCloned, all_bounds, all_cuts};
+ghost use Rattle.pep440_rs.specs.Intervals.{is_trimmed};
+ghost use Rattle.marker_comparisons.specs.Found.{HasChildExactlyIn, IfFound};
 
 use crate::questions::{asks_text, asks_version};
 use marker_nodes::{Branches, NodeId, NodeTable};
@@ -14,36 +13,44 @@ use pep440_version::Version;
 use std::alloc::{AllocError, Global};
 use version_ranges::{Cuts, Ranges};
 
+/// A set of versions whose bounds are without zeros at the ends of their releases.
+#[derive(Drop)]
+pub struct TrimmedRanges {
+    ranges: Ranges<Version>,
+    pub ghost trimmed: { all_bounds is_trimmed ranges ≡ true },
+}
+
 /// A set of the values of one variable. It is a condition on the variable that is in no table.
 #[derive(Drop)]
 pub enum ValueSet {
     /// Versions of a version variable
-    Versions(VersionVariable, Ranges<Version>),
+    Versions(VersionVariable, TrimmedRanges),
     /// Texts of a text variable
     Texts(TextVariable, Ranges<String>),
 }
 
 impl ValueSet {
     ghost use Rattle.std.specs.Prelude.{◌&&◌, ◌||◌};
-    ghost use Rattle.marker_environment.specs.Valuation.{Valuation};
     ghost use Rattle.marker_diagrams.specs.Diagram.{truth, IsHeld, IsStore, Keeps};
     ghost use Rattle.marker_nodes.specs.Node.{markers};
     ghost use Rattle.marker_comparisons.specs.Expression.{IsTruthOf};
-    ghost use Rattle.marker_comparisons.specs.ValueSet.{contains};
+    ghost use Rattle.marker_comparisons.specs.ValueSet.{IsSetOf, contains};
 
     /// Returns the values for which the id is true, or `None` if its node branches on no version or
     /// text, or has a child that is neither `TRUE` nor `FALSE`.
     pub fn of(nodes: &NodeTable, id: NodeId) -> Result<Option<Self>, AllocError>
         requires rules { IsStore markers nodes.now }
         requires id { IsHeld nodes.now id }
-        ensures { IfOk result (λ found. IfSome found
-            (λ set. (v : Valuation) → contains set v ≡ truth markers nodes.now id v)) }
+        ensures { IfFound result (IsSetOf (truth markers nodes.now id)) }
     {
         let inside = NodeId::TRUE.negate(id);
         match nodes.node(id) {
             Some(Branches::Version(variable, edges)) => {
                 match points_of(nodes.allocator(), edges, inside)? {
-                    Some(range) => Ok(Some(ValueSet::Versions(*variable, range))),
+                    Some(ranges) => {
+                        let ranges = TrimmedRanges { ranges };
+                        Ok(Some(ValueSet::Versions(*variable, ranges)))
+                    }
                     None => Ok(None),
                 }
             }
@@ -61,13 +68,12 @@ impl ValueSet {
     /// Returns the values that are in at least one of two sets, or `None` for sets of two
     /// variables.
     pub fn union(&self, alloc: Global, other: &Self) -> Result<Option<Self>, AllocError>
-        ensures { IfOk result (λ found. IfSome found (λ set. (v : Valuation)
-            → contains set v ≡ (contains self.now v || contains other.now v))) }
+        ensures { IfFound result (IsSetOf (λ v. contains self.now v || contains other.now v)) }
     {
         match (self, other) {
             (ValueSet::Versions(key, left), ValueSet::Versions(other, right)) if key == other => {
-                let range = left.union(alloc, right)?;
-                Ok(Some(ValueSet::Versions(*key, range)))
+                let ranges = left.ranges.union(alloc, &right.ranges)?;
+                Ok(Some(ValueSet::Versions(*key, TrimmedRanges { ranges })))
             }
             (ValueSet::Texts(key, left), ValueSet::Texts(other, right)) if key == other => {
                 let range = left.union(alloc, right)?;
@@ -79,13 +85,12 @@ impl ValueSet {
 
     /// Returns the values that are in both of two sets, or `None` for sets of two variables.
     pub fn intersection(&self, alloc: Global, other: &Self) -> Result<Option<Self>, AllocError>
-        ensures { IfOk result (λ found. IfSome found (λ set. (v : Valuation)
-            → contains set v ≡ (contains self.now v && contains other.now v))) }
+        ensures { IfFound result (IsSetOf (λ v. contains self.now v && contains other.now v)) }
     {
         match (self, other) {
             (ValueSet::Versions(key, left), ValueSet::Versions(other, right)) if key == other => {
-                let range = left.intersection(alloc, right)?;
-                Ok(Some(ValueSet::Versions(*key, range)))
+                let ranges = left.ranges.intersection(alloc, &right.ranges)?;
+                Ok(Some(ValueSet::Versions(*key, TrimmedRanges { ranges })))
             }
             (ValueSet::Texts(key, left), ValueSet::Texts(other, right)) if key == other => {
                 let range = left.intersection(alloc, right)?;
@@ -102,7 +107,7 @@ impl ValueSet {
         ensures asks { IfOk result (IsTruthOf nodes.new (contains self)) }
     {
         match self {
-            ValueSet::Versions(variable, range) => asks_version(nodes, variable, range),
+            ValueSet::Versions(variable, set) => asks_version(nodes, variable, set.ranges),
             ValueSet::Texts(variable, range) => asks_text(nodes, variable, range),
         }
     }
@@ -121,8 +126,8 @@ fn points_of<T: Ord + Clone>(
     inside: NodeId,
 ) -> Result<Option<Ranges<T>>, AllocError>
     requires clones { ClonesAreEqual T.eq T.is_clone }
-    ensures { IfOk result (λ r. IfSome r (λ s. (p : Point T) → value_of T.cmp edges.now p
-        ≡ (if contains_point T.cmp s p then inside else opposite inside))) }
+    ensures points { IfFound result (HasChildExactlyIn T.cmp edges.now inside) }
+    ensures bounds { IfFound result (λ set. IsCloned T.is_clone all_cuts edges.now all_bounds set) }
 {
     if has_nodes_below(edges) {
         return Ok(None);

@@ -59,3 +59,8 @@ pub record IsWellKept (c : Contents) : Type 0 where
   pub known : (a b t : NodeId) → lookup (same_pair (a, b)) c.memo ≡ Some t
       → diagram.IsHeld c.nodes a × (diagram.IsHeld c.nodes b × IsAnd c.nodes a b t)
   pub within : reach c.memo ≤ length c.nodes
+
+-- the id is the conjunction of two in all nodes that have them, if what is known is well kept there
+abbrev pub IsAndBy : Conjunctions → NodeId → NodeId → NodeId → Type 0
+IsAndBy conjunctions a b t = (nodes : List Node) → IsWellKept (contents nodes conjunctions)
+    → diagram.IsHeld nodes a → diagram.IsHeld nodes b → IsAnd nodes a b t

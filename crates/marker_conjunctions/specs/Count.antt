@@ -1,5 +1,5 @@
 -- Which conjunctions are computed, and how many.
-use Rattle.std.specs.Prelude.{◌≡◌, ℕ, ◌+◌, ◌≤◌, ◌<◌, true, List, [], ◌∷◌, is_some, if◌then◌else◌}
+use Rattle.std.specs.Prelude.{◌≡◌, ℕ, ◌+◌, ◌≤◌, ◌<◌, true, IsOk, List, [], ◌∷◌, Result, is_some, if◌then◌else◌}
 use Rattle.std.specs.List.{list_any}
 use Rattle.std.specs.Map.{lookup}
 use Rattle.marker_diagrams.specs.declared.node_id.NodeId.{NodeId}
@@ -7,7 +7,9 @@ use Rattle.marker_diagrams.specs.Id.{place_of}
 use Rattle.marker_diagrams.specs.Diagram as diagram
 use Rattle.marker_diagrams.specs.Residue.{IsSubtree}
 use Rattle.marker_nodes.specs.Node.{Node, markers}
-use Rattle.marker_conjunctions.specs.Contents.{Contents, same_pair}
+use Rattle.marker_conjunctions.specs.declared.conjunctions.Conjunctions.{Conjunctions}
+use Rattle.marker_conjunctions.specs.Contents.{Contents, contents, same_pair}
+use Rattle.marker_conjunctions.specs.Step.{IsKnown}
 
 -- how many of the pairs have no known conjunction
 abbrev pub unknown : List (NodeId × NodeId) → List ((NodeId × NodeId) × NodeId) → ℕ
@@ -35,3 +37,29 @@ abbrev pub IsCounted : Contents → Contents → NodeId → Type 0
 IsCounted old new t =
     (diagram.IsHeld old.nodes t → ⊥) → old.expansions < 18446744073709551615
     → old.expansions < new.expansions
+
+-- the count rises, unless it is at its maximum
+abbrev pub Rises : ℕ → ℕ → Type 0
+Rises old new = old < 18446744073709551615 → old < new
+
+-- nodes, and the conjunctions of their ids
+abbrev pub State : Type 0
+State = List Node × Conjunctions
+
+-- from one state to the other each conjunction that was counted made a pair of subtrees of a and b
+-- known, whose places are together at most as high as those of a and b
+abbrev pub SpendsWithin : State → State → NodeId → NodeId → Type 0
+SpendsWithin old new a b =
+    Spends (contents old.0 old.1) (contents new.0 new.1) (place_of a + place_of b + 1) a b
+
+-- an id that is new in the later state was counted, unless the count was at its maximum
+abbrev pub IsCountedIn : State → State → NodeId → Type 0
+IsCountedIn old new t = IsCounted (contents old.0 old.1) (contents new.0 new.1) t
+
+-- there is an answer, and nothing changed
+abbrev pub IsTold : {A E : Type 0} → Result A E → State → State → Type 0
+IsTold result old new = IsOk result × (contents new.0 new.1 ≡ contents old.0 old.1)
+
+-- so it is if the conjunction of the pair was known
+abbrev pub IsToldIfKnown : {A E : Type 0} → Result A E → State → State → NodeId × NodeId → Type 0
+IsToldIfKnown result old new p = IsKnown old.1.memo.entries p → IsTold result old new

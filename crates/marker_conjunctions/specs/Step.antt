@@ -1,5 +1,5 @@
 -- One step of a conjunction: which pairs of ids it waits for.
-use Rattle.std.specs.Prelude.{◌≡◌, ⊤, ◌+◌, ◌<◌, ◌⊎◌, ◌++◌, true, List, [], ◌∷◌, is_some}
+use Rattle.std.specs.Prelude.{◌≡◌, ⊤, ◌+◌, ◌<◌, ◌⊎◌, ◌++◌, true, IfSome, List, [], ◌∷◌, Option, is_some}
 use Rattle.std.specs.Map.{lookup}
 use Rattle.marker_diagrams.specs.declared.node_id.NodeId.{NodeId}
 use Rattle.marker_diagrams.specs.Id.{place_of}
@@ -60,3 +60,14 @@ pub record Waits (nodes : List Node) (a b : NodeId) (old new : List (NodeId × N
   pub more : List (NodeId × NodeId)
   pub added : new ≡ old ++ more
   pub pairs : ArePairs nodes a b more
+
+-- the same of a pair of ids
+abbrev pub WaitsFor : List Node → NodeId × NodeId → List (NodeId × NodeId) → List (NodeId × NodeId)
+    → Type 0
+WaitsFor nodes p old new = Waits nodes p.0 p.1 old new
+
+-- if a list has pairs of subtrees of a and b, so has what is left of it, and one was taken out
+abbrev pub TakesPair : List (NodeId × NodeId) → List (NodeId × NodeId) → Option (NodeId × NodeId)
+    → Type 0
+TakesPair old new taken = (nodes : List Node) (a b : NodeId) → ArePairs nodes a b old
+    → ArePairs nodes a b new × IfSome taken (IsPair nodes a b)

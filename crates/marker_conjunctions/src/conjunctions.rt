@@ -42,17 +42,17 @@ fn height(id: NodeId) -> u32
 }
 
 impl Conjunctions {
-    ghost use Rattle.std.specs.Prelude.{◌<◌, ◌≤◌, ◌+◌, [], IfNone, IfOk, IfSome, IsOk, List, OnOk, length, slice_index, take};
+    ghost use Rattle.std.specs.Prelude.{[], IfNone, IfOk, IfSome, OnOk, length, slice_index, take};
     ghost use Rattle.std.specs.HashMap.{hasher_of};
     ghost use Rattle.node_hasher.specs.Hash.{keyed};
     ghost use Rattle.marker_diagrams.specs.Diagram.{IsHeld, Keeps};
     ghost use Rattle.marker_nodes.specs.And.{IsAnd, IsShort};
-    ghost use Rattle.marker_nodes.specs.Node.{markers, Node};
+    ghost use Rattle.marker_nodes.specs.Node.{markers};
     ghost use Rattle.marker_conjunctions.specs.Branch.{Joins};
-    ghost use Rattle.marker_conjunctions.specs.Contents.{contents, nothing, IsKept, IsWellKept};
-    ghost use Rattle.marker_conjunctions.specs.Count.{IsCounted, Spends};
+    ghost use Rattle.marker_conjunctions.specs.Contents.{contents, nothing, IsAndBy, IsKept, IsWellKept};
+    ghost use Rattle.marker_conjunctions.specs.Count.{IsCountedIn, IsTold, IsToldIfKnown, Rises, SpendsWithin};
     ghost use Rattle.marker_conjunctions.specs.Reach.{first_within, reach};
-    ghost use Rattle.marker_conjunctions.specs.Step.{ArePairs, IsKnown, IsOpen, IsPair, IsSettled, IsStep, Remembers, Waits};
+    ghost use Rattle.marker_conjunctions.specs.Step.{IsKnown, IsOpen, IsPair, IsSettled, IsStep, Remembers, TakesPair, Waits, WaitsFor};
 
     /// Returns the state without any conjunction. It hashes by the fixed key.
     pub fn new(alloc: Global) -> Self
@@ -130,14 +130,10 @@ impl Conjunctions {
         ensures rules { IsWellKept (contents nodes.new self.new) }
         ensures kept { IsKept (contents nodes.old self.old) (contents nodes.new self.new) }
         ensures and { IfOk result (IsAnd nodes.new a b) }
-        ensures spends { Spends (contents nodes.old self.old) (contents nodes.new self.new)
-            (place_of a + place_of b + 1) a b }
-        ensures counted { IfOk result
-            (IsCounted (contents nodes.old self.old) (contents nodes.new self.new)) }
-        ensures short { IsShort a b → IsOk result
-            × (contents nodes.new self.new ≡ contents nodes.old self.old) }
-        ensures known { IsKnown self.old.memo.entries (a, b) → IsOk result
-            × (contents nodes.new self.new ≡ contents nodes.old self.old) }
+        ensures spends { SpendsWithin (nodes.old, self.old) (nodes.new, self.new) a b }
+        ensures counted { IfOk result (IsCountedIn (nodes.old, self.old) (nodes.new, self.new)) }
+        ensures short { IsShort a b → IsTold result (nodes.old, self.old) (nodes.new, self.new) }
+        ensures known { IsToldIfKnown result (nodes.old, self.old) (nodes.new, self.new) (a, b) }
         ensures settled { OnOk result (IsSettled self.new.memo.entries (a, b)) }
         ensures remembers { Remembers self.old.memo.entries self.new.memo.entries }
     {
@@ -166,8 +162,7 @@ impl Conjunctions {
     // The conjunction of two ids if it is known or needs no node.
     #[inline(always)]
     fn look_up(&self, a: NodeId, b: NodeId) -> Option<NodeId>
-        ensures and { IfSome result (λ t. (nodes : List Node) → IsWellKept (contents nodes self.now)
-            → IsHeld nodes a → IsHeld nodes b → IsAnd nodes a b t) }
+        ensures and { IfSome result (IsAndBy self.now a b) }
         ensures settled { IfSome result (λ t. IsSettled self.now.memo.entries (a, b)) }
         ensures unsettled { IfNone result (IsOpen self.now.memo.entries (a, b)) }
     {
@@ -180,8 +175,7 @@ impl Conjunctions {
     // The last pair of a list whose conjunction is not computed yet. Removes it and those above it.
     fn next_open(&self, pending: &mut Vec<(NodeId, NodeId)>) -> Option<(NodeId, NodeId)>
         ensures unsettled { IfSome result (IsOpen self.now.memo.entries) }
-        ensures pairs { (nodes : List Node) (a b : NodeId) → ArePairs nodes a b pending.old.items
-            → ArePairs nodes a b pending.new.items × IfSome result (IsPair nodes a b) }
+        ensures pairs { TakesPair pending.old.items pending.new.items result }
     {
         while let Some((left, right)) = pending.pop() {
             if let None = self.look_up(left, right) {
@@ -206,8 +200,7 @@ impl Conjunctions {
         ensures unsettled { IfOk result (λ r. IsOpen self.now.memo.entries r.0) }
         ensures pair { IfOk result (λ r. IsPair nodes.now first.0 first.1 r.0) }
         ensures joins { IfOk result (λ r. Joins nodes.now r.0.0 r.0.1 r.1) }
-        ensures waits { OnOk result
-            (Waits nodes.now first.0 first.1 pending.old.items pending.new.items) }
+        ensures waits { OnOk result (WaitsFor nodes.now first pending.old.items pending.new.items) }
     {
         let mut pair = first;
         loop {
@@ -275,10 +268,8 @@ impl Conjunctions {
         ensures and { IfOk result (IsAnd nodes.new a b) }
         ensures rules { IsWellKept (contents nodes.new self.new) }
         ensures kept { IsKept (contents nodes.old self.old) (contents nodes.new self.new) }
-        ensures spends { Spends (contents nodes.old self.old) (contents nodes.new self.new)
-            (place_of a + place_of b + 1) a b }
-        ensures counted { OnOk result (self.old.expansions < 18446744073709551615
-            → self.old.expansions < self.new.expansions) }
+        ensures spends { SpendsWithin (nodes.old, self.old) (nodes.new, self.new) a b }
+        ensures counted { OnOk result (Rises self.old.expansions self.new.expansions) }
         ensures known { OnOk result (IsKnown self.new.memo.entries (a, b)) }
         ensures remembers { Remembers self.old.memo.entries self.new.memo.entries }
     {

@@ -1,4 +1,5 @@
 pub mod Id
 pub mod Diagram
 pub mod Residue
+pub mod Laws
 pub mod Word

@@ -1,15 +1,15 @@
 -- The edges of a marker, and what its truth says of them.
-use Rattle.std.proofs.Common.{◌≡◌, ◌≢◌, ℕ, ◌+◌, ◌<◌, ◌≤◌, Bool, true, false, not, cond, List, [], ◌∷◌, length, map, Option, Some, None, refl, sym, ap, ◌∙◌, subst, arith, string_bytes}
+use Rattle.std.proofs.Common.{◌≡◌, ◌≢◌, ℕ, ◌+◌, ◌<◌, ◌≤◌, Bool, true, false, cond, List, [], ◌∷◌, length, map, Option, Some, None, refl, sym, ap, ◌∙◌, subst, arith, string_bytes}
 use Rattle.std.specs.Prelude.{slice_get, String}
 use Rattle.std.specs.Global.{Global}
 use Rattle.std.specs.Option.{option_map}
-use Rattle.std.specs.Ordering.{is_eq, is_lt, ordering_reverse}
+use Rattle.std.specs.Ordering.{ordering_reverse}
 use Rattle.std.specs.declared.cmp.Ordering.{Ordering}
 use Rattle.std.specs.declared.cmp.Ordering.TheVariants.{Less, Equal, Greater}
 use Rattle.std.proofs.lemmas.Cmp.{tied_itself}
 use Rattle.std.proofs.lemmas.Option.{slice_get-map}
 use Rattle.version_ranges.specs.declared.cuts.Cuts.{Cuts}
-use Rattle.version_ranges.specs.Point.{Point, point_cmp}
+use Rattle.version_ranges.specs.Point.{Point}
 use Rattle.version_ranges.specs.Parts.{Part, parts_of, IsIn}
 use Rattle.version_ranges.specs.Cuts.{piece_by, piece_of, value_by, value_of}
 use Rattle.version_ranges.proofs.PartLaws.{are_pieces}
@@ -23,7 +23,6 @@ use Rattle.marker_environment.specs.Valuation.{Valuation}
 use Rattle.marker_diagrams.specs.declared.node_id.NodeId.{NodeId}
 use Rattle.marker_diagrams.specs.declared.node_id.TheConstants.NodeId as id_constants
 use Rattle.marker_diagrams.specs.Id.{place_of, is_negated, signed_id}
-use Rattle.marker_diagrams.specs.Diagram as diagram
 use Rattle.marker_diagrams.specs.Diagram.{IsAfter, IsStore}
 use Rattle.marker_diagrams.specs.Residue.{itself, child}
 use Rattle.marker_diagrams.proofs.IdLaws.{one_id, signed_id_back}
@@ -37,7 +36,7 @@ use Rattle.marker_nodes.specs.Variable.{Variable, answer, of_text, of_version, t
 use Rattle.marker_nodes.specs.Branches.{piece, value_at, variable}
 use Rattle.marker_nodes.specs.Node.{Node, markers, lowest}
 use Rattle.marker_nodes.proofs.VariableLaws.{variable_total}
-use Rattle.marker_nodes.proofs.NodeLaws.{lawful, at_text, at_version, denied, answer_denied, answer_lowest, high_picked, low_picked}
+use Rattle.marker_nodes.proofs.NodeLaws.{lawful, at_text, at_version, denied, answer_denied, answer_lowest}
 use Rattle.marker_nodes.proofs.BranchLaws.{children_differ}
 use Rattle.marker_graph.specs.declared.tree.MarkerTree.{MarkerTree}
 use Rattle.marker_graph.specs.declared.tree.TheConstants.MarkerTree.{TRUE, FALSE}
@@ -46,7 +45,7 @@ use Rattle.marker_graph.specs.declared.kind.MarkerTreeKind.TheVariants as kinds
 use Rattle.marker_graph.specs.Contents.{Contents, IsHeld, truth}
 use Rattle.marker_graph.specs.Tree.{node_of, DependsOn}
 use Rattle.marker_graph.specs.Edges.{by_bytes, child_of, under}
-use Rattle.marker_graph.specs.Kind.{extra_question, string_edges, version_edges, AreBooleanEdges, AreEdges, AreItsEdges, AsksForTruth, IsBehind, IsFirstVariable, IsFixed, IsKind, IsKindOfTruth}
+use Rattle.marker_graph.specs.Kind.{extra_question, AreBooleanEdges, AreEdges, AreItsEdges, AsksForTruth, IsBehind, IsFirstVariable, IsFixed, IsKind, IsKindOfTruth}
 use Rattle.marker_graph.proofs.TextParts.{ArePartsOf, text_parts}
 
 -- ---- constants

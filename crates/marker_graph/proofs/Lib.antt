@@ -1,3 +1,4 @@
+pub mod BoundLaws
 pub mod CountLaws
 pub mod KeptLaws
 pub mod KindLaws

@@ -1,19 +1,16 @@
 -- The subtrees of a marker are those that its kind shows.
-use Rattle.std.proofs.Common.{◌≡◌, ◌⊎◌, inl, inr, ℕ, Bool, true, false, cond, List, map, Some, refl, sym, ap, ◌∙◌, subst, arith, string_bytes}
+use Rattle.std.proofs.Common.{◌≡◌, ◌⊎◌, inl, inr, Bool, true, false, cond, map, Some, refl, sym, ap, ◌∙◌, subst, arith, string_bytes}
 use Rattle.std.specs.Prelude.{slice_get}
 use Rattle.std.specs.Option.{option_map}
 use Rattle.std.proofs.lemmas.Option.{slice_get-map}
 use Rattle.version_ranges.specs.Cuts.{piece_by, piece_of}
-use Rattle.version_ranges.specs.Parts.{Part, parts_of}
+use Rattle.version_ranges.specs.Parts.{parts_of}
 use Rattle.version_ranges.proofs.PartLaws.{are_pieces}
-use Rattle.pep440_version.specs.Parts.{Parts}
 use Rattle.pep440_version.specs.Order.{version_cmp}
 use Rattle.pep440_version.specs.OrderLaws.{version_total}
 use Rattle.marker_words.specs.Compare.{text_cmp}
 use Rattle.marker_environment.specs.Valuation.{Valuation}
 use Rattle.marker_diagrams.specs.declared.node_id.NodeId.{NodeId}
-use Rattle.marker_diagrams.specs.Id.{is_negated, signed_id}
-use Rattle.marker_diagrams.specs.Diagram as diagram
 use Rattle.marker_diagrams.specs.Diagram.{IsStore}
 use Rattle.marker_diagrams.specs.Residue as residue
 use Rattle.marker_diagrams.proofs.ResidueLaws.{subtree_both}
@@ -29,7 +26,7 @@ use Rattle.marker_graph.specs.declared.kind.MarkerValueExtraRef.TheVariants as e
 use Rattle.marker_graph.specs.declared.tree.MarkerTree.{MarkerTree}
 use Rattle.marker_graph.specs.Contents.{Contents, IsHeld}
 use Rattle.marker_graph.specs.Edges.{by_bytes, child_of, under}
-use Rattle.marker_graph.specs.Kind.{version_edges, string_edges, AreItsEdges, IsBehind, IsKind, IsShown, LeadsTo, edge, itself}
+use Rattle.marker_graph.specs.Kind.{IsKind, IsShown, LeadsTo, edge, itself}
 use Rattle.marker_graph.specs.Tree.{node_of, IsSubtree}
 use Rattle.marker_graph.proofs.KindLaws.{edges_of_kind, under_bytes}
 use Rattle.marker_graph.proofs.SubtreeLaws.{subtree_held}

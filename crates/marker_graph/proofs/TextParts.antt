@@ -1,5 +1,5 @@
 -- The pieces of a function of texts, with the bytes of the texts.
-use Rattle.std.proofs.Common.{◌≡◌, ℕ, suc, ◌<◌, Bool, true, false, cond, List, [], ◌∷◌, map, ◌&&◌, length, string_bytes, vec_len, Some, None, refl, sym, ap, ◌∙◌, subst, arith}
+use Rattle.std.proofs.Common.{◌≡◌, ℕ, suc, ◌<◌, Bool, true, false, cond, List, [], ◌∷◌, map, ◌&&◌, length, string_bytes, vec_len, Some, None, refl, sym, ap, ◌∙◌, subst}
 use Rattle.std.specs.Prelude.{slice_get, String}
 use Rattle.std.specs.Global.{Global}
 use Rattle.std.specs.Option.{option_map}
@@ -15,7 +15,7 @@ use Rattle.version_ranges.specs.declared.cuts.Cuts.{Cuts}
 use Rattle.version_ranges.specs.Point.{Point, point_cmp, point_map}
 use Rattle.version_ranges.specs.Cut.{cut_cmp, lower_of, upper_of, stands_before}
 use Rattle.version_ranges.specs.Steps.{ascends, is_before, piece_at, value_at}
-use Rattle.version_ranges.specs.Cuts.{piece_by, piece_of, value_by}
+use Rattle.version_ranges.specs.Cuts.{piece_by, value_by}
 use Rattle.version_ranges.specs.Parts.{Part, parts_from, parts_of, IsIn, ArePieces}
 use Rattle.version_ranges.proofs.PartLaws.{are_pieces, between, bottom_from, part_apart, part_covers, parted_less}
 use Rattle.version_ranges.proofs.Elsewhere.{piece_by_name}

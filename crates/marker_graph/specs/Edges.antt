@@ -1,5 +1,5 @@
 -- Edges of markers: bounds and subtrees.
-use Rattle.std.specs.Prelude.{ℕ, Bool, true, false, List, [], ◌∷◌, ◌++◌, map, Option, String, string_bytes}
+use Rattle.std.specs.Prelude.{ℕ, Bool, true, false, List, ◌++◌, map, String, string_bytes}
 use Rattle.std.specs.Option.{option_map, option_to_list}
 use Rattle.std.specs.Global.{Global}
 use Rattle.std.specs.Borrow.{Bor}
@@ -7,7 +7,6 @@ use Rattle.std.specs.Range.Bound.{bound_map}
 use Rattle.std.specs.declared.ops.Bound.{Bound}
 use Rattle.version_ranges.specs.Parts.{Part, parts_left}
 use Rattle.pep440_version.specs.Parts.{Parts}
-use Rattle.marker_words.specs.Compare.{text_bound}
 use Rattle.marker_diagrams.specs.declared.node_id.NodeId.{NodeId}
 use Rattle.marker_diagrams.specs.Id.{is_negated, signed_id}
 use Rattle.marker_graph.specs.declared.tree.MarkerTree.{MarkerTree}

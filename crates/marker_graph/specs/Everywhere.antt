@@ -1,6 +1,6 @@
 -- What is true of every interner that keeps the rules, of the markers that it holds, and as it
 -- grows.
-use Rattle.std.specs.Prelude.{◌≡◌, ◌<◌, ◌≤◌, ◌+◌, ◌*◌, ℕ, Bool, false, List, [], ◌∷◌, Some, length}
+use Rattle.std.specs.Prelude.{◌≡◌, ◌<◌, ◌≤◌, ◌+◌, ◌*◌, Bool, false, List, [], ◌∷◌, Some, length}
 use Rattle.std.specs.Ordering.{is_lt}
 use Rattle.marker_environment.specs.Valuation.{Valuation}
 use Rattle.marker_diagrams.specs.Diagram.{IsStore}
@@ -8,7 +8,7 @@ use Rattle.marker_nodes.specs.Node.{Node, markers}
 use Rattle.marker_nodes.specs.Variable.{Variable, variable_cmp}
 use Rattle.marker_graph.specs.declared.tree.MarkerTree.{MarkerTree}
 use Rattle.marker_graph.specs.declared.tree.TheConstants.MarkerTree.{TRUE, FALSE}
-use Rattle.marker_graph.specs.Contents.{Contents, IsHeld, IsKept, truth}
+use Rattle.marker_graph.specs.Contents.{Contents, IsHeld, IsKept}
 use Rattle.marker_graph.specs.Tree.{DependsOn, HasExactly, HasSubtrees, IsMarkerOf, IsSubtree, node_of}
 
 -- in each interner
@@ -45,10 +45,13 @@ Associates Joins = InEach (λ c. (x y z xy yz t u : MarkerTree) → Joins c x y 
 abbrev pub IsIdempotent : (Contents → MarkerTree → MarkerTree → MarkerTree → Type 0) → Type 0
 IsIdempotent Joins = InEach (λ c. (a t : MarkerTree) → IsHeld c a → Joins c a a t → t ≡ a)
 
+-- the truth depends on no variable before this one
+abbrev pub DependsOnNoneBefore : (Valuation → Bool) → Variable → Type 0
+DependsOnNoneBefore f x = (y : Variable) → DependsOn f y → is_lt (variable_cmp y x) ≡ false
+
 -- the truth depends on the variable, and on none before it
 abbrev pub DependsFirstOn : (Valuation → Bool) → Variable → Type 0
-DependsFirstOn f x = DependsOn f x
-    × ((y : Variable) → DependsOn f y → is_lt (variable_cmp y x) ≡ false)
+DependsFirstOn f x = DependsOn f x × DependsOnNoneBefore f x
 
 -- the marker of the truth has exactly three subtrees: itself, `TRUE` and `FALSE`
 abbrev pub HasThreeSubtrees : Contents → (Valuation → Bool) → Type 0

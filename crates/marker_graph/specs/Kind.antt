@@ -1,12 +1,15 @@
 -- The variable on which a marker branches, and what its edges mean.
-use Rattle.std.specs.Prelude.{◌≡◌, ◌≢◌, ◌⊎◌, ℕ, ◌+◌, ◌<◌, ⊤, Bool, true, false, List, [], ◌∷◌, map, Some, slice_get}
+use Rattle.std.specs.Prelude.{◌≡◌, ◌≢◌, ◌⊎◌, ℕ, ◌+◌, ◌<◌, ⊤, Bool, true, false, ◌&&◌, List, [], ◌∷◌, map, Some, slice_get}
+use Rattle.std.specs.List.{list_all}
 use Rattle.std.specs.Ordering.{is_lt}
 use Rattle.std.specs.declared.cmp.Ordering.{Ordering}
 use Rattle.std.specs.declared.cmp.Ordering.TheVariants.{Less}
+use Rattle.version_ranges.specs.Bounds.{passes_at}
 use Rattle.version_ranges.specs.Point.{Point, point_cmp}
 use Rattle.version_ranges.specs.Parts.{Part, parts_of, IsIn}
 use Rattle.pep440_version.specs.Parts.{Parts}
 use Rattle.pep440_version.specs.Order.{version_cmp}
+use Rattle.pep440_rs.specs.Intervals.{is_trimmed}
 use Rattle.marker_words.specs.Compare.{text_cmp}
 use Rattle.marker_words.specs.declared.key.MarkerValueString.{MarkerValueString}
 use Rattle.marker_words.specs.declared.key.MarkerValueString.TheVariants as keys
@@ -54,6 +57,15 @@ string_edges view = map (λ p. by_bytes (under view.tree p)) (parts_of view.cuts
 
 abbrev pub boolean_edges : MarkerTree → MarkerTree → List (Bool × MarkerTree)
 boolean_edges high low = (true, high) ∷ (false, low) ∷ []
+
+-- whether both bounds of an edge are written without zeros at the end of their releases
+abbrev pub has_trimmed_bounds : Part Parts MarkerTree → Bool
+has_trimmed_bounds edge = passes_at is_trimmed edge.lower && passes_at is_trimmed edge.upper
+
+-- so are those of all edges, if the marker branches on a version
+abbrev pub HasTrimmedEdges : MarkerTreeKind → Type 0
+HasTrimmedEdges (Version view) = list_all has_trimmed_bounds (version_edges view) ≡ true
+HasTrimmedEdges other = ⊤
 
 -- the variable of `extra` and a name or text
 abbrev pub extra_question : MarkerValueExtraRef → TruthVariable

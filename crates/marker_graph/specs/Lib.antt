@@ -1,11 +1,14 @@
 pub mod Contents
 pub mod Tree
+pub mod Meaning
+pub mod Evaluation
 pub mod Extras
 pub mod Ranged
 pub mod Edges
 pub mod Kind
 pub mod ContentsTree
 pub mod Everywhere
+pub mod Laws
 -- what the crates below say of truths over valuations
 pub use Rattle.marker_comparisons.specs.Expression
 pub use Rattle.marker_walks.specs.Possible

@@ -2,10 +2,6 @@
 
 ghost use Rattle.std.specs.Prelude.{◌≡◌, ◌↔◌, ◌<◌, ◌≤◌, ◌+◌, false, IfErr, IfOk, IsOk, IsTrue, OnOk};
 ghost use Rattle.std.specs.Fn.{FnReturnsAt};
-ghost use Rattle.version_ranges.specs.Point.{Point};
-ghost use Rattle.version_ranges.specs.Clamp.{IsBetween, bound_of};
-ghost use Rattle.pep440_version.specs.Parts.{Parts};
-ghost use Rattle.pep440_version.specs.Order.{version_cmp};
 ghost use Rattle.marker_parts.specs.Expression.{Overflows, holds, test_of};
 ghost use Rattle.marker_diagrams.specs.Diagram as diagram;
 ghost use Rattle.marker_diagrams.specs.Diagram.{IsStore};
@@ -18,10 +14,10 @@ ghost use Rattle.marker_conjunctions.specs.Contents.{nothing, IsKept, IsWellKept
 ghost use Rattle.marker_conjunctions.specs.Count.{IsCounted, Spends};
 ghost use Rattle.marker_conjunctions.specs.Step.{IsKnown, IsSettled, Remembers};
 ghost use Rattle.marker_comparisons.specs.Expression.{IsInvalid, IsTruthOf, IsUnmade};
-ghost use Rattle.marker_simplifications.specs.Python.{is_python_in};
-ghost use Rattle.marker_simplifications.specs.Simplified.{IsAssumed, IsGranted};
-ghost use Rattle.marker_graph.specs.Contents.{Contents, HasOnlyNodes, HoldsTheSame, IsHeld, Separated};
-ghost use Rattle.marker_graph.specs.Mark.{IsMarkOf, released};
+ghost use Rattle.marker_simplifications.specs.Simplified.{IsGranted};
+ghost use Rattle.marker_graph.specs.Contents.{HasOnlyNodes, IsHeld, Separated};
+ghost use Rattle.marker_graph.specs.Mark.{HoldsUpTo, IsMarkOf, Restores, released};
+ghost use Rattle.marker_graph.specs.Ranged.{HasPoint, IsAssumedIn, IsIdOfRange};
 
 use crate::mark::Mark;
 use crate::tree::MarkerTree;
@@ -150,10 +146,8 @@ impl Interner {
     pub fn release(&mut self, mark: Mark)
         ensures released { self.new ≡ released mark self.old }
         ensures kept { IsKept self.new self.old }
-        ensures held { (t : MarkerTree) → IsHeld self.new t
-            ↔ (IsHeld self.old t × (place_of t.id ≤ mark.nodes)) }
-        ensures undone { (c : Contents) → IsMarkOf c mark → IsKept c self.old
-            → HoldsTheSame c self.new }
+        ensures held { HoldsUpTo mark self.old self.new }
+        ensures undone { Restores mark self.old self.new }
     {
         self.nodes.truncate(mark.nodes);
         self.conjunctions.truncate(mark.known, mark.nodes);
@@ -259,8 +253,7 @@ impl Interner {
     ) -> Result<NodeId, AllocError>
         ensures kept { IsKept self.old self.new }
         ensures conjunctions { HasOnlyNodes self.old self.new }
-        ensures asks { IfOk result (IsTruthOf self.new.nodes
-            (is_python_in (bound_of lower.entry) (bound_of upper.entry))) }
+        ensures asks { IfOk result (IsIdOfRange self.new.nodes lower.entry upper.entry) }
     {
         python_range(&mut self.nodes, lower, upper)
     }
@@ -273,12 +266,10 @@ impl Interner {
         upper: Bound<&Version>,
     ) -> Result<NodeId, AllocError>
         requires held { diagram.IsHeld self.old.nodes id }
-        requires point { (p : Point Parts)
-            × IsBetween version_cmp (bound_of lower) (bound_of upper) p }
+        requires point { HasPoint lower upper }
         ensures kept { IsKept self.old self.new }
         ensures conjunctions { HasOnlyNodes self.old self.new }
-        ensures assumed { IfOk result
-            (IsAssumed self.new.nodes (bound_of lower.entry) (bound_of upper.entry) id) }
+        ensures assumed { IfOk result (IsAssumedIn self.new.nodes lower.entry upper.entry id) }
     {
         assume_python_range(&mut self.nodes, id, lower, upper)
     }

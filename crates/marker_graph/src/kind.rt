@@ -4,7 +4,7 @@ ghost use Rattle.std.specs.Prelude.{◌≡◌, [], ◌∷◌, true, false, if◌
 ghost use Rattle.marker_words.specs.Key.{version_variable_key};
 ghost use Rattle.marker_graph.specs.Contents.{IsHeld};
 ghost use Rattle.marker_graph.specs.Edges.{child_of, boolean_edges_left, string_edges_left, version_edges_left};
-ghost use Rattle.marker_graph.specs.Kind.{boolean_edges, modern_key, string_edges, version_edges, AreItsEdges, IsKind, IsKindOfTruth};
+ghost use Rattle.marker_graph.specs.Kind.{boolean_edges, modern_key, string_edges, version_edges, AreItsEdges, HasTrimmedEdges, IsKind, IsKindOfTruth};
 
 use crate::edges::{BooleanEdges, StringEdges, VersionEdges};
 use crate::interner::Interner;
@@ -272,11 +272,13 @@ impl MarkerTree {
     /// It is the first variable on which the marker's truth depends. The ranges of the edges are
     /// not empty, ascend, are disjoint and cover all values. Each subtree is the marker's truth
     /// with the variable fixed in the range, and depends only on later variables. Neighboring edges
-    /// have different subtrees.
+    /// have different subtrees. The bounds of versions are without zeros at the ends of their
+    /// releases.
     pub fn kind(self, interner: &Interner) -> MarkerTreeKind<'_>
         requires { IsHeld interner.now self }
         ensures shows { IsKind interner.now self result }
         ensures edges { AreItsEdges interner.now self result }
+        ensures trimmed { HasTrimmedEdges result }
     {
         match interner.nodes.node(self.id) {
             None => {

@@ -1,10 +1,10 @@
 //! Sets of the values of one variable as markers.
 
-ghost use Rattle.std.specs.Prelude.{◌≡◌, IfOk, IfSome};
-ghost use Rattle.marker_environment.specs.Valuation.{Valuation};
+ghost use Rattle.std.specs.Prelude.{IfOk, IfSome};
 ghost use Rattle.marker_comparisons.specs.Expression.{IsTruthOf};
 ghost use Rattle.marker_comparisons.specs.ValueSet.{contains};
-ghost use Rattle.marker_graph.specs.Contents.{HasOnlyNodes, IsHeld, IsKept, truth};
+ghost use Rattle.marker_graph.specs.Contents.{HasOnlyNodes, IsHeld, IsKept};
+ghost use Rattle.marker_graph.specs.Meaning.{IsSetOf, IsTrueWhere};
 
 use crate::interner::Interner;
 use crate::tree::MarkerTree;
@@ -28,8 +28,7 @@ impl MarkerTree {
     /// text, or has a subtree that is neither true everywhere nor false everywhere.
     pub fn value_set(self, interner: &Interner) -> Result<Option<ValueSet>, AllocError>
         requires { IsHeld interner.now self }
-        ensures { IfOk result (λ found. IfSome found
-            (λ set. (v : Valuation) → contains set v ≡ truth interner.now self v)) }
+        ensures { IfOk result (λ found. IfSome found (IsSetOf interner.now self)) }
     {
         ValueSet::of(&interner.nodes, self.id)
     }
@@ -39,8 +38,7 @@ impl MarkerTree {
         ensures kept { IsKept interner.old interner.new }
         ensures conjunctions { HasOnlyNodes interner.old interner.new }
         ensures held { IfOk result (IsHeld interner.new) }
-        ensures means { IfOk result (λ t. (v : Valuation)
-            → truth interner.new t v ≡ contains set v) }
+        ensures means { IfOk result (IsTrueWhere interner.new (contains set)) }
     {
         let id = interner.place_set(set)?;
         Ok(MarkerTree { id })

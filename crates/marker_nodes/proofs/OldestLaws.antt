@@ -9,7 +9,8 @@ use Rattle.marker_diagrams.proofs.NodeLaws.{same_some, node_bounds, node_kept, n
 use Rattle.marker_diagrams.proofs.KeyLaws.{newest}
 use Rattle.marker_nodes.specs.Branches.{count, value_at as pick}
 use Rattle.marker_nodes.specs.Node.{Node, markers}
-use Rattle.marker_nodes.specs.Table.{HasRoom, oldest, pieces_of}
+use Rattle.marker_nodes.specs.Table.{AreTrimmed, HasRoom, oldest, pieces_of}
+use Rattle.marker_nodes.proofs.TrimLaws.{trimmed_older}
 
 -- a store without its newest node is a store
 pub store_older : (n : Node) (older : List Node) → IsStore markers (n ∷ older) → IsStore markers older
@@ -87,6 +88,7 @@ module _ (keys all new : List Node) (n : Node) (k : ℕ) (popped : keys ≡ new 
     pub popped_room : HasRoom (reverse new) (pieces - count n) room
     popped_room = record {
       rules = store_older n (reverse new) (subst (IsStore markers) turned h.rules);
+      trimmed = trimmed_older n (reverse new) (subst AreTrimmed turned h.trimmed);
       counted = let e : pieces ≡ count n + pieces_of (reverse new) = pieces_are in omega (arith, e);
       fits = let f = h.fits in omega (arith, f);
       named = h.named;

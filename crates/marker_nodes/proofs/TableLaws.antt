@@ -19,12 +19,13 @@ use Rattle.marker_diagrams.proofs.StoreLaws.{store_more, id_of_same}
 use Rattle.marker_diagrams.proofs.ChoiceLaws.{children_signed, children_same, choice_same, choice_signed, choice_constant}
 use Rattle.marker_diagrams.proofs.KeyLaws.{get_last, node_is, key_of, newest}
 use Rattle.marker_nodes.specs.declared.node.Branches.TheVariants.{Version, Text, Truth}
-use Rattle.marker_nodes.specs.Branches.{count, piece, variable, value_at as pick}
+use Rattle.marker_nodes.specs.Branches.{count, has_trimmed_cuts, piece, variable, value_at as pick}
 use Rattle.marker_nodes.specs.Variable.{Variable}
 use Rattle.marker_nodes.specs.Node.{Node, markers, is_constant, is_joined, is_reduced, child_at, listed_child, lowest}
-use Rattle.marker_nodes.specs.Table.{HasRoom, pieces_of}
+use Rattle.marker_nodes.specs.Table.{AreTrimmed, HasRoom, pieces_of}
 use Rattle.marker_nodes.proofs.BranchLaws.{piece_within, constant_everywhere}
 use Rattle.marker_nodes.proofs.NodeLaws.{lawful}
+use Rattle.marker_nodes.proofs.TrimLaws.{trimmed_new}
 use Rattle.marker_nodes.proofs.EqualNodes.{node_eq, equal_same, unequal_other}
 
 or_first : (a b : Bool) → (a || b) ≡ false → a ≡ false
@@ -90,14 +91,20 @@ module _ (keys nodes new : List Node) (n : Node) (w : IsStore markers (reverse k
   fits_by_test false pieces room added e l (inr h) = omega (arith, e, l, h)
 
   -- the pieces of a node that is new are counted, if there was room for them
-  pub insert_room : (pieces room added : ℕ) (is_new : Bool) → HasRoom (reverse keys) pieces room → is_new ≡ not (list_any (node_eq n) keys) → ((is_new ≡ true) × (added ≡ count n)) ⊎ ((is_new ≡ false) × (added ≡ 0)) →
+  pub insert_room : (pieces room added : ℕ) (is_new : Bool) → HasRoom (reverse keys) pieces room → has_trimmed_cuts n ≡ true → is_new ≡ not (list_any (node_eq n) keys) → ((is_new ≡ true) × (added ≡ count n)) ⊎ ((is_new ≡ false) × (added ≡ 0)) →
       (list_any (node_eq n) keys ≡ true) ⊎ (count n ≤ room - pieces) → HasRoom (reverse new) (pieces + added) room
-  insert_room pieces room added is_new h e counts stands =
+  insert_room pieces room added is_new h t e counts stands =
       let old : Bool = list_any (node_eq n) keys in
       let more : added ≡ cond old 0 (count n) = added_by_test old is_new added e counts in
       let now : pieces_of (reverse new) ≡ cond old 0 (count n) + pieces_of (reverse keys) = ap (λ (l : List Node). pieces_of (reverse l)) new_is ∙ pieces_by old in
       let before : pieces ≡ pieces_of (reverse keys) = h.counted in
-      record { rules = insert_store; counted = omega (arith, now, before, more); fits = fits_by_test old pieces room added more h.fits stands; named = h.named }
+      record {
+        rules = insert_store;
+        trimmed = subst (λ (l : List Node). AreTrimmed (reverse l)) (sym new_is) (trimmed_new keys n old t h.trimmed);
+        counted = omega (arith, now, before, more);
+        fits = fits_by_test old pieces room added more h.fits stands;
+        named = h.named;
+      }
 
   keeps_by : (b : Bool) → Keeps markers (reverse keys) (reverse (cond b keys (keys ++ n ∷ [])))
   keeps_by true = keeps_itself markers (reverse keys)

@@ -16,6 +16,10 @@ pub record IsAnd (nodes : List Node) (a b t : NodeId) : Type 0 where
   pub after : (x : Variable) → IsAfter markers nodes x a → IsAfter markers nodes x b
       → IsAfter markers nodes x t
 
+-- so it is in each list of nodes that has the two
+abbrev pub IsAndEverywhere : NodeId → NodeId → NodeId → Type 0
+IsAndEverywhere a b t = (nodes : List Node) → IsHeld nodes a → IsHeld nodes b → IsAnd nodes a b t
+
 abbrev pub IsConstant : NodeId → Type 0
 IsConstant t = (t ≡ TRUE) ⊎ (t ≡ FALSE)
 

@@ -2,7 +2,7 @@
 
 ghost use Rattle.std.specs.Prelude.{◌≡◌, true};
 ghost use Rattle.marker_diagrams.specs.Id.{is_negated, signed_id};
-ghost use Rattle.marker_nodes.specs.Branches.{value_at};
+ghost use Rattle.marker_nodes.specs.Branches.{has_trimmed_cuts, value_at};
 ghost use Rattle.marker_nodes.specs.Node.{is_joined, lowest};
 
 use crate::node::Node;
@@ -17,5 +17,6 @@ pub struct Choice {
     // The children, each negated if the first one is a negation.
     pub(crate) node: Node,
     pub ghost joined: { is_joined node ≡ true },
+    pub ghost trimmed: { has_trimmed_cuts node ≡ true },
     pub ghost leading: { value_at node lowest ≡ signed_id (is_negated first) first },
 }

@@ -1,18 +1,15 @@
 //! The conjunctions that need no node.
 
-ghost use Rattle.std.specs.Prelude.{◌<◌, IfNone, IfSome, List};
-ghost use Rattle.marker_diagrams.specs.Diagram.{IsHeld};
+ghost use Rattle.std.specs.Prelude.{◌<◌, IfNone, IfSome};
 ghost use Rattle.marker_diagrams.specs.Id.{place_of};
-ghost use Rattle.marker_nodes.specs.Node.{Node};
-ghost use Rattle.marker_nodes.specs.And.{IsAnd, IsShort};
+ghost use Rattle.marker_nodes.specs.And.{IsAndEverywhere, IsShort};
 
 use marker_diagrams::NodeId;
 
 /// Returns the conjunction of two ids if it needs no node: if one is a constant, both are equal, or
 /// one is the negation of the other.
 pub fn short_cut(a: NodeId, b: NodeId) -> Option<NodeId>
-    ensures short { IfSome result (λ t. (nodes : List Node) → IsHeld nodes a → IsHeld nodes b
-        → IsAnd nodes a b t) }
+    ensures short { IfSome result (IsAndEverywhere a b) }
     ensures needless { IfSome result (λ t. IsShort a b) }
     ensures nodes { IfNone result ((0 < place_of a) × (0 < place_of b)) }
     ensures other { IfNone result (IsShort a b → ⊥) }

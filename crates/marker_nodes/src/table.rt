@@ -1,11 +1,12 @@
 //! A table of nodes.
 
-ghost use Rattle.std.specs.Prelude.{◌≡◌, ◌↔◌, ◌<◌, ◌≤◌, [], false, true, length, IfOk, IsTrue, OnErr};
+ghost use Rattle.std.specs.Prelude.{◌≡◌, ◌↔◌, ◌<◌, ◌≤◌, [], false, true, length, IfOk, IfSome, IsTrue, OnErr};
 ghost use Rattle.std.specs.Option.{option_copied};
 ghost use Rattle.marker_diagrams.specs.Diagram.{node_of, IsHeld, truth, Separated, AreChildren, IsReady, IsStore, Keeps, IsChoice};
-ghost use Rattle.marker_nodes.specs.Branches.{count, value_at, variable};
+ghost use Rattle.marker_nodes.specs.Branches.{count, has_trimmed_cuts, value_at, variable};
 ghost use Rattle.marker_nodes.specs.Choice.{asked, chosen};
-ghost use Rattle.marker_nodes.specs.Node.{is_joined, listed_child, lowest, markers};
+ghost use Rattle.marker_nodes.specs.Listed.{HasChildrenFor, IsPlacedAs};
+ghost use Rattle.marker_nodes.specs.Node.{is_joined, lowest, markers};
 ghost use Rattle.marker_nodes.specs.Table.{oldest, pieces_of};
 
 use crate::choice::Choice;
@@ -147,7 +148,8 @@ impl NodeTable {
     /// Returns the node of the id, or `None` for `TRUE`, `FALSE` and an id that the table does not
     /// hold.
     pub fn node(&self, id: NodeId) -> Option<&Node>
-        ensures { option_copied result ≡ node_of self.now id }
+        ensures node { option_copied result ≡ node_of self.now id }
+        ensures trimmed { IfSome result (λ node. has_trimmed_cuts node.now ≡ true) }
     {
         match id.index() {
             Some(index) => self.nodes.get_index(index),
@@ -178,10 +180,9 @@ impl NodeTable {
         children: Children,
     ) -> Result<NodeId, AllocError>
         requires count { length children.items ≡ count branches }
-        requires children { AreChildren markers self.old (variable branches)
-            (listed_child branches children.items) }
-        ensures id { IfOk result (IsChoice markers self.new (variable branches)
-            (listed_child branches children.items)) }
+        requires children { HasChildrenFor self.old branches children.items }
+        requires trimmed { has_trimmed_cuts branches ≡ true }
+        ensures id { IfOk result (IsPlacedAs self.new branches children.items) }
         ensures rules { IsStore markers self.old → IsStore markers self.new }
         ensures added { IfOk result (λ id. IsHeld self.old id → self.new ≡ self.old) }
         ensures refused { OnErr result (self.new ≡ self.old) }
@@ -211,7 +212,8 @@ impl NodeTable {
 
     /// Returns the id of a node, as `place` does for the node's own children.
     pub fn place_node(&mut self, node: Node) -> Result<NodeId, AllocError>
-        requires { AreChildren markers self.old (variable node) (value_at node) }
+        requires children { AreChildren markers self.old (variable node) (value_at node) }
+        requires trimmed { has_trimmed_cuts node ≡ true }
         ensures id { IfOk result (IsChoice markers self.new (variable node) (value_at node)) }
         ensures rules { IsStore markers self.old → IsStore markers self.new }
         ensures added { IfOk result (λ id. IsHeld self.old id → self.new ≡ self.old) }
@@ -227,6 +229,7 @@ impl NodeTable {
     pub fn place_joined(&mut self, node: Node) -> Result<NodeId, AllocError>
         requires children { AreChildren markers self.old (variable node) (value_at node) }
         requires joined { is_joined node ≡ true }
+        requires trimmed { has_trimmed_cuts node ≡ true }
         ensures id { IfOk result (IsChoice markers self.new (variable node) (value_at node)) }
         ensures rules { IsStore markers self.old → IsStore markers self.new }
         ensures added { IfOk result (λ id. IsHeld self.old id → self.new ≡ self.old) }
@@ -252,7 +255,8 @@ impl NodeTable {
 
     // The id of a reduced node whose first child is not a negation.
     fn insert(&mut self, node: Node) -> Result<NodeId, AllocError>
-        requires { IsReady markers self.old node }
+        requires ready { IsReady markers self.old node }
+        requires trimmed { has_trimmed_cuts node ≡ true }
         ensures id { IfOk result (IsChoice markers self.new (variable node) (value_at node)) }
         ensures rules { IsStore markers self.new }
         ensures added { IfOk result (λ id. IsHeld self.old id → self.new ≡ self.old) }

@@ -1,6 +1,7 @@
 -- What is known of two tables: how far they agree, from their oldest node on, and which diagrams
 -- are equal.
 use Rattle.std.specs.Prelude.{◌≡◌, ℕ, ◌+◌, ◌<◌, All, List, Some}
+use Rattle.std.specs.declared.cmp.Ordering.{Ordering}
 use Rattle.std.specs.declared.cmp.Ordering.TheVariants.{Equal}
 use Rattle.marker_diagrams.specs.declared.node_id.NodeId.{NodeId}
 use Rattle.marker_diagrams.specs.Diagram.{node_at, AreSame}
@@ -26,3 +27,18 @@ IsEqual a b pair = diagram_cmp (a, pair.0) (b, pair.1) ≡ Equal
 -- those of each pair are
 abbrev pub AreEqual : List Node → List Node → List (NodeId × NodeId) → Type 0
 AreEqual a b pairs = All (IsEqual a b) pairs
+
+-- the diagrams of a pair are equal in all tables in which those of each of these pairs are
+abbrev pub IsEqualWith : List (NodeId × NodeId) → NodeId × NodeId → Type 0
+IsEqualWith pairs pair = (a b : List Node) → AreEqual a b pairs → IsEqual a b pair
+
+-- the diagrams of the new pairs are equal in all tables in which those of the old ones and of this
+-- pair are
+abbrev pub RemainEqualWith : NodeId × NodeId → List (NodeId × NodeId) → List (NodeId × NodeId)
+    → Type 0
+RemainEqualWith pair old new =
+    (a b : List Node) → IsEqual a b pair → AreEqual a b old → AreEqual a b new
+
+-- this is the order of two diagrams
+abbrev pub IsOrderOf : List Node × NodeId → List Node × NodeId → Ordering → Type 0
+IsOrderOf d e order = order ≡ diagram_cmp d e

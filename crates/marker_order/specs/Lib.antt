@@ -1,3 +1,4 @@
 pub mod Agreement
 pub mod Order
+pub mod Laws
 pub mod Turns

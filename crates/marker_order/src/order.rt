@@ -1,10 +1,10 @@
 //! The order of two diagrams.
 
-ghost use Rattle.std.specs.Prelude.{◌≡◌, ◌+◌, ◌<◌, ◌≤◌, ◌^◌, IfSome, IsSome, List, None, true};
+ghost use Rattle.std.specs.Prelude.{◌≡◌, ◌+◌, ◌<◌, ◌≤◌, ◌^◌, IfSome, IsSome, None, true};
 ghost use Rattle.std.specs.declared.cmp.Ordering.TheVariants.{Equal};
 ghost use Rattle.marker_diagrams.specs.Diagram.{IsStore};
-ghost use Rattle.marker_nodes.specs.Node.{Node, markers};
-ghost use Rattle.marker_order.specs.Agreement.{AgreeAt, AgreeUpTo, AreEqual, IsEqual};
+ghost use Rattle.marker_nodes.specs.Node.{markers};
+ghost use Rattle.marker_order.specs.Agreement.{AgreeAt, AgreeUpTo, AreEqual, IsEqualWith, IsOrderOf, RemainEqualWith};
 ghost use Rattle.marker_order.specs.Order.{diagram_cmp};
 
 use crate::turns::{Turn, side_by_side};
@@ -77,8 +77,7 @@ fn order_by<const N: usize>(
     requires other_rules { IsStore markers other_table.now }
     requires places { 2 ≤ N }
     requires size { N ≤ 65536 }
-    ensures order { IfSome result (λ order.
-        order ≡ diagram_cmp (table.now, id) (other_table.now, other)) }
+    ensures order { IfSome result (IsOrderOf (table.now, id) (other_table.now, other)) }
     ensures answered { looks ≡ None → IsSome result }
 {
     let mut memory = Memory {
@@ -102,8 +101,7 @@ fn order_from<const N: usize>(
     requires places { 2 ≤ N }
     requires agreed { AgreeUpTo table.now other_table.now memory.old.agreed }
     requires equal { AreEqual table.now other_table.now memory.old.equal }
-    ensures order { IfSome result (λ order.
-        order ≡ diagram_cmp (table.now, id) (other_table.now, other)) }
+    ensures order { IfSome result (IsOrderOf (table.now, id) (other_table.now, other)) }
     ensures answered { memory.old.looks ≡ None → IsSome result }
     ensures unbounded { memory.old.looks ≡ None → memory.new.looks ≡ None }
     ensures agreed { AgreeUpTo table.now other_table.now memory.new.agreed }
@@ -166,8 +164,7 @@ impl<const N: usize> Memory<N> {
     // Whether a pair is remembered.
     fn remembers(&self, id: NodeId, other: NodeId) -> bool
         requires { 2 ≤ N }
-        ensures { result ≡ true → (a b : List Node) → AreEqual a b self.now.equal
-            → IsEqual a b (id, other) }
+        ensures { result ≡ true → IsEqualWith self.now.equal (id, other) }
     {
         let place = first_place(N, id, other);
         let first = self.equal[place];
@@ -183,8 +180,7 @@ impl<const N: usize> Memory<N> {
         requires { 2 ≤ N }
         ensures agreed { self.new.agreed ≡ self.old.agreed }
         ensures looks { self.new.looks ≡ self.old.looks }
-        ensures equal { (a b : List Node) → IsEqual a b (id, other)
-            → AreEqual a b self.old.equal → AreEqual a b self.new.equal }
+        ensures equal { RemainEqualWith (id, other) self.old.equal self.new.equal }
     {
         let place = first_place(N, id, other);
         self.equal[place + 1] = self.equal[place];

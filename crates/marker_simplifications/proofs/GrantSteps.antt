@@ -1,22 +1,22 @@
 -- Steps of granting extras: what is known, and which ids wait.
 use Rattle.std.proofs.Common.{◌≡◌, ℕ, zero, suc, ◌+◌, ◌-◌, ◌<◌, ◌≤◌, ◌==◌, Bool, true, false, cond, inl, inr, List, [], ◌∷◌, ◌++◌, length, get_or, Option, Some, None, is_some, refl, sym, ap, ◌∙◌, subst, arith}
-use Rattle.std.specs.Prelude.{All, slice_get, IfSome}
+use Rattle.std.specs.Prelude.{All, slice_get}
 use Rattle.std.specs.Map.{lookup}
-use Rattle.std.proofs.lemmas.Bool.{true≢false, false≢true, eqb-true, eqb-false}
+use Rattle.std.proofs.lemmas.Bool.{eqb-true, eqb-false}
 use Rattle.std.proofs.lemmas.List.{length-append}
 use Rattle.std.proofs.lemmas.List.Elements.{All-append, All-push, All-weaker}
 use Rattle.std.proofs.lemmas.Option.{slice_get-get_or}
 use Rattle.marker_diagrams.specs.declared.node_id.NodeId.{NodeId}
 use Rattle.marker_diagrams.specs.Id.{place_of, index_of, is_negated, signed, signed_id, same_id}
-use Rattle.marker_diagrams.specs.Diagram.{node_at, node_of, IsHeld, Keeps}
-use Rattle.marker_diagrams.proofs.IdLaws.{same_id_is, same_id_itself, one_id}
+use Rattle.marker_diagrams.specs.Diagram.{node_at, IsHeld, Keeps}
+use Rattle.marker_diagrams.proofs.IdLaws.{same_id_itself, one_id}
 use Rattle.marker_diagrams.proofs.NodeLaws.{none_some, same_some}
 use Rattle.marker_environment.specs.Valuation.{Valuation}
 use Rattle.marker_nodes.specs.Branches.{piece, value_at as pick}
 use Rattle.marker_nodes.specs.Node.{Node, markers}
 use Rattle.marker_nodes.proofs.Firsts.{first_none}
 use Rattle.marker_simplifications.specs.Granting.{Known, plain, IsUnknown, AreSettled, IsFoundAs, AreFoundAs, IsPlain, IsWanted}
-use Rattle.marker_simplifications.specs.Simplified.{AreGranted, AreKnown, AreUnder, IsGranted}
+use Rattle.marker_simplifications.specs.Simplified.{AreGranted, AreKnown, IsGranted}
 use Rattle.marker_simplifications.proofs.Grants.{granted_itself, granted_under}
 
 -- ---- ids without signs

@@ -1,5 +1,5 @@
 -- Bounds without zeros at the end of their versions.
-use Rattle.std.proofs.Common.{◌≡◌, Bool, not, ◌&&◌, List, refl, ap, ◌∙◌}
+use Rattle.std.proofs.Common.{◌≡◌, Bool, true, not, ◌&&◌, List, refl, ap, ◌∙◌}
 use Rattle.std.specs.Prelude.{Result, Ok, Err, IfOk}
 use Rattle.std.specs.declared.alloc.AllocError.{AllocError}
 use Rattle.std.specs.Ordering.{is_lt}
@@ -8,12 +8,15 @@ use Rattle.std.specs.Range.Bound.{bound_map}
 use Rattle.std.specs.declared.ops.Bound.{Bound}
 use Rattle.std.specs.declared.ops.Bound.TheVariants.{Included, Excluded, Unbounded}
 use Rattle.std.proofs.lemmas.Cmp.{alike_right}
+use Rattle.version_ranges.specs.Bounds.{passes_at}
 use Rattle.version_ranges.specs.Point.{Point, at, above, is_from, is_until, is_in_bounds, point_cmp}
 use Rattle.version_ranges.proofs.PartLaws.{point_total}
 use Rattle.pep440_version.specs.Parts.{Parts}
 use Rattle.pep440_version.specs.Order.{trimmed_parts, version_cmp}
 use Rattle.pep440_version.specs.OrderLaws.{same-tied, version_total}
 use Rattle.pep440_version.proofs.Trimmed.{trimmed-version}
+use Rattle.pep440_rs.specs.Intervals.{is_trimmed}
+use Rattle.pep440_rs.proofs.Trimmed.{trimmed-is}
 use Rattle.marker_words.specs.declared.key.VersionVariable.TheVariants.{PythonFullVersion}
 use Rattle.marker_environment.specs.Valuation.{Valuation}
 use Rattle.marker_diagrams.specs.declared.node_id.NodeId.{NodeId}
@@ -42,6 +45,12 @@ until_trimmed : (bound : Bound Parts) (p : Point Parts) → is_until version_cmp
 until_trimmed (Included v) p = ap is_lt (above_trimmed v p)
 until_trimmed (Excluded v) p = ap is_lt (at_trimmed v p)
 until_trimmed Unbounded p = refl
+
+-- a bound without zeros
+pub bound_trimmed : (b : Bound Parts) → passes_at is_trimmed (bound_map trimmed_parts b) ≡ true
+bound_trimmed (Included v) = trimmed-is v.release (trimmed_parts v) refl
+bound_trimmed (Excluded v) = trimmed-is v.release (trimmed_parts v) refl
+bound_trimmed Unbounded = refl
 
 -- a range is the same set of points
 pub in_trimmed : (lower upper : Bound Parts) (p : Point Parts) → is_in_bounds version_cmp (bound_map trimmed_parts lower) (bound_map trimmed_parts upper) p ≡ is_in_bounds version_cmp lower upper p

@@ -1,12 +1,12 @@
 -- One step of granting extras: which ids an id waits for.
-use Rattle.std.specs.Prelude.{◌≡◌, ◌⊎◌, ℕ, ◌≤◌, ◌<◌, All, Bool, false, List, None, Some, slice_get}
+use Rattle.std.specs.Prelude.{◌≡◌, ◌⊎◌, ℕ, ◌≤◌, ◌<◌, All, Bool, false, IfSome, List, None, Option, Some, slice_get}
 use Rattle.std.specs.Map.{lookup}
 use Rattle.marker_diagrams.specs.declared.node_id.NodeId.{NodeId}
 use Rattle.marker_diagrams.specs.Id.{place_of, is_negated, same_id, signed_id}
 use Rattle.marker_nodes.specs.Node.{Node}
 use Rattle.marker_simplifications.specs.declared.extras.Step.{Step}
 use Rattle.marker_simplifications.specs.declared.extras.Step.TheVariants.{Made, Waits}
-use Rattle.marker_simplifications.specs.Simplified.{IsGranted}
+use Rattle.marker_simplifications.specs.Simplified.{AreUnder, IsGranted}
 
 -- ids without signs, and what they are with extras set true
 abbrev pub Known : Type 0
@@ -53,3 +53,17 @@ abbrev pub IsNext : List Node → (List ℕ → Bool → Type 0) → Known → N
 IsNext nodes Answers known id (Made t) = IsGranted nodes Answers id t
 IsNext nodes Answers known id (Waits last others) =
     IsWanted known id last × All (IsWanted known id) others.items
+
+-- if the ids of a list are plain, so are those that are left of it, and the one that was taken out
+abbrev pub TakesPlain : List NodeId → List NodeId → Option NodeId → Type 0
+TakesPlain old new taken =
+    (n : ℕ) → All (IsPlain n) old → All (IsPlain n) new × IfSome taken (IsPlain n)
+
+-- the new ids are plain if the old ones and this one are
+abbrev pub RemainPlainWith : NodeId → List NodeId → List NodeId → Type 0
+RemainPlainWith t old new = (n : ℕ) → IsPlain n t → All (IsPlain n) old → All (IsPlain n) new
+
+-- if these ids are under a parent, it waits for each of the wanted ones
+abbrev pub AreWantedOf : Known → List NodeId → List NodeId → Type 0
+AreWantedOf known ids wanted = (nodes : List Node) (parent : NodeId) → AreUnder nodes parent ids
+    → All (IsWanted known parent) wanted

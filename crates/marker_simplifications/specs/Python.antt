@@ -1,9 +1,10 @@
 -- Truths and ranges of Python versions: simplifying for a range, and requiring one.
 use Rattle.std.specs.Prelude.{◌≡◌, Bool, true, false, ◌&&◌}
+use Rattle.std.specs.Borrow.{Bor}
 use Rattle.std.specs.declared.ops.Bound.{Bound}
 use Rattle.std.specs.declared.ops.Bound.TheVariants.{Included, Excluded, Unbounded}
 use Rattle.version_ranges.specs.Point.{Point, begin_point, point_lt, is_from, is_until, is_in_bounds}
-use Rattle.version_ranges.specs.Clamp.{IsBetween, IsBare}
+use Rattle.version_ranges.specs.Clamp.{IsBetween, IsBare, bound_of}
 use Rattle.pep440_version.specs.Parts.{Parts}
 use Rattle.pep440_version.specs.Order.{version_cmp}
 use Rattle.marker_environment.specs.Valuation.{Valuation}
@@ -46,3 +47,7 @@ module _ (lower upper : Bound Parts) where
   -- two truths agree wherever the Python version is in the range
   abbrev pub AgreeInside : (Valuation → Bool) → (Valuation → Bool) → Type 0
   AgreeInside f g = (v : Valuation) → is_python_in v ≡ true → f v ≡ g v
+
+-- whether the Python version is between two bounds
+abbrev pub is_python_between : Bound (Bor Parts) → Bound (Bor Parts) → Valuation → Bool
+is_python_between lower upper = is_python_in (bound_of lower) (bound_of upper)

@@ -1,17 +1,21 @@
 -- Ids under a range of Python versions, and ids with extras set true.
 use Rattle.std.specs.Prelude.{◌≡◌, ℕ, ◌<◌, Bool, false, List, Some, slice_get}
 use Rattle.std.specs.Map.{lookup}
+use Rattle.std.specs.Borrow.{Bor}
 use Rattle.std.specs.declared.ops.Bound.{Bound}
+use Rattle.version_ranges.specs.Clamp.{bound_of}
 use Rattle.pep440_version.specs.Parts.{Parts}
+use Rattle.marker_words.specs.declared.key.VersionVariable.TheVariants.{ImplementationVersion}
 use Rattle.marker_environment.specs.Valuation.{Valuation}
 use Rattle.marker_diagrams.specs.declared.node_id.NodeId.{NodeId}
 use Rattle.marker_diagrams.specs.Id.{place_of, same_id}
 use Rattle.marker_diagrams.specs.Diagram as diagram
 use Rattle.marker_nodes.specs.declared.variable.TruthVariable.{TruthVariable}
 use Rattle.marker_nodes.specs.declared.variable.TruthVariable.TheVariants.{In, Contains, Extra, Arbitrary}
-use Rattle.marker_nodes.specs.Variable.{Variable}
+use Rattle.marker_nodes.specs.Variable.{Variable, of_version}
 use Rattle.marker_nodes.specs.Branches.{variable, value_at as pick}
 use Rattle.marker_nodes.specs.Node.{Node, markers}
+use Rattle.marker_nodes.specs.Side.{is_asked}
 use Rattle.marker_simplifications.specs.Python.{Assumes}
 use Rattle.marker_simplifications.specs.Extras.{AnswersBy, grant, with_extras}
 
@@ -19,6 +23,20 @@ use Rattle.marker_simplifications.specs.Extras.{AnswersBy, grant, with_extras}
 abbrev pub AreLater : List Node → Variable → List NodeId → Type 0
 AreLater nodes x ids = (i : ℕ) (t : NodeId) → slice_get ids i ≡ Some t → diagram.IsHeld nodes t
     × diagram.IsAfter markers nodes x t
+
+-- the id depends only on variables after the version of the implementation
+abbrev pub IsAfterImplementation : List Node → NodeId → Type 0
+IsAfterImplementation nodes t =
+    diagram.IsAfter markers nodes (of_version ImplementationVersion) t
+
+-- the list of nodes has each id, which depends only on such variables
+abbrev pub AreAfterImplementation : List Node → List NodeId → Type 0
+AreAfterImplementation nodes ids = AreLater nodes (of_version ImplementationVersion) ids
+
+-- the node of the id, if it has one, branches on another variable
+abbrev pub BranchesElsewhere : List Node → Variable → NodeId → Type 0
+BranchesElsewhere nodes x t =
+    (n : Node) → diagram.node_of nodes t ≡ Some n → is_asked x n ≡ false
 
 -- the id t is the id a, given that the Python version is in a range, and depends only on a's
 -- variables
@@ -37,6 +55,23 @@ AreAssumed nodes lower upper ids made = (i : ℕ) (a t : NodeId) → slice_get i
 abbrev pub AreFound : List Node → Bound Parts → Bound Parts → List (NodeId × NodeId) → Type 0
 AreFound nodes lower upper found = (a t : NodeId) → lookup (same_id a) found ≡ Some t
     → diagram.IsHeld nodes a × IsAssumed nodes lower upper a t
+
+-- the id t is the id a, given that the Python version is between two bounds
+abbrev pub IsAssumedBetween : List Node → Bound (Bor Parts) → Bound (Bor Parts) → NodeId → NodeId
+    → Type 0
+IsAssumedBetween nodes lower upper a t = IsAssumed nodes (bound_of lower) (bound_of upper) a t
+
+-- the ids of one list are those of the other, one by one, given that it is between them
+abbrev pub AreAssumedBetween : List Node → Bound (Bor Parts) → Bound (Bor Parts) → List NodeId
+    → List NodeId → Type 0
+AreAssumedBetween nodes lower upper ids made =
+    AreAssumed nodes (bound_of lower) (bound_of upper) ids made
+
+-- the result for an id is that id, given that it is between them
+abbrev pub AreFoundBetween : List Node → Bound (Bor Parts) → Bound (Bor Parts)
+    → List (NodeId × NodeId) → Type 0
+AreFoundBetween nodes lower upper found =
+    AreFound nodes (bound_of lower) (bound_of upper) found
 
 -- whether a variable is set to true: for an extra the answer for its name, and otherwise never
 abbrev pub Grants : (List ℕ → Bool → Type 0) → TruthVariable → Bool → Type 0
@@ -64,6 +99,10 @@ pub record IsGranted (nodes : List Node) (Answers : List ℕ → Bool → Type 0
   pub means : (granted : List ℕ → Bool) → AnswersBy Answers granted → (v : Valuation)
       → diagram.truth markers nodes t v ≡ grant granted (diagram.truth markers nodes a) v
   pub after : (x : Variable) → diagram.IsAfter markers nodes x a → diagram.IsAfter markers nodes x t
+
+-- the second id of the pair is the first one with extras set to true
+abbrev pub IsGrantedPair : List Node → (List ℕ → Bool → Type 0) → NodeId × NodeId → Type 0
+IsGrantedPair nodes Answers p = IsGranted nodes Answers p.0 p.1
 
 -- the ids of one list are those of the other, one by one, with extras set true
 abbrev pub AreGranted : List Node → (List ℕ → Bool → Type 0) → List NodeId → List NodeId → Type 0

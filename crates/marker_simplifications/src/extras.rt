@@ -1,12 +1,12 @@
 //! Ids simplified for extras that are active.
 
-ghost use Rattle.std.specs.Prelude.{◌≡◌, ℕ, [], All, IfNone, IfOk, IfSome, List, OnOk, false, length, true};
+ghost use Rattle.std.specs.Prelude.{◌≡◌, ℕ, [], IfNone, IfOk, IfSome, OnOk, length, true};
 ghost use Rattle.std.specs.Fn.{FnReturnsAt};
 ghost use Rattle.marker_diagrams.specs.Diagram as diagram;
 ghost use Rattle.marker_diagrams.specs.Diagram.{Keeps};
-ghost use Rattle.marker_nodes.specs.Node.{Node, markers};
-ghost use Rattle.marker_simplifications.specs.Granting.{AreFoundAs, AreSettled, IsFoundAs, IsNext, IsPlain, IsUnknown, IsWanted, plain};
-ghost use Rattle.marker_simplifications.specs.Simplified.{AreKnown, AreUnder, Grants, IsGranted, IsTouched, IsUntouched};
+ghost use Rattle.marker_nodes.specs.Node.{markers};
+ghost use Rattle.marker_simplifications.specs.Granting.{AreFoundAs, AreSettled, AreWantedOf, IsFoundAs, IsNext, IsPlain, IsUnknown, RemainPlainWith, TakesPlain, plain};
+ghost use Rattle.marker_simplifications.specs.Simplified.{AreKnown, Grants, IsGranted, IsGrantedPair, IsTouched, IsUntouched};
 
 use marker_nodes::{Branches, Children, Node, NodeId, NodeTable, TruthVariable};
 use pep508_names::ExtraName;
@@ -66,8 +66,7 @@ fn look_up(known: &HashMap<NodeId, NodeId>, id: NodeId) -> Option<NodeId>
 // The last id of a list that has no result yet. Removes it and those above it.
 fn next_unknown(known: &HashMap<NodeId, NodeId>, pending: &mut Vec<NodeId>) -> Option<NodeId>
     ensures unknown { IfSome result (λ t. IsUnknown known.now.entries (plain t)) }
-    ensures plain { (n : ℕ) → All (IsPlain n) pending.old.items → All (IsPlain n) pending.new.items
-        × IfSome result (IsPlain n) }
+    ensures plain { TakesPlain pending.old.items pending.new.items result }
 {
     while let Some(id) = pending.pop() {
         if let None = look_up(known, id) {
@@ -95,10 +94,8 @@ fn descend<F: Fn(&ExtraName) -> bool>(
     ensures rules { diagram.IsStore markers nodes.new }
     ensures unknown { IfOk result (λ r. IsUnknown known.now.entries r.0) }
     ensures plain { IfOk result (λ r. (n : ℕ) → IsPlain n first → IsPlain n r.0) }
-    ensures granted { IfOk result (λ r. IsGranted nodes.new (FnReturnsAt F.Fn is_extra.now)
-        r.0 r.1) }
-    ensures pending { OnOk result ((n : ℕ) → IsPlain n first → All (IsPlain n) pending.old.items
-        → All (IsPlain n) pending.new.items) }
+    ensures granted { IfOk result (IsGrantedPair nodes.new (FnReturnsAt F.Fn is_extra.now)) }
+    ensures pending { OnOk result (RemainPlainWith first pending.old.items pending.new.items) }
 {
     let mut at = first;
     loop {
@@ -168,8 +165,7 @@ fn unknown_ids(
     known: &HashMap<NodeId, NodeId>,
     ids: &[NodeId],
 ) -> Result<Children, AllocError>
-    ensures wanted { IfOk result (λ r. (nodes : List Node) (parent : NodeId)
-        → AreUnder nodes parent ids.now → All (IsWanted known.now.entries parent) r.items) }
+    ensures wanted { IfOk result (λ r. AreWantedOf known.now.entries ids.now r.items) }
     ensures none { IfOk result (λ r. r.items ≡ [] → AreSettled known.now.entries ids.now) }
 {
     let mut wanted = SmallVec::new(alloc);

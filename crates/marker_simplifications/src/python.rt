@@ -1,22 +1,21 @@
 //! Ids and ranges of Python versions: simplifying for a range, and requiring one.
 
-ghost use Rattle.std.specs.Prelude.{◌≡◌, false, length, IfNone, IfOk, IfSome, Some};
-ghost use Rattle.std.specs.Ordering.{is_eq};
+ghost use Rattle.std.specs.Prelude.{◌≡◌, true, length, IfNone, IfOk, IfSome, Some};
 ghost use Rattle.std.specs.Range.Bound.{bound_map};
+ghost use Rattle.version_ranges.specs.Bounds.{all_cuts};
 ghost use Rattle.version_ranges.specs.Point.{Point};
 ghost use Rattle.version_ranges.specs.Clamp.{IsBetween, bound_of};
 ghost use Rattle.pep440_version.specs.Parts.{Parts};
 ghost use Rattle.pep440_version.specs.Order.{trimmed_parts, version_cmp};
-ghost use Rattle.marker_words.specs.declared.key.VersionVariable.TheVariants as versions;
+ghost use Rattle.pep440_rs.specs.Intervals.{is_trimmed};
 ghost use Rattle.marker_diagrams.specs.Diagram as diagram;
 ghost use Rattle.marker_diagrams.specs.Diagram.{node_of, Keeps};
-ghost use Rattle.marker_nodes.specs.Branches.{variable as asked_by};
 ghost use Rattle.marker_nodes.specs.declared.node.Branches.TheVariants as kinds;
-ghost use Rattle.marker_nodes.specs.Node.{Node, markers};
-ghost use Rattle.marker_nodes.specs.Variable.{of_version, variable_cmp};
+ghost use Rattle.marker_nodes.specs.Node.{markers};
+ghost use Rattle.marker_nodes.specs.Variable.{of_version};
 ghost use Rattle.marker_comparisons.specs.Expression.{IsTruthOf};
-ghost use Rattle.marker_simplifications.specs.Python.{is_python_in, is_whole};
-ghost use Rattle.marker_simplifications.specs.Simplified.{AreAssumed, AreFound, AreLater, IsAssumed};
+ghost use Rattle.marker_simplifications.specs.Python.{is_python_between, is_whole};
+ghost use Rattle.marker_simplifications.specs.Simplified.{AreAfterImplementation, AreAssumedBetween, AreFoundBetween, BranchesElsewhere, IsAfterImplementation, IsAssumedBetween};
 
 use marker_comparisons::asks_version;
 use marker_nodes::{Branches, Children, NodeId, NodeTable};
@@ -61,8 +60,8 @@ fn edges_at(
 ) -> Option<&Cuts<Version, NodeId>>
     ensures found { IfSome result (λ edges. node_of nodes.now id
         ≡ Some (kinds.Version variable edges.now)) }
-    ensures other { IfNone result ((n : Node) → node_of nodes.now id ≡ Some n
-        → is_eq (variable_cmp (of_version variable) (asked_by n)) ≡ false) }
+    ensures bounds { IfSome result (λ edges. all_cuts is_trimmed edges.now ≡ true) }
+    ensures other { IfNone result (BranchesElsewhere nodes.now (of_version variable) id) }
 {
     match nodes.node(id) {
         Some(Branches::Version(asked, edges)) => {
@@ -86,8 +85,7 @@ pub fn python_range(
 ) -> Result<NodeId, AllocError>
     ensures kept { Keeps markers nodes.old nodes.new }
     ensures rules { diagram.IsStore markers nodes.old → diagram.IsStore markers nodes.new }
-    ensures asks { IfOk result (IsTruthOf nodes.new
-        (is_python_in (bound_of lower.entry) (bound_of upper.entry))) }
+    ensures asks { IfOk result (IsTruthOf nodes.new (is_python_between lower.entry upper.entry)) }
 {
     let lower = trimmed_bound(lower)?;
     let upper = trimmed_bound(upper)?;
@@ -107,8 +105,7 @@ pub fn assume_python_range(
     requires point { (p : Point Parts) × IsBetween version_cmp (bound_of lower) (bound_of upper) p }
     ensures kept { Keeps markers nodes.old nodes.new }
     ensures rules { diagram.IsStore markers nodes.new }
-    ensures assumed { IfOk result (IsAssumed nodes.new (bound_of lower.entry)
-        (bound_of upper.entry) id) }
+    ensures assumed { IfOk result (IsAssumedBetween nodes.new lower.entry upper.entry id) }
 {
     let variable = VersionVariable::ImplementationVersion;
     let Some(edges) = edges_at(nodes, variable, id) else {
@@ -131,13 +128,11 @@ fn assume_at_python(
 ) -> Result<NodeId, AllocError>
     requires rules { diagram.IsStore markers nodes.old }
     requires held { diagram.IsHeld nodes.old id }
-    requires after { diagram.IsAfter markers nodes.old
-        (of_version versions.ImplementationVersion) id }
+    requires after { IsAfterImplementation nodes.old id }
     requires point { (p : Point Parts) × IsBetween version_cmp (bound_of lower) (bound_of upper) p }
     ensures kept { Keeps markers nodes.old nodes.new }
     ensures rules { diagram.IsStore markers nodes.new }
-    ensures assumed { IfOk result (IsAssumed nodes.new (bound_of lower.entry)
-        (bound_of upper.entry) id) }
+    ensures assumed { IfOk result (IsAssumedBetween nodes.new lower.entry upper.entry id) }
 {
     let variable = VersionVariable::PythonFullVersion;
     let Some(edges) = edges_at(nodes, variable, id) else {
@@ -156,14 +151,13 @@ fn assume_all(
     upper: Bound<&Version>,
 ) -> Result<Children, AllocError>
     requires rules { diagram.IsStore markers nodes.old }
-    requires children { AreLater nodes.old (of_version versions.ImplementationVersion)
-        children.now }
+    requires children { AreAfterImplementation nodes.old children.now }
     requires point { (p : Point Parts) × IsBetween version_cmp (bound_of lower) (bound_of upper) p }
     ensures kept { Keeps markers nodes.old nodes.new }
     ensures rules { diagram.IsStore markers nodes.new }
     ensures count { IfOk result (λ r. length r.items ≡ length children.now) }
-    ensures assumed { IfOk result (λ r. AreAssumed nodes.new (bound_of lower.entry)
-        (bound_of upper.entry) children.now r.items) }
+    ensures assumed { IfOk result
+        (λ r. AreAssumedBetween nodes.new lower.entry upper.entry children.now r.items) }
 {
     let mut known = HashMap::new(nodes.allocator());
     let mut made = SmallVec::with_capacity(nodes.allocator(), children.len())?;
@@ -184,16 +178,13 @@ fn assume_once(
 ) -> Result<NodeId, AllocError>
     requires rules { diagram.IsStore markers nodes.old }
     requires held { diagram.IsHeld nodes.old id }
-    requires after { diagram.IsAfter markers nodes.old
-        (of_version versions.ImplementationVersion) id }
+    requires after { IsAfterImplementation nodes.old id }
     requires point { (p : Point Parts) × IsBetween version_cmp (bound_of lower) (bound_of upper) p }
-    requires known { AreFound nodes.old (bound_of lower) (bound_of upper) known.old.entries }
+    requires known { AreFoundBetween nodes.old lower upper known.old.entries }
     ensures kept { Keeps markers nodes.old nodes.new }
     ensures rules { diagram.IsStore markers nodes.new }
-    ensures assumed { IfOk result (IsAssumed nodes.new (bound_of lower.entry)
-        (bound_of upper.entry) id) }
-    ensures known { AreFound nodes.new (bound_of lower.entry)
-        (bound_of upper.entry) known.new.entries }
+    ensures assumed { IfOk result (IsAssumedBetween nodes.new lower.entry upper.entry id) }
+    ensures known { AreFoundBetween nodes.new lower.entry upper.entry known.new.entries }
 {
     if let Some(found) = known.get(&id) {
         return Ok(*found);

@@ -1,4 +1,5 @@
 pub mod Disjoint
+pub mod Evaluation
 pub mod Possible
 pub mod Report
 pub mod Looks

@@ -4,6 +4,7 @@ use Rattle.std.specs.Borrow.{Bor}
 use Rattle.std.specs.List.{list_any}
 use Rattle.std.specs.Option.{option_map}
 use Rattle.std.specs.declared.ops.Bound.{Bound}
+use Rattle.version_ranges.specs.Clamp.{bound_of}
 use Rattle.version_ranges.specs.Point.{at, is_in_bounds}
 use Rattle.pep440_version.specs.Parts.{Parts}
 use Rattle.pep440_version.specs.Order.{version_cmp}
@@ -76,6 +77,12 @@ may_lie_in ImplementationVersion versions lower upper = true
 may_lie_in PythonFullVersion None lower upper = true
 may_lie_in PythonFullVersion (Some versions) lower upper =
     list_any (λ version. is_in_bounds version_cmp lower upper (at version)) versions
+
+-- the same of references
+abbrev pub may_lie_between : VersionVariable → Option (Bor (List Parts)) → Bound (Bor Parts)
+    → Bound (Bor Parts) → Bool
+may_lie_between x versions lower upper =
+    may_lie_in x (listed_versions versions) (bound_of lower) (bound_of upper)
 
 -- whether the variable may be true with exactly these extras: a substring test may
 abbrev pub may_be_so : List (List ℕ) → TruthVariable → Bool

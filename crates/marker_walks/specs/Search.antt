@@ -1,10 +1,10 @@
 -- A search for a valuation with exactly some extras, at one of some versions, that satisfies an id.
-use Rattle.std.specs.Prelude.{◌≡◌, ◌<◌, ℕ, All, Bool, true, false, List, Option}
+use Rattle.std.specs.Prelude.{◌≡◌, ◌<◌, ℕ, All, Bool, true, false, List, Option, Some}
 use Rattle.std.specs.Borrow.{Bor}
 use Rattle.pep440_version.specs.Parts.{Parts}
 use Rattle.marker_environment.specs.Valuation.{Valuation}
 use Rattle.marker_diagrams.specs.declared.node_id.NodeId.{NodeId}
-use Rattle.marker_diagrams.specs.Diagram.{IsStore, truth}
+use Rattle.marker_diagrams.specs.Diagram.{IsStore, node_of, truth}
 use Rattle.marker_diagrams.specs.Id.{place_of}
 use Rattle.marker_nodes.specs.Node.{Node, markers}
 use Rattle.marker_walks.specs.declared.possible.Rest.{Rest}
@@ -41,3 +41,13 @@ module _ (extras : List (List ℕ)) (versions : Option (Bor (List Parts))) (node
 abbrev pub IsOutWith : List NodeId → NodeId → Type 0
 IsOutWith ids t = (extras : List (List ℕ)) (versions : Option (Bor (List Parts)))
     (nodes : List Node) → AreOut extras versions nodes ids → IsOut extras versions nodes t
+
+-- the new ids are out in each search in which the old ones and this one are
+abbrev pub RemainOutWith : NodeId → List NodeId → List NodeId → Type 0
+RemainOutWith t old new = (extras : List (List ℕ)) (versions : Option (Bor (List Parts)))
+    (nodes : List Node) → IsOut extras versions nodes t → AreOut extras versions nodes old
+    → AreOut extras versions nodes new
+
+-- the node of the id is one of these
+abbrev pub IsOneOf : {A : Type 0} → List Node → NodeId → (A → Node) → Type 0
+IsOneOf nodes t node = (x : _) × (node_of nodes t ≡ Some (node x))

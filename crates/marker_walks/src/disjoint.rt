@@ -4,11 +4,11 @@
 //! each pair the pairs of their children. Disjoint pairs are remembered in an array on the stack,
 //! which may overwrite them. So a walk that needs too many visits starts again with a larger array.
 
-ghost use Rattle.std.specs.Prelude.{◌≡◌, ◌+◌, ◌<◌, ◌≤◌, Bool, IfNone, IfSome, IsSome, List};
+ghost use Rattle.std.specs.Prelude.{◌≡◌, ◌+◌, ◌<◌, ◌≤◌, IfNone, IfSome, IsSome};
 ghost use Rattle.marker_diagrams.specs.Diagram as diagram;
 ghost use Rattle.marker_diagrams.specs.Id.{place_of};
-ghost use Rattle.marker_nodes.specs.Node.{Node, markers};
-ghost use Rattle.marker_walks.specs.Disjoint.{AreApart, AreDisjoint, Leaves, TellsDisjoint};
+ghost use Rattle.marker_nodes.specs.Node.{markers};
+ghost use Rattle.marker_walks.specs.Disjoint.{AreApart, AreDisjoint, Leaves, RemainApartWith, TellsDisjoint, TellsDisjointWith};
 ghost use Rattle.marker_walks.specs.Looks.{AreUnbounded};
 
 use crate::looks::{FIRST, Looks, SECOND, THIRD};
@@ -244,9 +244,7 @@ impl<const N: usize> Memory<N> {
     // Whether no valuation satisfies both ids, if that is remembered or needs no visit of a node.
     fn recall(&self, a: NodeId, b: NodeId) -> Option<bool>
         requires { 2 ≤ N }
-        ensures answer { IfSome result (λ answer. (nodes : List Node)
-            → diagram.IsStore markers nodes → diagram.IsHeld nodes a → diagram.IsHeld nodes b
-            → AreApart nodes self.now.apart → TellsDisjoint nodes a b answer) }
+        ensures answer { IfSome result (TellsDisjointWith self.now.apart a b) }
         ensures nodes { IfNone result ((0 < place_of a) × (0 < place_of b)) }
     {
         if let Some(both) = short_cut(a, b) {
@@ -268,8 +266,7 @@ impl<const N: usize> Memory<N> {
     fn remember(&mut self, a: NodeId, b: NodeId)
         requires { 2 ≤ N }
         ensures looks { self.new.looks ≡ self.old.looks }
-        ensures apart { (nodes : List Node) → AreDisjoint nodes a b
-            → AreApart nodes self.old.apart → AreApart nodes self.new.apart }
+        ensures apart { RemainApartWith (a, b) self.old.apart self.new.apart }
     {
         let place = first_place(N, a, b);
         self.apart[place + 1] = self.apart[place];

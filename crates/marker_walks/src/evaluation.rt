@@ -1,9 +1,9 @@
 //! Evaluation.
 
 ghost use Rattle.std.specs.Prelude.{◌≡◌};
-ghost use Rattle.marker_environment.specs.Environment.{valuation_of, values_of};
 ghost use Rattle.marker_diagrams.specs.Diagram as diagram;
 ghost use Rattle.marker_nodes.specs.Node.{markers};
+ghost use Rattle.marker_walks.specs.Evaluation.{truth_in};
 
 use crate::child::child_in;
 use marker_environment::MarkerEnvironment;
@@ -19,8 +19,7 @@ pub fn evaluate(
 ) -> bool
     requires rules { diagram.IsStore markers nodes.now }
     requires id { diagram.IsHeld nodes.now id }
-    ensures { result ≡ diagram.truth markers nodes.now id
-        (valuation_of (values_of environment.now) extras.now) }
+    ensures { result ≡ truth_in nodes.now id environment.now extras.now }
 {
     let mut at = id;
     while let Some(node) = nodes.node(at) {

@@ -1,7 +1,7 @@
 //! Limits on the visits of a walk.
 
 ghost use Rattle.std.specs.Prelude.{◌≡◌, ◌+◌, ℕ, IsNone, IsSome, None, Some, false};
-ghost use Rattle.marker_walks.specs.Looks.{AreUnbounded};
+ghost use Rattle.marker_walks.specs.Looks.{AreUnbounded, IsSplit};
 
 /// How many visits a walk has that remembers hardly anything, because most end within them. Then
 /// come one with 256 and one with 4,096 places: sixteen visits for each place.
@@ -49,8 +49,7 @@ impl Looks {
     /// Splits off `most` visits, or those that are left if these are fewer.
     pub(crate) fn set_aside(&mut self, most: usize) -> Looks
         ensures unbounded { AreUnbounded self.old → AreUnbounded self.new }
-        ensures shared { (n : ℕ) → self.old.left ≡ Some n → (aside left : ℕ)
-            × (result.left ≡ Some aside) × (self.new.left ≡ Some left) × (aside + left ≡ n) }
+        ensures shared { IsSplit self.old result self.new }
     {
         match self.left {
             Some(left) => {

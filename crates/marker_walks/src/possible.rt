@@ -4,16 +4,12 @@
 //! in an array on the stack, which may overwrite them. So a walk that needs too many visits starts
 //! again with a larger array.
 
-ghost use Rattle.std.specs.Prelude.{◌≡◌, ◌+◌, ◌<◌, ◌≤◌, IfSome, IsSome, List, Option, Some, length, true, ℕ};
-ghost use Rattle.std.specs.Borrow.{Bor};
-ghost use Rattle.pep440_version.specs.Parts.{Parts};
-ghost use Rattle.version_ranges.specs.Clamp.{bound_of};
+ghost use Rattle.std.specs.Prelude.{◌≡◌, ◌+◌, ◌<◌, ◌≤◌, IfSome, IsSome, Some, length, true};
 ghost use Rattle.marker_diagrams.specs.Diagram as diagram;
-ghost use Rattle.marker_nodes.specs.Node.{Node, markers};
-ghost use Rattle.marker_words.specs.declared.key.TextVariable.{TextVariable};
+ghost use Rattle.marker_nodes.specs.Node.{markers};
 ghost use Rattle.marker_nodes.specs.declared.node.Branches.TheVariants as kinds;
-ghost use Rattle.marker_walks.specs.Possible.{AnswersPossible, HasSome, listed_versions, may_be_so, may_lie_in, may_not_be_so};
-ghost use Rattle.marker_walks.specs.Search.{Answers, AreOut, IsOut, IsOutWith, IsSearch, Leaves};
+ghost use Rattle.marker_walks.specs.Possible.{HasSome, may_be_so, may_lie_between, may_not_be_so};
+ghost use Rattle.marker_walks.specs.Search.{Answers, AreOut, IsOneOf, IsOut, IsOutWith, IsSearch, Leaves, RemainOutWith};
 ghost use Rattle.marker_walks.specs.Looks.{AreUnbounded};
 
 use crate::child::is_listed;
@@ -50,8 +46,7 @@ pub fn is_possible(
     requires rules { diagram.IsStore markers nodes.now }
     requires id { diagram.IsHeld nodes.now id }
     requires versions { HasSome versions }
-    ensures { AnswersPossible extras.now (listed_versions versions.entry)
-        (diagram.truth markers nodes.now id) result }
+    ensures { Answers extras.now versions.entry nodes.now id result }
 {
     match first_walks(nodes, extras, versions, Looks::new(None), id) {
         Some(answer) => answer,
@@ -70,8 +65,7 @@ pub fn is_possible_within(
     requires rules { diagram.IsStore markers nodes.now }
     requires id { diagram.IsHeld nodes.now id }
     requires versions { HasSome versions }
-    ensures { IfSome result (AnswersPossible extras.now (listed_versions versions.entry)
-        (diagram.truth markers nodes.now id)) }
+    ensures { IfSome result (Answers extras.now versions.entry nodes.now id) }
 {
     first_walks(nodes, extras, versions, Looks::new(Some(looks)), id)
 }
@@ -295,8 +289,7 @@ fn possible_at_text(
 ) -> Option<bool>
     requires search { IsSearch nodes.now versions }
     requires id { diagram.IsHeld nodes.now id }
-    requires node { (x : TextVariable)
-        × (diagram.node_of nodes.now id ≡ Some (kinds.Text x edges.now)) }
+    requires node { IsOneOf nodes.now id (λ x. kinds.Text x edges.now) }
     requires places { 2 ≤ length out.old }
     requires out { AreOut extras.now versions nodes.now out.old }
     ensures answer { IfSome result (Answers extras.now versions.entry nodes.now id) }
@@ -383,9 +376,7 @@ fn is_remembered(out: &[NodeId], id: NodeId) -> bool
 fn remember(out: &mut [NodeId], id: NodeId)
     requires { 2 ≤ length out.old }
     ensures places { length out.new ≡ length out.old }
-    ensures out { (extras : List (List ℕ)) (versions : Option (Bor (List Parts)))
-        (nodes : List Node) → IsOut extras versions nodes id
-        → AreOut extras versions nodes out.old → AreOut extras versions nodes out.new }
+    ensures out { RemainOutWith id out.old out.new }
 {
     let place = first_place(out.len(), id);
     out[place + 1] = out[place];
@@ -411,8 +402,7 @@ fn may_lie_in(
     versions: Option<&[Version]>,
     piece: &Piece<'_, Version, NodeId>,
 ) -> bool
-    ensures { result ≡ may_lie_in variable (listed_versions versions.entry)
-        (bound_of piece.now.lower) (bound_of piece.now.upper) }
+    ensures { result ≡ may_lie_between variable versions.entry piece.now.lower piece.now.upper }
 {
     match (variable, versions) {
         (VersionVariable::PythonFullVersion, Some(versions)) => {

@@ -1,14 +1,11 @@
 //! Evaluation that reports comparisons of texts by order.
 
-ghost use Rattle.std.specs.Prelude.{◌≡◌, IfOk, string_bytes};
-ghost use Rattle.std.specs.Range.Bound.{bound_map};
+ghost use Rattle.std.specs.Prelude.{◌≡◌, IfOk};
 ghost use Rattle.version_ranges.specs.Clamp.{bound_of};
-ghost use Rattle.version_ranges.specs.Point.{at, is_until};
-ghost use Rattle.marker_environment.specs.Environment.{valuation_of, values_of};
 ghost use Rattle.marker_diagrams.specs.Diagram as diagram;
-ghost use Rattle.marker_words.specs.Compare.{text_cmp};
 ghost use Rattle.marker_nodes.specs.Node.{markers};
-ghost use Rattle.marker_walks.specs.Report.{AddsComparisons, is_single};
+ghost use Rattle.marker_walks.specs.Evaluation.{truth_in};
+ghost use Rattle.marker_walks.specs.Report.{AddsComparisons, is_single, is_text_until};
 
 use crate::child::child_in;
 use marker_environment::MarkerEnvironment;
@@ -34,8 +31,7 @@ pub fn evaluate_and_report<R: Reporter>(
     requires rules { diagram.IsStore markers nodes.now }
     requires this { diagram.IsHeld nodes.now id }
     requires can_report { R.can_report reporter.old }
-    ensures answer { IfOk result (λ b. b ≡ diagram.truth markers nodes.now id
-        (valuation_of (values_of environment.now) extras.now)) }
+    ensures answer { IfOk result (λ b. b ≡ truth_in nodes.now id environment.now extras.now) }
     ensures told { AddsComparisons (R.kinds reporter.old) (R.kinds reporter.new) }
     ensures again { R.can_report reporter.new }
 {
@@ -136,8 +132,7 @@ fn is_single(piece: &Piece<'_, String, NodeId>) -> bool
 
 // Whether a text is not above an upper bound.
 fn is_up_to(text: &str, upper: Bound<&String>) -> bool
-    ensures { result ≡ is_until text_cmp (bound_map string_bytes (bound_of upper.entry))
-        (at text.now) }
+    ensures { result ≡ is_text_until upper.entry text.now }
 {
     match upper {
         Bound::Included(bound) => text <= bound.as_str(),

@@ -19,11 +19,14 @@ pub struct CutsRef<'a, T: Ord, V> {
 }
 
 impl<T: Ord, V> Cuts<T, V> {
-    ghost use Rattle.version_ranges.specs.Lent.{IsLent};
+    ghost use Rattle.std.specs.Prelude.{◌≡◌, Bool};
+    ghost use Rattle.version_ranges.specs.Bounds.{all_cuts};
+    ghost use Rattle.version_ranges.specs.Lent.{IsLent, all_lent_cuts};
 
     /// Borrows the function.
     pub fn lend(&self) -> CutsRef<'_, T, V>
-        ensures { IsLent self.now result }
+        ensures values { IsLent self.now result }
+        ensures bounds { (test : T → Bool) → all_lent_cuts test result ≡ all_cuts test self.now }
     {
         CutsRef {
             first: &self.first,
@@ -33,11 +36,13 @@ impl<T: Ord, V> Cuts<T, V> {
 }
 
 impl<'a, T: Ord, V> CutsRef<'a, T, V> {
-    ghost use Rattle.version_ranges.specs.Lent.{HasValueEverywhere};
+    ghost use Rattle.std.specs.Prelude.{◌≡◌, Bool, true};
+    ghost use Rattle.version_ranges.specs.Lent.{HasValueEverywhere, all_lent_cuts};
 
     /// Returns the function with the same value at every point.
     pub fn constant(value: &'a V) -> Self
-        ensures { HasValueEverywhere value.now result }
+        ensures value { HasValueEverywhere value.now result }
+        ensures bounds { (test : T → Bool) → all_lent_cuts test result ≡ true }
     {
         CutsRef {
             first: value,

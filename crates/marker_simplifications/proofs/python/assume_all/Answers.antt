@@ -1,4 +1,4 @@
-use Rattle.std.proofs.Common.{length, sym, ap, ◌∙◌, arith}
+use Rattle.std.proofs.Common.{length, ap, arith}
 use Rattle.version_ranges.specs.Clamp.{bound_of}
 use Rattle.marker_nodes.specs.Node.{markers}
 use Rattle.marker_diagrams.proofs.NodeLaws.{keeps_itself, keeps_both}

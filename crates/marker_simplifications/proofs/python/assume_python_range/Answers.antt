@@ -2,6 +2,8 @@ use Rattle.std.proofs.Common.{sym, ap, ◌∙◌, subst, length}
 use Rattle.version_ranges.specs.Cuts.{piece_of}
 use Rattle.version_ranges.specs.Clamp.{bound_of}
 use Rattle.pep440_version.specs.Order.{version_cmp}
+use Rattle.pep440_rs.specs.Intervals.{is_trimmed}
+use Rattle.pep440_rs.proofs.Trimmed.{clones-keep}
 use Rattle.marker_words.specs.declared.key.VersionVariable.TheVariants.{ImplementationVersion}
 use Rattle.marker_nodes.specs.Node.{child_at}
 use Rattle.marker_nodes.proofs.NodeLaws.{at_version}
@@ -40,3 +42,6 @@ returns-clause-assumed c =
     (made_at mid lower upper c.in-Some.edges.now c.in_ok-edges.edges c.in_ok-children.children.items made c.in_ok-edges.ensures.cases.1 (λ q. c.in_ok-children.ensures.value (at_version q))
     (c.in_ok-children-2.ensures.count ∙ ap length c.deref.ensures) (subst (λ l. AreAssumed mid lower upper l made) c.deref.ensures c.in_ok-children-2.ensures.assumed))
     c.place.new.self c.in_ok-placed.ensures.kept c.in_ok-placed.placed c.in_ok-placed.ensures.id)
+
+pub place-requires-clause-trimmed : goal.place-requires-clause-trimmed
+place-requires-clause-trimmed c = c.in_ok-edges.ensures.cases.2 is_trimmed (clones-keep is_trimmed) c.in-Some.ensures.bounds

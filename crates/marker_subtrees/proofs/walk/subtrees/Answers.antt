@@ -20,10 +20,10 @@ loop-index-preserved c =
     elim c.match-node.branch [
       | in-Some-node+in_ok-add_children w ↦
           rw w.found-is (walks_node c.args.table.now c.args.id c.loop-index.index c.loop-index.found.keys w.add_children.new.found.keys c.in-Some.parent w.in-Some-node.node.now
-          (sym (c.in-Some.ensures ∙ c.get_index.ensures.key)) (sym w.in-Some-node.ensures) w.in_ok-add_children.ensures c.loop-index.invariant)
+          (sym (c.in-Some.ensures ∙ c.get_index.ensures.key)) (sym w.in-Some-node.ensures.node) w.in_ok-add_children.ensures c.loop-index.invariant)
       | in_default-node w ↦
           rw w.found-is (walks_leaf c.args.table.now c.args.id c.loop-index.index c.loop-index.found.keys c.in-Some.parent
-          (sym (c.in-Some.ensures ∙ c.get_index.ensures.key)) (sym c.node.ensures ∙ ap option_copied w.in_default-node.is) c.loop-index.invariant)
+          (sym (c.in-Some.ensures ∙ c.get_index.ensures.key)) (sym c.node.ensures.node ∙ ap option_copied w.in_default-node.is) c.loop-index.invariant)
     ]
 
 pub returns-then-len-most : goal.returns-then-len-most

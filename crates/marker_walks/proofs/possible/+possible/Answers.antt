@@ -17,7 +17,7 @@ possible-returns-then-is_known_out-clause-answer t c = out_tells c.args.extras.n
 pub possible_by_nodes-returns-in-None-clause-answer : goal.possible_by_nodes-returns-in-None-clause-answer
 possible_by_nodes-returns-in-None-clause-answer t c =
     let s = some_sought c.args.extras.now c.args.versions c.requires.search.some in
-    c.loop-variable.invariant.rest _ (end_tells c.args.extras.now (listed_versions c.args.versions) c.args.nodes.now c.requires.search.rules c.loop-variable.at s.0 s.1 s.2 c.in-None.ensures _ (ap not c.is_complement.ensures))
+    c.loop-variable.invariant.rest _ (end_tells c.args.extras.now (listed_versions c.args.versions) c.args.nodes.now c.requires.search.rules c.loop-variable.at s.0 s.1 s.2 c.in-None.ensures.node _ (ap not c.is_complement.ensures))
 
 pub possible_at_version-loop-piece-init : goal.possible_at_version-loop-piece-init
 possible_at_version-loop-piece-init t c =

@@ -11,13 +11,13 @@ loop-node-init g c = record { held = c.requires.this; same = refl; can_report = 
 pub loop-node-smaller : goal.loop-node-smaller
 loop-node-smaller g c =
     let u = c.negate-at.ensures ∙ ap (signed_id (is_negated c.loop-node.at)) c.child_in.ensures in
-    let stands = c.in-Some.ensures in
+    let stands = c.in-Some.ensures.node in
     down_smaller c.args.nodes.now c.requires.rules c.loop-node.at c.negate-at.result c.in-Some.node.now stands (valuation_of (values_of c.args.environment.now) c.args.extras.now) u
 
 pub loop-node-preserved : goal.loop-node-preserved
 loop-node-preserved g c =
     let u = c.negate-at.ensures ∙ ap (signed_id (is_negated c.loop-node.at)) c.child_in.ensures in
-    let stands = c.in-Some.ensures in
+    let stands = c.in-Some.ensures.node in
     let v = valuation_of (values_of c.args.environment.now) c.args.extras.now in
     record {
       held = down_held c.args.nodes.now c.requires.rules c.loop-node.at c.negate-at.result c.in-Some.node.now stands v u c.loop-node.invariant.held;
@@ -32,4 +32,4 @@ returns-in_err-report_node-clause-told g c = told_more (g.R.Reporter.kinds c.arg
 pub returns-clause-answer : goal.returns-clause-answer
 returns-clause-answer g c =
     ap not c.is_complement.ensures
-    ∙ sym (end_means c.args.nodes.now c.loop-node.at (valuation_of (values_of c.args.environment.now) c.args.extras.now) c.in_default.ensures) ∙ c.loop-node.invariant.same
+    ∙ sym (end_means c.args.nodes.now c.loop-node.at (valuation_of (values_of c.args.environment.now) c.args.extras.now) c.in_default.ensures.node) ∙ c.loop-node.invariant.same

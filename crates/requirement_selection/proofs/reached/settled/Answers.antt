@@ -8,9 +8,9 @@ loop-node-init c = record { held = c.requires.held; same = λ v a. refl }
 pub loop-node-smaller : goal.loop-node-smaller
 loop-node-smaller c =
     settled_below c.args.target.now c.args.table.now c.requires.rules c.args.id c.loop-node.at c.negate-at.result c.in-Some-child_in.child c.in-Some.node.now
-    (sym c.in-Some.ensures) (sym c.in-Some-child_in.ensures) c.negate-at.ensures
+    (sym c.in-Some.ensures.node) (sym c.in-Some-child_in.ensures) c.negate-at.ensures
 
 pub loop-node-preserved : goal.loop-node-preserved
 loop-node-preserved c =
     settled_on c.args.target.now c.args.table.now c.requires.rules c.args.id c.loop-node.at c.negate-at.result c.in-Some-child_in.child c.in-Some.node.now
-    (sym c.in-Some.ensures) (sym c.in-Some-child_in.ensures) c.negate-at.ensures c.loop-node.invariant
+    (sym c.in-Some.ensures.node) (sym c.in-Some-child_in.ensures) c.negate-at.ensures c.loop-node.invariant

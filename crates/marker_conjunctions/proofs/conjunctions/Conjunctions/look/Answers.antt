@@ -27,8 +27,8 @@ loop-left-preserved c =
     c.negate-left.result c.negate-right.result c.negate-left.ensures c.negate-right.ensures
     c.push-in-None-look_up.new.self.items c.in_ok-push-in-None-look_up.ensures.items c.in-None-look_up.ensures.unsettled
 
-pub choice-requires : goal.choice-requires
-choice-requires c =
+pub choice-requires-clause-count : goal.choice-requires-clause-count
+choice-requires-clause-count c =
     let s = c.side_by_side.result in
     walk_count c.args.nodes.now c.args.self.now.memo.entries c.args.a c.args.b (variable s) (pair_at s) (piece s) (count s) (λ v. signed_branches c.args.nodes.now _ c.args.a c.args.b _ _ c.negate-unsigned_a.ensures c.negate-unsigned_b.ensures v _ (c.side_by_side.ensures.children v))
     c.args.pending.now.items c.loop-left.pending.items _ c.loop-left.next c.loop-left.children.items c.in-None.ensures.steps.0 c.loop-left.invariant

@@ -12,9 +12,10 @@ invariant_of-result g c =
     let same_length : length c.negate_all.new.children ≡ length c.args.children.items = c.negate_all.auto.children ∙ ap length c.as_mut_slice.ensures.value in
     record {
       joined = c.in_ok-node.ensures.joined;
+      trimmed = c.in_ok-node.ensures.trimmed;
       leading = node_leads (piece c.args.self) c.args.children.items c.negate_all.new.children (child_at c.deref.result.now 0) c.in_ok-node.node
           (ap (λ xs. child_at xs 0) c.deref.ensures)
-          (λ v. let h = piece_within c.args.self v in let e = c.requires in omega arith)
+          (λ v. let h = piece_within c.args.self v in let e = c.requires.count in omega arith)
           (λ i l. c.negate_all.ensures i (let e = same_length in omega arith) ∙ ap (λ xs. signed_id (is_negated (child_at c.deref.result.now 0)) (child_at xs i)) c.as_mut_slice.ensures.value)
           (rw (written c.negate_all.new.children c.args.children.items (length c.args.children.items) (let l = same_length in omega arith)) at c.in_ok-node.ensures.value)
           (piece_lowest c.args.self);
@@ -25,6 +26,6 @@ returns-clause-child g c =
     let same_length : length c.negate_all.new.children ≡ length c.args.children.items = c.negate_all.auto.children ∙ ap length c.as_mut_slice.ensures.value in
     node_chooses (piece c.args.self) c.args.children.items c.negate_all.new.children (child_at c.deref.result.now 0) c.in_ok-node.node
     (ap (λ xs. child_at xs 0) c.deref.ensures)
-    (λ v. let h = piece_within c.args.self v in let e = c.requires in omega arith)
+    (λ v. let h = piece_within c.args.self v in let e = c.requires.count in omega arith)
     (λ i l. c.negate_all.ensures i (let e = same_length in omega arith) ∙ ap (λ xs. signed_id (is_negated (child_at c.deref.result.now 0)) (child_at xs i)) c.as_mut_slice.ensures.value)
     (rw (written c.negate_all.new.children c.args.children.items (length c.args.children.items) (let l = same_length in omega arith)) at c.in_ok-node.ensures.value)

@@ -1,4 +1,5 @@
-use Rattle.std.proofs.Common.{◌∙◌, subst}
+use Rattle.std.proofs.Common.{refl, ◌∙◌, subst}
+use Rattle.std.proofs.lemmas.Bool.{and_from}
 use Rattle.marker_nodes.specs.Branches.{variable}
 use Rattle.marker_nodes.specs.Side.{IsFirst, IsSide}
 use Rattle.marker_nodes.specs.Variable.{of_version, of_text}
@@ -13,8 +14,9 @@ returns-in-Version c =
     record {
       first = subst (λ n. IsFirst c.args.self.now (variable n) c.args.a.now c.args.b.now) c.in-Version.is c.first_node-first.ensures.first;
       children = λ v.
-          both_children c.args.self.now (of_version c.in-Version.variable) c.args.a.now c.args.b.now v _ _ (c.version_side-left.ensures v ∙ node_child c.args.self.now _ _ _ _ left v)
-          (c.version_side-right.ensures v ∙ node_child c.args.self.now _ _ _ _ right v);
+          both_children c.args.self.now (of_version c.in-Version.variable) c.args.a.now c.args.b.now v _ _ (c.version_side-left.ensures.children v ∙ node_child c.args.self.now _ _ _ _ left v)
+          (c.version_side-right.ensures.children v ∙ node_child c.args.self.now _ _ _ _ right v);
+      trimmed = and_from _ _ c.version_side-left.ensures.trimmed c.version_side-right.ensures.trimmed;
     }
 
 pub returns-in-Text : goal.returns-in-Text
@@ -27,6 +29,7 @@ returns-in-Text c =
       children = λ v.
           both_children c.args.self.now (of_text c.in-Text.variable) c.args.a.now c.args.b.now v _ _ (c.text_side-left.ensures v ∙ node_child c.args.self.now _ _ _ _ left v)
           (c.text_side-right.ensures v ∙ node_child c.args.self.now _ _ _ _ right v);
+      trimmed = refl;
     }
 
 pub returns-in-Truth : goal.returns-in-Truth
@@ -38,4 +41,5 @@ returns-in-Truth c =
       first = subst (λ n. IsFirst c.args.self.now (variable n) c.args.a.now c.args.b.now) c.in-Truth.is c.first_node-first.ensures.first;
       children = truth_children c.args.self.now c.in-Truth.variable c.args.a.now c.args.b.now c.halves.result.0.now c.halves.result.1.now c.halves-in-Truth.result.0.now c.halves-in-Truth.result.1.now
           (λ v. c.halves.ensures v ∙ node_child c.args.self.now _ _ _ _ left v) (λ v. c.halves-in-Truth.ensures v ∙ node_child c.args.self.now _ _ _ _ right v);
+      trimmed = refl;
     }
