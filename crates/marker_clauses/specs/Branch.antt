@@ -1,5 +1,5 @@
 -- The clauses that lead to each subtree of a marker.
-use Rattle.std.specs.Prelude.{◌≡◌, ◌≢◌, ◌⊎◌, ◌<◌, ◌&&◌, ◌||◌, ◌++◌, ℕ, Vec, ⊤, Bool, true, false, List, [], ◌∷◌, Some, slice_get, string_bytes}
+use Rattle.std.specs.Prelude.{◌≡◌, ◌≢◌, ◌⊎◌, ◌<◌, ◌&&◌, ◌||◌, ◌++◌, ℕ, Vec, ⊤, Bool, true, false, IfOk, IfSome, List, [], ◌∷◌, Option, Result, Some, slice_get, string_bytes}
 use Rattle.std.specs.List.{AllByRecursion, list_any}
 use Rattle.std.specs.declared.cmp.Ordering.{Ordering}
 use Rattle.version_ranges.specs.Bounds.{all_cuts}
@@ -10,6 +10,7 @@ use Rattle.pep440_version.specs.Order.{version_cmp}
 use Rattle.pep440_rs.specs.Bounds.{is_release}
 use Rattle.marker_words.specs.Compare.{text_cmp}
 use Rattle.marker_words.specs.declared.key.MarkerValueString.{MarkerValueString}
+use Rattle.marker_words.specs.declared.operator.ExtraOperator.{ExtraOperator}
 use Rattle.marker_words.specs.declared.operator.ExtraOperator.TheVariants as operators
 use Rattle.marker_words.specs.declared.operator.MarkerOperator.{MarkerOperator}
 use Rattle.marker_environment.specs.Valuation.{Valuation}
@@ -17,10 +18,11 @@ use Rattle.marker_parts.specs.Expression as asked
 use Rattle.marker_parts.specs.Expression.{test_of}
 use Rattle.marker_parts.specs.declared.expression.MarkerExpression.{MarkerExpression}
 use Rattle.marker_terms.specs.Clauses.{clause_holds, clauses_hold, clauses_of}
-use Rattle.marker_terms.specs.Plain.{HavePrintableTerms, is_plain}
+use Rattle.marker_terms.specs.Plain.{AllPrintable, HavePrintableTerms, IsPlainExtra, is_plain}
 use Rattle.marker_diagrams.specs.Id.{place_of}
 use Rattle.marker_nodes.specs.Node.{Node}
 use Rattle.marker_nodes.specs.declared.node.Branches.TheVariants.{Version, Text, Truth}
+use Rattle.marker_nodes.specs.Variable.{truth_variable}
 use Rattle.marker_graph.specs.declared.kind.MarkerValueExtraRef.{MarkerValueExtraRef}
 use Rattle.marker_graph.specs.declared.kind.MarkerValueExtraRef.TheVariants as extras
 use Rattle.marker_graph.specs.declared.kind.StringMarkerTree.{StringMarkerTree}
@@ -29,10 +31,10 @@ use Rattle.marker_graph.specs.declared.tree.MarkerTree.{MarkerTree}
 use Rattle.marker_graph.specs.declared.tree.TheConstants.MarkerTree.{FALSE, TRUE}
 use Rattle.marker_graph.specs.Contents.{Contents, IsHeld, truth}
 use Rattle.marker_graph.specs.Edges.{child_of}
-use Rattle.marker_graph.specs.Kind.{string_edges, version_edges}
+use Rattle.marker_graph.specs.Kind.{extra_question, string_edges, version_edges}
 use Rattle.marker_graph.specs.Tree.{node_of, IsSubtree}
 use Rattle.marker_clauses.specs.declared.branch.Branch.{Branch}
-use Rattle.marker_clauses.specs.Readable.{IsReadable}
+use Rattle.marker_clauses.specs.Readable.{IsPlainVariable, IsReadable}
 
 -- a node that branches on a version has its bounds at releases
 abbrev pub IsReleaseNode : Node → Type 0
@@ -109,6 +111,11 @@ abbrev pub FollowTexts : StringMarkerTree → List Branch → Type 0
 FollowTexts view branches = FollowEdges text_cmp (λ v. v.text view.variable)
     (⊤ × DividePoints text_cmp (string_edges view)) (string_edges view) branches
 
+-- one branch for each edge of a text
+abbrev pub FollowTextEdges : StringMarkerTree → List Branch → Type 0
+FollowTextEdges view branches =
+    FollowEdges text_cmp (λ v. v.text view.variable) ⊤ (string_edges view) branches
+
 -- no bound of a text has both quotes
 abbrev pub HasPlainBounds : StringMarkerTree → Type 0
 HasPlainBounds view = all_cuts (λ t. is_plain (string_bytes t)) view.cuts.now ≡ true
@@ -117,6 +124,15 @@ HasPlainBounds view = all_cuts (λ t. is_plain (string_bytes t)) view.cuts.now �
 abbrev pub HavePrintableBranches : List Branch → Type 0
 HavePrintableBranches branches =
     AllByRecursion (λ b. HavePrintableTerms (clauses_of b.clauses.items)) branches
+
+-- the same, if no bound of the text has both quotes
+abbrev pub HavePrintableTexts : StringMarkerTree → List Branch → Type 0
+HavePrintableTexts view branches = HasPlainBounds view → HavePrintableBranches branches
+
+-- a fact of the branches that were made, if any were
+abbrev pub IfFound : {A E : Type 0} → Result (Option (Vec Branch A)) E
+    → (List Branch → Type 0) → Type 0
+IfFound result P = IfOk result (λ found. IfSome found (λ branches. P branches.items))
 
 -- a subtree of a marker, whose node is older
 abbrev pub IsBelow : Contents → MarkerTree → MarkerTree → Type 0
@@ -140,6 +156,12 @@ IsAnswered test t old new = ((t ≡ FALSE) × (new ≡ old))
     ⊎ ((b : Branch) × (term : MarkerExpression) × (new ≡ old ++ b ∷ [])
     × (test_of term ≡ test) × IsOne b term t)
 
+-- the branches grow by the one of a comparison with a text, if it does not lead to `FALSE`
+abbrev pub AddsTextTest : {A : Type 0} → MarkerValueString → MarkerOperator → List ℕ → MarkerTree
+    → Vec Branch A → Vec Branch A → Type 0
+AddsTextTest key operator text t old new =
+    IsAnswered (asked.text key operator text) t old.items new.items
+
 -- the branches of two comparisons
 abbrev pub AreAnswers : asked.Test → MarkerTree → asked.Test → MarkerTree → List Branch → Type 0
 AreAnswers positive high negative low branches = (first : List Branch)
@@ -155,6 +177,17 @@ AreTextAnswers key text positive negative branches = AreAnswers
 abbrev pub extra_of_ref : MarkerValueExtraRef → asked.Extra
 extra_of_ref (extras.Extra n) = asked.name n.now
 extra_of_ref (extras.Arbitrary t) = asked.arbitrary (string_bytes t.now)
+
+-- the branches grow by the one of a comparison with an extra, if it does not lead to `FALSE`
+abbrev pub AddsExtraTest : {A : Type 0} → ExtraOperator → MarkerValueExtraRef → MarkerTree
+    → Vec Branch A → Vec Branch A → Type 0
+AddsExtraTest operator extra t old new =
+    IsAnswered (asked.extra operator (extra_of_ref extra)) t old.items new.items
+
+-- the text that `extra` is compared with can be printed if the variable can
+abbrev pub IsPlainAsVariable : MarkerValueExtraRef → Type 0
+IsPlainAsVariable extra =
+    IsPlainVariable (truth_variable (extra_question extra)) → IsPlainExtra (extra_of_ref extra)
 
 -- the branches of a comparison with an extra and of its negation
 abbrev pub AreExtraAnswers : MarkerValueExtraRef → MarkerTree → MarkerTree → List Branch → Type 0
@@ -179,3 +212,35 @@ HoldAlsoBehind c t path old new = HasReleases c t
 abbrev pub StayPrintable : {A : Type 0} → List (Vec MarkerExpression A)
     → List (Vec MarkerExpression A) → Type 0
 StayPrintable old new = HavePrintableTerms (clauses_of old) → HavePrintableTerms (clauses_of new)
+
+-- two clauses hold at the same valuations
+abbrev pub HoldTogether : List MarkerExpression → List MarkerExpression → Type 0
+HoldTogether a b = (v : Valuation) → clause_holds a v ≡ clause_holds b v
+
+-- the terms can be printed if those of a path and its last ones can
+abbrev pub AllPrintableIfBoth : List MarkerExpression → List MarkerExpression
+    → List MarkerExpression → Type 0
+AllPrintableIfBoth path terms all = AllPrintable path → AllPrintable terms → AllPrintable all
+
+-- the clauses grow by one that has these terms
+abbrev pub AddsClause : {A B : Type 0} → List MarkerExpression
+    → Vec (Vec MarkerExpression A) B → Vec (Vec MarkerExpression A) B → Type 0
+AddsClause terms old new =
+    HoldAlso (clauses_of new.items) (clauses_of old.items) (clause_holds terms)
+
+-- the clauses stay printable if the terms of a path and its last ones can be printed
+abbrev pub StayPlainWith : {A B : Type 0} → List MarkerExpression → List MarkerExpression
+    → Vec (Vec MarkerExpression A) B → Vec (Vec MarkerExpression A) B → Type 0
+StayPlainWith path terms old new =
+    AllPrintable path → AllPrintable terms → StayPrintable old.items new.items
+
+-- the clauses grow by those of the marker's paths, each behind the terms of a path to the marker
+abbrev pub AddsPaths : {A B : Type 0} → Contents → MarkerTree → Vec MarkerExpression A
+    → Vec (Vec MarkerExpression A) B → Vec (Vec MarkerExpression A) B → Type 0
+AddsPaths c t path old new = HoldAlsoBehind c t path.items old.items new.items
+
+-- the clauses stay printable behind a path that can be printed to a readable marker
+abbrev pub StayPlain : {A B : Type 0} → Contents → MarkerTree → Vec MarkerExpression A
+    → Vec (Vec MarkerExpression A) B → Vec (Vec MarkerExpression A) B → Type 0
+StayPlain c t path old new =
+    IsReadable c t → AllPrintable path.items → StayPrintable old.items new.items

@@ -1,16 +1,10 @@
 //! The clauses that lead to each subtree of a marker.
 
-ghost use Rattle.std.specs.Prelude.{◌≡◌, IfOk, IfSome, OnOk, string_bytes, true, ⊤};
-ghost use Rattle.version_ranges.specs.Bounds.{all_cuts};
-ghost use Rattle.marker_words.specs.Compare.{text_cmp};
+ghost use Rattle.std.specs.Prelude.{◌≡◌, IfOk, OnOk};
 ghost use Rattle.marker_parts.specs.Expression as asked;
 ghost use Rattle.marker_parts.specs.Expression.{test_of};
-ghost use Rattle.marker_nodes.specs.Variable.{truth_variable};
-ghost use Rattle.marker_terms.specs.Plain.{IsPlainExtra, is_plain};
 ghost use Rattle.marker_graph.specs.Contents.{IsHeld};
-ghost use Rattle.marker_graph.specs.Kind.{extra_question, string_edges};
-ghost use Rattle.marker_clauses.specs.Branch.{AreBranches, AreExtraAnswers, AreTextAnswers, FollowEdges, FollowTexts, FollowVersionEdges, FollowVersions, HasPlainBounds, HavePrintableBranches, IsAnswered, IsOne, LeadToTexts, LeadToVersions, extra_of_ref};
-ghost use Rattle.marker_clauses.specs.Readable.{IsPlainVariable};
+ghost use Rattle.marker_clauses.specs.Branch.{AddsExtraTest, AddsTextTest, AreBranches, AreExtraAnswers, AreTextAnswers, FollowTextEdges, FollowTexts, FollowVersionEdges, FollowVersions, HavePrintableBranches, HavePrintableTexts, IfFound, IsOne, IsPlainAsVariable, LeadToTexts, LeadToVersions, extra_of_ref};
 
 use marker_graph::{
     ExtraMarkerTree, Interner, MarkerTree, MarkerTreeKind, MarkerValueExtraRef, StringMarkerTree,
@@ -127,10 +121,8 @@ fn version_around(
     alloc: Global,
     view: VersionMarkerTree<'_>,
 ) -> Result<Option<Vec<Branch>>, AllocError>
-    ensures follow { IfOk result (λ found. IfSome found (λ branches.
-        FollowVersions view.entry branches.items)) }
-    ensures printable { IfOk result (λ found. IfSome found (λ branches.
-        HavePrintableBranches branches.items)) }
+    ensures follow { IfFound result (FollowVersions view.entry) }
+    ensures printable { IfFound result HavePrintableBranches }
 {
     let mut edges = view.edges();
     let Some((_, _, around)) = edges.next() else {
@@ -182,11 +174,8 @@ fn version_branches(alloc: Global, view: VersionMarkerTree<'_>) -> Result<Vec<Br
 
 // The branches of a marker that asks about a text, one for each edge.
 fn text_edge_branches(alloc: Global, view: StringMarkerTree<'_>) -> Result<Vec<Branch>, AllocError>
-    ensures follow { IfOk result (λ branches. FollowEdges text_cmp
-        (λ v. v.text view.entry.variable) ⊤ (string_edges view.entry) branches.items) }
-    ensures printable { IfOk result (λ branches.
-        all_cuts (λ t. is_plain (string_bytes t)) view.entry.cuts.now ≡ true
-        → HavePrintableBranches branches.items) }
+    ensures follow { IfOk result (λ branches. FollowTextEdges view.entry branches.items) }
+    ensures printable { IfOk result (λ branches. HavePrintableTexts view.entry branches.items) }
 {
     let mut branches = Vec::new(alloc);
     for edge in view.children() {
@@ -204,10 +193,8 @@ fn text_edge_branches(alloc: Global, view: StringMarkerTree<'_>) -> Result<Vec<B
 // The same, where a single comparison excludes the second edge, and the only others, the first and
 // the third one, lead to one subtree.
 fn text_around(alloc: Global, view: StringMarkerTree<'_>) -> Result<Option<Vec<Branch>>, AllocError>
-    ensures follow { IfOk result (λ found. IfSome found (λ branches.
-        FollowTexts view.entry branches.items)) }
-    ensures printable { IfOk result (λ found. IfSome found (λ branches.
-        HasPlainBounds view.entry → HavePrintableBranches branches.items)) }
+    ensures follow { IfFound result (FollowTexts view.entry) }
+    ensures printable { IfFound result (HavePrintableTexts view.entry) }
 {
     let mut edges = view.children();
     let Some((_, _, around)) = edges.next() else {
@@ -240,9 +227,7 @@ fn text_around(alloc: Global, view: StringMarkerTree<'_>) -> Result<Option<Vec<B
 // The same, where the edges of each subtree are joined.
 fn text_branches(alloc: Global, view: StringMarkerTree<'_>) -> Result<Vec<Branch>, AllocError>
     ensures lead { IfOk result (λ branches. LeadToTexts view.entry branches.items) }
-    ensures printable { IfOk result (λ branches.
-        all_cuts (λ t. is_plain (string_bytes t)) view.entry.cuts.now ≡ true
-        → HavePrintableBranches branches.items) }
+    ensures printable { IfOk result (λ branches. HavePrintableTexts view.entry branches.items) }
 {
     let mut branches = Vec::new(alloc);
     let cuts = view.cuts();
@@ -267,8 +252,7 @@ fn text_answers(
     positive: (MarkerOperator, MarkerTree),
     negative: (MarkerOperator, MarkerTree),
 ) -> Result<Vec<Branch>, AllocError>
-    ensures { IfOk result (λ branches.
-        AreTextAnswers key text.now positive negative branches.items) }
+    ensures { IfOk result (λ answers. AreTextAnswers key text.now positive negative answers.items) }
 {
     let mut branches = Vec::with_capacity(alloc, 2)?;
     add_text_test(&mut branches, key, positive.0, text, positive.1)?;
@@ -300,8 +284,7 @@ fn add_text_test(
     text: &str,
     child: MarkerTree,
 ) -> Result<(), AllocError>
-    ensures { OnOk result (IsAnswered (asked.text key operator text.now) child
-        branches.old.items branches.new.items) }
+    ensures { OnOk result (AddsTextTest key operator text.now child branches.old branches.new) }
 {
     if child.is_false() {
         return Ok(());
@@ -320,8 +303,7 @@ fn add_extra_test(
     extra: MarkerValueExtraRef<'_>,
     child: MarkerTree,
 ) -> Result<(), AllocError>
-    ensures { OnOk result (IsAnswered (asked.extra operator (extra_of_ref extra.entry)) child
-        branches.old.items branches.new.items) }
+    ensures { OnOk result (AddsExtraTest operator extra.entry child branches.old branches.new) }
 {
     if child.is_false() {
         return Ok(());
@@ -374,8 +356,7 @@ fn extra_test(
 // `extra` is compared with a name in normal form, or with a text: either can be printed if it is
 // plain.
 fn names_are_normal(extra: MarkerValueExtraRef<'_>)
-    ensures { IsPlainVariable (truth_variable (extra_question extra.entry))
-        → IsPlainExtra (extra_of_ref extra.entry) }
+    ensures { IsPlainAsVariable extra.entry }
 {
     if let MarkerValueExtraRef::Extra(name) = extra {
         // Reading the text of a name shows that it is in normal form.

@@ -1,12 +1,9 @@
 //! The paths of a marker as clauses.
 
 ghost use Rattle.std.specs.Prelude.{◌≡◌, ◌++◌, IfOk, OnOk};
-ghost use Rattle.marker_environment.specs.Valuation.{Valuation};
-ghost use Rattle.marker_terms.specs.Clauses.{clause_holds, clauses_of};
 ghost use Rattle.marker_terms.specs.Plain.{AllPrintable};
 ghost use Rattle.marker_graph.specs.Contents.{IsHeld};
-ghost use Rattle.marker_clauses.specs.Branch.{HoldAlso, HoldAlsoBehind, StayPrintable};
-ghost use Rattle.marker_clauses.specs.Readable.{IsReadable};
+ghost use Rattle.marker_clauses.specs.Branch.{AddsClause, AddsPaths, AllPrintableIfBoth, HoldTogether, StayPlain, StayPlainWith};
 
 use crate::branch::{Branch, branches};
 use marker_graph::{Interner, MarkerTree};
@@ -26,10 +23,8 @@ pub(crate) fn collect(
 ) -> Result<(), AllocError>
     requires { IsHeld interner.now tree }
     ensures path { OnOk result (path.new.items ≡ path.old.items) }
-    ensures means { OnOk result (HoldAlsoBehind interner.now tree path.old.items
-        clauses.old.items clauses.new.items) }
-    ensures printable { OnOk result (IsReadable interner.now tree → AllPrintable path.old.items
-        → StayPrintable clauses.old.items clauses.new.items) }
+    ensures means { OnOk result (AddsPaths interner.now tree path.old clauses.old clauses.new) }
+    ensures printable { OnOk result (StayPlain interner.now tree path.old clauses.old clauses.new) }
 {
     if tree.is_true() {
         let none = Vec::new(interner.allocator());
@@ -65,10 +60,8 @@ fn add_clause(
     room: &mut usize,
     clauses: &mut Vec<Vec<MarkerExpression>>,
 ) -> Result<(), AllocError>
-    ensures means { OnOk result (HoldAlso (clauses_of clauses.new.items)
-        (clauses_of clauses.old.items) (clause_holds (path.now ++ terms.items))) }
-    ensures printable { OnOk result (AllPrintable path.now → AllPrintable terms.items
-        → StayPrintable clauses.old.items clauses.new.items) }
+    ensures means { OnOk result (AddsClause (path.now ++ terms.items) clauses.old clauses.new) }
+    ensures printable { OnOk result (StayPlainWith path.now terms.items clauses.old clauses.new) }
 {
     let count = path.len().saturating_add(terms.len());
     if *room < count {
@@ -86,10 +79,8 @@ fn joined(
     path: &[MarkerExpression],
     terms: Vec<MarkerExpression>,
 ) -> Result<Vec<MarkerExpression>, AllocError>
-    ensures means { IfOk result (λ all. (v : Valuation)
-        → clause_holds all.items v ≡ clause_holds (path.now ++ terms.items) v) }
-    ensures printable { IfOk result
-        (λ all. AllPrintable path.now → AllPrintable terms.items → AllPrintable all.items) }
+    ensures means { IfOk result (λ all. HoldTogether all.items (path.now ++ terms.items)) }
+    ensures printable { IfOk result (λ all. AllPrintableIfBoth path.now terms.items all.items) }
 {
     if path.is_empty() {
         return Ok(terms);
@@ -106,8 +97,7 @@ fn clones(
     path: &[MarkerExpression],
     more: usize,
 ) -> Result<Vec<MarkerExpression>, AllocError>
-    ensures means { IfOk result (λ all. (v : Valuation)
-        → clause_holds all.items v ≡ clause_holds path.now v) }
+    ensures means { IfOk result (λ all. HoldTogether all.items path.now) }
     ensures printable { IfOk result (λ all. AllPrintable path.now → AllPrintable all.items) }
 {
     let mut all = Vec::with_capacity(alloc, path.len().saturating_add(more))?;

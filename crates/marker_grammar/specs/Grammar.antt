@@ -66,3 +66,8 @@ pub record Reads (text : List ℕ) (f : Option Formula) (kinds : Kinds) : Type 0
 abbrev pub IsOnlyReading : List ℕ → Option Formula → Kinds → Type 0
 IsOnlyReading text f kinds =
     (g : Option Formula) (k : Kinds) → Reads text g k → (f ≡ g) × (kinds ≡ k)
+
+-- whatever the text says, it says nothing else
+abbrev pub SaysOneFormula : List ℕ → Type 0
+SaysOneFormula text =
+    (f : Option Formula) (kinds : Kinds) → Reads text f kinds → IsOnlyReading text f kinds

@@ -1,5 +1,5 @@
 -- The meaning of a parser's state: which results for the whole text are still possible.
-use Rattle.std.specs.Prelude.{◌≡◌, ◌↔◌, ℕ, ◌+◌, Bool, List, [], ◌∷◌, Option, reverse, length, All}
+use Rattle.std.specs.Prelude.{◌≡◌, ◌↔◌, ◌<◌, ℕ, ◌+◌, Bool, IfSome, List, [], ◌∷◌, Option, reverse, length, All}
 use Rattle.std.specs.Str.{chars}
 use Rattle.pep508_text.specs.Suffix.{IsSuffix}
 use Rattle.pep508_errors.specs.declared.warning.MarkerWarningKind.{MarkerWarningKind}
@@ -75,6 +75,14 @@ MayRead wanted.Rest r = After (outer_in r) (ors_in r) (ands_in r) (chars r.rest.
 abbrev pub LeavesReadings : Wanted → Reader → Wanted → Reader → Type 0
 LeavesReadings v r w s = (f : Option Formula) (k : Kinds) → MayRead v r f k ↔ MayRead w s f k
 
+-- the same of what follows an atom, unless the text ends there
+abbrev pub LeavesReadingsOn : Reader → Reader → Option Wanted → Type 0
+LeavesReadingsOn r s next = IfSome next (λ w. LeavesReadings wanted.Rest r w s)
+
+-- less of the text is left behind what follows an atom
+abbrev pub ShortensOn : Reader → Reader → Option Wanted → Type 0
+ShortensOn r s next = IfSome next (λ _. length s.rest.now < length r.rest.now)
+
 -- one reading is left: the formula and the kinds that a reader has at the end of the text
 abbrev pub LeavesOne : Reader → Reader → Type 0
 LeavesOne r s = (f : Option Formula) (k : Kinds) →
@@ -104,6 +112,14 @@ AllOpen May (g ∷ groups) stack =
 
 abbrev pub IsOpened : Wanted → Reader → Type 0
 IsOpened w r = AllOpen (MayEnd w r) (reverse r.groups.items) (under r.has_or r.has_and (stack_in r))
+
+-- a step keeps each parenthesis open
+abbrev pub KeepsOpened : Wanted → Reader → Wanted → Reader → Type 0
+KeepsOpened v r w s = IsOpened v r → IsOpened w s
+
+-- the same of what follows an atom, unless the text ends there
+abbrev pub KeepsOpenedOn : Reader → Reader → Option Wanted → Type 0
+KeepsOpenedOn r s next = IfSome next (λ w. KeepsOpened wanted.Rest r w s)
 
 -- why the reader stopped: memory ran out, or there is a fault of the text, and then no reading is
 -- left

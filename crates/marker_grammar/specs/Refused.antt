@@ -1,5 +1,6 @@
 -- Why a text was not read.
-use Rattle.std.specs.Prelude.{◌≡◌, ℕ, List, ◌++◌, Option, encode_utf8}
+use Rattle.std.specs.Prelude.{◌≡◌, ◌≢◌, ◌⊎◌, ℕ, List, [], ◌∷◌, ◌++◌, Option, encode_utf8}
+use Rattle.std.specs.Str.{chars}
 use Rattle.marker_words.specs.declared.fault.Fault.{Fault}
 use Rattle.marker_words.specs.Fault.{IsFault}
 use Rattle.pep508_errors.specs.declared.warning.MarkerWarningKind.{MarkerWarningKind}
@@ -29,3 +30,13 @@ IsTextFault = IsFault IsMarker
 abbrev pub IsRefusal : List ℕ → ComparisonError → Type 0
 IsRefusal text errors.OutOfMemory = Unit {0}
 IsRefusal text (errors.Fault e) = IsTextFault text e × IsNoMarker text
+
+-- the text does not begin with a closing parenthesis; 41 is `)`
+abbrev pub DoesNotClose : List ℕ → Type 0
+DoesNotClose text = (others : List ℕ) → chars text ≢ 41 ∷ others
+
+-- The fault where a parenthesis should close: of the text there, or of the text from the opening
+-- one on, which opens a marker if nothing is left.
+abbrev pub IsUnclosedFault : List ℕ → List ℕ → Fault → Type 0
+IsUnclosedFault text group e = DoesNotClose text → (chars text ≡ [] → OpensMarker group)
+    → IsTextFault text e ⊎ IsTextFault group e

@@ -1,7 +1,8 @@
 -- `~=` compares no texts.
-use Rattle.std.specs.Prelude.{◌≡◌, Bool, true, false, ◌&&◌, List, [], ◌∷◌, map}
+use Rattle.std.specs.Prelude.{◌≡◌, Bool, true, false, ◌&&◌, IfSome, List, [], ◌∷◌, Option, Vec, map}
 use Rattle.marker_words.specs.declared.operator.MarkerOperator.TheVariants.{TildeEqual}
-use Rattle.marker_parts.specs.Expression.{Test, text}
+use Rattle.marker_parts.specs.Expression.{Test, test_of, text}
+use Rattle.marker_parts.specs.declared.expression.MarkerExpression.{MarkerExpression}
 use Rattle.marker_grammar.specs.declared.formula.Token.{Token}
 use Rattle.marker_grammar.specs.Postfix.{Symbol, test, and, or, symbol_of}
 
@@ -21,3 +22,9 @@ are_valid (s ∷ symbols) = is_valid_symbol s && are_valid symbols
 -- none of the tests compares texts by `~=`
 abbrev pub IsValid : List Token → Type 0
 IsValid ts = are_valid (map symbol_of ts) ≡ true
+
+-- this stays so if an expression that is added does not compare texts by `~=` either
+abbrev pub StaysValidWith : {A : Type 0} → Option MarkerExpression → Vec Token A → Vec Token A
+    → Type 0
+StaysValidWith expression old new = IfSome expression (λ e. is_valid (test_of e) ≡ true)
+    → IsValid old.items → IsValid new.items

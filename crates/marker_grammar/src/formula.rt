@@ -1,11 +1,9 @@
 //! A formula as one flat list, so that neither dropping it nor walking over it is recursive.
 
-ghost use Rattle.std.specs.Prelude.{◌≡◌, ◌≤◌, ◌++◌, ◌∷◌, [], ◌&&◌, ◌||◌, if◌then◌else◌, length, option_map, true, IfOk, IfSome, OnOk};
-ghost use Rattle.marker_parts.specs.Expression.{test_of};
-ghost use Rattle.marker_grammar.specs.Formula.{of_test};
+ghost use Rattle.std.specs.Prelude.{◌≡◌, ◌≤◌, ◌&&◌, ◌||◌, length, IfOk, OnOk};
 ghost use Rattle.marker_grammar.specs.Postfix.{stack_of, IsPostfix, IsWhole};
-ghost use Rattle.marker_grammar.specs.Stack.{count, Appends};
-ghost use Rattle.marker_grammar.specs.Valid.{is_valid, IsValid};
+ghost use Rattle.marker_grammar.specs.Stack.{count, AddsIf, AppendsExpression};
+ghost use Rattle.marker_grammar.specs.Valid.{IsValid, StaysValidWith};
 
 use marker_parts::MarkerExpression;
 use std::alloc::AllocError;
@@ -50,8 +48,7 @@ pub(crate) fn join_and(
     first: bool,
     second: bool,
 ) -> Result<bool, AllocError>
-    ensures tokens { IfOk result (λ _. tokens.new.items
-        ≡ (if first && second then tokens.old.items ++ Token.And ∷ [] else tokens.old.items)) }
+    ensures tokens { IfOk result (λ _. AddsIf (first && second) Token.And tokens.old tokens.new) }
     ensures any { IfOk result (λ any. any ≡ (first || second)) }
 {
     if first && second {
@@ -66,8 +63,7 @@ pub(crate) fn join_or(
     first: bool,
     second: bool,
 ) -> Result<bool, AllocError>
-    ensures tokens { IfOk result (λ _. tokens.new.items
-        ≡ (if first && second then tokens.old.items ++ Token.Or ∷ [] else tokens.old.items)) }
+    ensures tokens { IfOk result (λ _. AddsIf (first && second) Token.Or tokens.old tokens.new) }
     ensures any { IfOk result (λ any. any ≡ (first || second)) }
 {
     if first && second {
@@ -84,12 +80,9 @@ pub(crate) fn append(
     expression: Option<MarkerExpression>,
 ) -> Result<bool, AllocError>
     requires { count has_and ≤ length (stack_of tokens.old.items) }
-    ensures stack { IfOk result (λ any.
-        Appends has_and any (of_test (option_map test_of expression))
-        (stack_of tokens.old.items) (stack_of tokens.new.items)) }
+    ensures stack { IfOk result (AppendsExpression has_and expression tokens.old tokens.new) }
     ensures postfix { OnOk result (IsPostfix tokens.old.items → IsPostfix tokens.new.items) }
-    ensures valid { OnOk result (IfSome expression (λ e. is_valid (test_of e) ≡ true)
-        → IsValid tokens.old.items → IsValid tokens.new.items) }
+    ensures valid { OnOk result (StaysValidWith expression tokens.old tokens.new) }
 {
     match expression {
         None => Ok(has_and),

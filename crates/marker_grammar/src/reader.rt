@@ -1,13 +1,12 @@
 //! The parser of marker texts. It keeps open parentheses, and what their `or` and `and` have so
 //! far, in a list of its own, and is not recursive.
 
-ghost use Rattle.std.specs.Prelude.{◌≡◌, ◌<◌, List, ℕ, Some, slice_get, [], IfOk, IfSome, IfNone, IfErr, OnOk, length};
-ghost use Rattle.std.specs.Prelude.{◌⊎◌, ◌≢◌, ◌++◌, ◌∷◌};
+ghost use Rattle.std.specs.Prelude.{◌≡◌, ◌≢◌, ◌<◌, ◌++◌, ◌∷◌, [], Some, slice_get, IfOk, IfSome, IfNone, IfErr, OnOk, length};
 ghost use Rattle.std.specs.Str.{chars};
 ghost use Rattle.marker_words.specs.Fault.{HasNoSpace};
 ghost use Rattle.marker_words.specs.Keyword.{NoKeyword};
 ghost use Rattle.marker_grammar.specs.First.{BeginsWith};
-ghost use Rattle.marker_grammar.specs.Refused.{IsTextFault, OpensMarker};
+ghost use Rattle.marker_grammar.specs.Refused.{IsTextFault, IsUnclosedFault};
 
 use crate::formula::{FlatFormula, Token, append, join_and, join_or};
 use marker_parts::internal::{ComparisonError, read_comparison};
@@ -62,9 +61,7 @@ fn unexpected_fault(text: &str, found: char) -> Fault<'_>
 // parenthesis.
 fn unclosed_fault<'a>(text: &'a str, group: &'a str) -> Fault<'a>
     requires { slice_get (chars group.now) 0 ≡ Some 40 }
-    ensures { ((others : List ℕ) → chars text.now ≢ 41 ∷ others)
-        → (chars text.now ≡ [] → OpensMarker group.now)
-        → IsTextFault text.now result ⊎ IsTextFault group.now result }
+    ensures { IsUnclosedFault text.now group.now result }
 {
     if let Some((_, rest)) = first(text) {
         return FaultKind::Missing(')').at(Place::before(text, rest));
@@ -87,7 +84,7 @@ impl<'a> Reader<'a> {
     ghost use Rattle.marker_grammar.specs.Postfix.{IsWhole};
     ghost use Rattle.marker_grammar.specs.Valid.{IsValid};
     ghost use Rattle.marker_grammar.specs.Reader as half;
-    ghost use Rattle.marker_grammar.specs.Reader.{IsSound, IsOpened, LeavesReadings, LeavesOne};
+    ghost use Rattle.marker_grammar.specs.Reader.{IsSound, KeepsOpened, KeepsOpenedOn, LeavesReadings, LeavesReadingsOn, LeavesOne, ShortensOn};
 
     // Parses an open parenthesis or a comparison.
     fn atom(&mut self, alloc: Global) -> Result<Wanted, ComparisonError<'a>>
@@ -95,8 +92,7 @@ impl<'a> Reader<'a> {
         ensures sound { OnOk result (IsSound self.new) }
         ensures text { OnOk result (self.new.text.now ≡ self.old.text.now) }
         ensures same { IfOk result (λ next. LeavesReadings Wanted.Atom self.old next self.new) }
-        ensures opened { IfOk result (λ next.
-            IsOpened Wanted.Atom self.old → IsOpened next self.new) }
+        ensures opened { IfOk result (λ next. KeepsOpened Wanted.Atom self.old next self.new) }
         ensures shorter { OnOk result (length self.new.rest.now < length self.old.rest.now) }
         ensures err { IfErr result (half.IsRefusal Wanted.Atom self.old) }
     {
@@ -125,12 +121,9 @@ impl<'a> Reader<'a> {
         requires { IsSound self.old }
         ensures sound { IfOk result (λ next. IfSome next (λ _. IsSound self.new)) }
         ensures text { OnOk result (self.new.text.now ≡ self.old.text.now) }
-        ensures same { IfOk result (λ next. IfSome next (λ wanted.
-            LeavesReadings Wanted.Rest self.old wanted self.new)) }
-        ensures opened { IfOk result (λ next. IfSome next (λ wanted.
-            IsOpened Wanted.Rest self.old → IsOpened wanted self.new)) }
-        ensures shorter { IfOk result (λ next. IfSome next (λ _.
-            length self.new.rest.now < length self.old.rest.now)) }
+        ensures same { IfOk result (LeavesReadingsOn self.old self.new) }
+        ensures opened { IfOk result (KeepsOpenedOn self.old self.new) }
+        ensures shorter { IfOk result (ShortensOn self.old self.new) }
         ensures ended { IfOk result (λ next. IfNone next (LeavesOne self.old self.new)) }
         ensures whole { IfOk result (λ next. IfNone next (IsWhole self.new.tokens.items)) }
         ensures valid { IfOk result (λ next. IfNone next (IsValid self.new.tokens.items)) }

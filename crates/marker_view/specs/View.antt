@@ -4,8 +4,9 @@ use Rattle.std.specs.Cmp.{IsTotalOrder, on_total}
 use Rattle.std.specs.Ordering.{on}
 use Rattle.std.specs.declared.cmp.Ordering.{Ordering}
 use Rattle.marker_environment.specs.Valuation.{Valuation}
+use Rattle.marker_diagrams.specs.Diagram.{IsStore}
 use Rattle.marker_diagrams.specs.declared.node_id.NodeId.{NodeId}
-use Rattle.marker_nodes.specs.Node.{Node}
+use Rattle.marker_nodes.specs.Node.{Node, markers}
 use Rattle.marker_graph.specs.Contents.{Contents, truth}
 use Rattle.marker_readable.specs.Text.{TellsText}
 use Rattle.marker_order.specs.Order.{diagram_cmp}
@@ -23,6 +24,11 @@ truth_of view = truth (contents_of view) view.tree
 -- the markers of two views mean the same
 abbrev pub MeanTheSame : MarkerTreeView → MarkerTreeView → Type 0
 MeanTheSame a b = (v : Valuation) → truth_of a v ≡ truth_of b v
+
+-- of any two views, over interners that keep the rules of diagrams
+abbrev pub OfViews : (MarkerTreeView → MarkerTreeView → Type 0) → Type 0
+OfViews P = (a b : MarkerTreeView) → IsStore markers (contents_of a).nodes
+    → IsStore markers (contents_of b).nodes → P a b
 
 -- the diagram of a view: an id, and its nodes
 abbrev pub diagram_of : MarkerTreeView → List Node × NodeId

@@ -1,5 +1,5 @@
 -- Markers as strings of JSON. (RFC 8259.)
-use Rattle.std.specs.Prelude.{◌≡◌, ◌⊎◌, ⊤, ℕ, Bool, List, [], ◌∷◌, Some, codes, string_bytes}
+use Rattle.std.specs.Prelude.{◌≡◌, ◌⊎◌, ⊤, ℕ, Bool, List, [], ◌∷◌, MatchOption, Option, Some, String, codes, string_bytes}
 use Rattle.serde_json.specs.Data.{string}
 use Rattle.serde_json.specs.Read.{read}
 use Rattle.serde_json.specs.Written.{compact_text}
@@ -11,7 +11,7 @@ use Rattle.marker_environment.specs.Valuation.{Valuation}
 use Rattle.marker_parts.specs.Error.{IsErrorOf, IsMessage}
 use Rattle.marker_graph.specs.declared.tree.MarkerTree.{MarkerTree}
 use Rattle.marker_graph.specs.declared.tree.TheConstants.MarkerTree.{TRUE}
-use Rattle.marker_graph.specs.Contents.{Contents}
+use Rattle.marker_graph.specs.Contents.{Contents, truth}
 use Rattle.marker_grammar.specs.Refused.{IsMarker, IsNoMarker}
 use Rattle.marker_readable.specs.Text.{TellsText}
 use Rattle.pep508_markers.specs.Text.{IsTreeOf, TextOverflows}
@@ -24,6 +24,11 @@ IsStringOf json text = read json ≡ Some (string text)
 abbrev pub IsNoString : List ℕ → Type 0
 IsNoString json = (text : List ℕ) → ¬ IsStringOf json text
 
+-- the text of the string, or nothing if the JSON is not one
+abbrev pub TellsString : {A : Type 0} → List ℕ → Option (String A) → Type 0
+TellsString json found =
+    MatchOption found (IsNoString json) (λ text. IsStringOf json (string_bytes text))
+
 -- how a text is written as a string
 abbrev pub string_of : List ℕ → List ℕ
 string_of text = compact_text (string text)
@@ -34,6 +39,10 @@ pub record IsJsonOf (f : Valuation → Bool) (json : List ℕ) : Type 0 where
   pub written : json ≡ string_of text
   pub read_back : IsStringOf json text
   pub tells : TellsText f (Some text)
+
+-- the JSON is a string with a text of the tree
+abbrev pub IsJsonOfTree : {A : Type 0} → Contents → MarkerTree → String A → Type 0
+IsJsonOfTree c t json = IsJsonOf (truth c t) (string_bytes json)
 
 -- the tree is that of a string's text
 abbrev pub IsTreeOfJson : Contents → List ℕ → MarkerTree → Type 0

@@ -1,8 +1,16 @@
 -- The machine's view of a session, its commands and its replies.
-use Rattle.std.specs.Prelude.{⊤, List, map, option_map, string_bytes}
+use Rattle.std.specs.Prelude.{⊤, ℕ, List, map, option_map, string_bytes}
+use Rattle.std.specs.Borrow.{Bor}
+use Rattle.std.specs.declared.ops.Bound.{Bound}
 use Rattle.version_ranges.specs.Clamp.{bound_of}
+use Rattle.pep440_version.specs.Parts.{Parts}
+use Rattle.pep508_errors.specs.declared.warning.MarkerWarningKind.{MarkerWarningKind}
+use Rattle.marker_environment.specs.declared.environment.MarkerEnvironment.{MarkerEnvironment}
 use Rattle.marker_environment.specs.Environment.{values_of}
 use Rattle.marker_parts.specs.Expression.{test_of}
+use Rattle.marker_parts.specs.declared.expression.MarkerExpression.{MarkerExpression}
+use Rattle.marker_graph.specs.declared.tree.MarkerTree.{MarkerTree}
+use Rattle.marker_graph.specs.Contents.{truth}
 use Rattle.pep508_markers.specs.declared.session.Session.{Session}
 use Rattle.pep508_markers.specs.declared.session.Command.{Command}
 use Rattle.pep508_markers.specs.declared.session.Command.TheVariants.{Parse, Expression, Not, And, Or, SimplifyPython, ComplexifyPython, SimplifyExtras, Equal, Disjoint, Evaluate, EvaluateExtras, Text}
@@ -11,7 +19,7 @@ use Rattle.pep508_markers.specs.declared.session.Reply.TheVariants.{Cell, Truth 
 use Rattle.pep508_markers.specs.declared.session.Reason as reasons
 use Rattle.pep508_markers.specs.declared.session.Reason.TheVariants.{NoSuchCell, OutOfMemory, SegmentAtEnd, InvalidExpression, Marker}
 use Rattle.pep508_markers.specs.Cells.{truths_of}
-use Rattle.pep508_markers.specs.Machine.{Cells, Request, make, ask, print, parse, expression, negation, conjunction, disjunction, simplify_python, complexify_python, simplify_extras, equal, disjoint, evaluate, evaluate_extras, Reason, no_such_cell, out_of_memory, segment_at_end, invalid_expression, marker, Answer, cell, truth_is, text_is, refused, Step, Run}
+use Rattle.pep508_markers.specs.Machine.{Cells, IsRefusal, Makes, Making, Request, make, ask, print, parse, expression, negation, conjunction, disjunction, simplify_python, complexify_python, simplify_extras, equal, disjoint, evaluate, evaluate_extras, Reason, no_such_cell, out_of_memory, segment_at_end, invalid_expression, marker, Answer, cell, truth_is, text_is, refused, Step, Run}
 
 abbrev pub cells_of : Session → Cells
 cells_of s = truths_of s.interner s.cells.items
@@ -61,3 +69,42 @@ OnRefused (Refused reason) P = P
 abbrev pub Runs : Session → List Command → List Reply → Session → Type 0
 Runs old commands replies new =
     Run (cells_of old) (map request_of commands) (map answer_of replies) (cells_of new)
+
+-- ---- single commands
+
+-- this reply to a comparison that is to be stored
+abbrev pub AnswersExpression : Session → MarkerExpression → Reply → Session → Type 0
+AnswersExpression old e reply new = Answers old (make (expression (test_of e))) reply new
+
+-- this reply to a cell that is to be simplified for a range of Python versions
+abbrev pub AnswersSimplifyPython : Session → ℕ → Bound (Bor Parts) → Bound (Bor Parts)
+    → Reply → Session → Type 0
+AnswersSimplifyPython old a lower upper reply new =
+    Answers old (make (simplify_python a (bound_of lower) (bound_of upper))) reply new
+
+-- this reply to a cell of which a range of Python versions is to be required
+abbrev pub AnswersRequirePython : Session → ℕ → Bound (Bor Parts) → Bound (Bor Parts)
+    → Reply → Session → Type 0
+AnswersRequirePython old a lower upper reply new =
+    Answers old (make (complexify_python a (bound_of lower) (bound_of upper))) reply new
+
+-- this reply to a cell that is to be simplified for active extras
+abbrev pub AnswersSimplifyExtras : Session → ℕ → List (List ℕ) → Reply → Session → Type 0
+AnswersSimplifyExtras old a extras reply new =
+    Answers old (make (simplify_extras a extras)) reply new
+
+-- this reply to whether a cell is true in an environment with these extras
+abbrev pub AnswersEvaluate : Session → ℕ → MarkerEnvironment → List (List ℕ) → Reply → Session
+    → Type 0
+AnswersEvaluate old a e extras reply new =
+    Answers old (ask (evaluate a (values_of e) extras)) reply new
+
+-- this reply to each request that makes a cell of the tree's truth with these kinds of warnings
+abbrev pub AnswersMaking : Session → MarkerTree → List MarkerWarningKind → Reply → Session → Type 0
+AnswersMaking old t kinds reply new = (making : Making)
+    → Makes (cells_of old) making (truth old.interner t) kinds → Answers old (make making) reply new
+
+-- the reason why the text is not parsed, whatever the cells
+abbrev pub IsReasonOfText : List ℕ → reasons.Reason → Type 0
+IsReasonOfText text reason =
+    (cells : Cells) → IsRefusal cells (make (parse text)) (reason_of reason)

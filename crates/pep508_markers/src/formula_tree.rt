@@ -1,15 +1,15 @@
 //! The tree of a formula.
 
 ghost use Rattle.std.specs.Prelude.{◌≡◌, ◌≤◌, true, IfOk, IfErr, OnErr, OnOk};
-ghost use Rattle.marker_environment.specs.Valuation.{Valuation};
 ghost use Rattle.marker_parts.specs.Expression.{Overflows, holds, test_of};
-ghost use Rattle.marker_graph.specs.Contents.{HoldsTheSame, IsHeld, IsKept, truth};
+ghost use Rattle.marker_graph.specs.Contents.{HoldsTheSame, IsHeld, IsKept};
+ghost use Rattle.marker_graph.specs.Meaning.{IsTrueWhere};
 ghost use Rattle.marker_grammar.specs.Flat.{formula_of};
 ghost use Rattle.marker_grammar.specs.Postfix.{symbol_of};
 ghost use Rattle.marker_grammar.specs.Valid.{is_valid, is_valid_symbol};
 ghost use Rattle.pep508_markers.specs.FormulaTree.{IsRefusal, Means};
 ghost use Rattle.marker_grammar.specs.HasTest.{IsSymbol, Says};
-ghost use Rattle.pep508_markers.specs.Trees.{AreRuns, Pushes};
+ghost use Rattle.pep508_markers.specs.Trees.{Applies, AreRuns};
 
 use crate::run::{Connective, Run, connect, join_all, run_of};
 use marker_grammar::{FlatFormula, Token};
@@ -87,8 +87,7 @@ fn apply(
     requires valid { is_valid_symbol (symbol_of token) ≡ true }
     ensures kept { IsKept interner.old interner.new }
     ensures counts { interner.old.expansions ≤ interner.new.expansions }
-    ensures runs { OnOk result
-        (Pushes (symbol_of token) interner.old runs.old.items interner.new runs.new.items) }
+    ensures runs { OnOk result (Applies token interner.old runs.old interner.new runs.new) }
     ensures no_overflow { OnOk result (¬ IsSymbol Overflows (symbol_of token)) }
     ensures err { IfErr result (IsRefusal (IsSymbol Overflows (symbol_of token))) }
 {
@@ -113,8 +112,7 @@ fn tree_of_valid(
     ensures kept { IsKept interner.old interner.new }
     ensures counts { interner.old.expansions ≤ interner.new.expansions }
     ensures held { IfOk result (IsHeld interner.new) }
-    ensures means { IfOk result (λ t. (v : Valuation)
-        → truth interner.new t v ≡ holds (test_of expression) v) }
+    ensures means { IfOk result (IsTrueWhere interner.new (holds (test_of expression))) }
     ensures no_overflow { OnOk result (¬ Overflows (test_of expression)) }
     ensures err { IfErr result (IsRefusal (Overflows (test_of expression))) }
 {

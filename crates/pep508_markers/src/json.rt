@@ -1,7 +1,7 @@
 //! JSON strings, from which markers and requirements are parsed and to which they are written.
 
-ghost use Rattle.std.specs.Prelude.{◌≡◌, IfOk, MatchOption, string_bytes};
-ghost use Rattle.pep508_markers.specs.Json.{string_of, span_of, IsNoString, IsStringOf, IsUnread, TellsNoString};
+ghost use Rattle.std.specs.Prelude.{◌≡◌, IfOk, string_bytes};
+ghost use Rattle.pep508_markers.specs.Json.{string_of, span_of, IsNoString, IsStringOf, IsUnread, TellsNoString, TellsString};
 
 use pep508_errors::{Pep508Error, Pep508ErrorSource, Pep508Url};
 use refusal::Refusal;
@@ -10,8 +10,7 @@ use std::alloc::{AllocError, Global};
 
 /// Returns the text of a JSON string, or `None` if the JSON is not a string.
 pub fn read_string(alloc: Global, json: &str) -> Result<Option<String>, AllocError>
-    ensures { IfOk result (λ read. MatchOption read
-        (IsNoString json.now) (λ text. IsStringOf json.now (string_bytes text))) }
+    ensures { IfOk result (TellsString json.now) }
 {
     match Value::from_str(alloc, json) {
         Ok(Value::String(text)) => Ok(Some(text)),

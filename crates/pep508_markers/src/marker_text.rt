@@ -1,20 +1,15 @@
 //! Markers and their texts.
 
-ghost use Rattle.std.specs.Prelude.{◌≡◌, ◌≤◌, List, IfOk, IfErr, OnErr, option_map, string_bytes};
+ghost use Rattle.std.specs.Prelude.{◌≡◌, ◌≤◌, List, IfOk, IfErr, OnErr};
 ghost use Rattle.pep508_text.specs.Suffix.{IsSuffix};
-ghost use Rattle.pep508_errors.specs.declared.warning.MarkerWarningKind.{MarkerWarningKind};
-ghost use Rattle.pep508_errors.specs.Kinds.{Keeps};
-ghost use Rattle.marker_parts.specs.Reporting.{HasBegun};
 ghost use Rattle.marker_parts.specs.declared.expression.MarkerExpression.{MarkerExpression as Term};
 ghost use Rattle.marker_terms.specs.Clauses.{clauses_of};
 ghost use Rattle.marker_graph.specs.declared.tree.MarkerTree.{MarkerTree as Tree};
-ghost use Rattle.marker_graph.specs.Contents.{Contents, HoldsTheSame, IsHeld, IsKept, truth};
+ghost use Rattle.marker_graph.specs.Contents.{Contents, HoldsTheSame, IsHeld, IsKept};
 ghost use Rattle.marker_view.specs.View.{contents_of};
-ghost use Rattle.marker_clauses.specs.Dnf.{AreClausesOf, TellsExtra};
-ghost use Rattle.marker_grammar.specs.Grammar.{Reads};
-ghost use Rattle.marker_readable.specs.Text.{TellsText};
+ghost use Rattle.marker_clauses.specs.Dnf.{AreClausesOf};
 ghost use Rattle.pep508_markers.specs.Json.{IsJsonRefusal, IsTreeOfJson};
-ghost use Rattle.pep508_markers.specs.Text.{IsTreeOf, IsReportedTree, IsRefusal, IsRefusalIn, OnFault, OnRefusedText};
+ghost use Rattle.pep508_markers.specs.Text.{BeginsReport, HasClauses, IsTreeOf, IsReportedTree, IsRefusal, IsRefusalIn, OnFault, ReportsNothing, SaysText, TellsExtraOf, TellsTree};
 
 use crate::json::{no_string, read_string};
 use crate::text_tree::tree_of_reading;
@@ -65,8 +60,7 @@ pub trait MarkerText: Sized {
         ensures kept { IsKept interner.old interner.new }
         ensures counts { interner.old.expansions ≤ interner.new.expansions }
         ensures held { IfOk result (λ t. IsHeld interner.new (tree t)) }
-        ensures means { IfOk result (λ t. (kinds : List MarkerWarningKind)
-            × IsTreeOf interner.new text.now (tree t) kinds) }
+        ensures means { IfOk result (λ t. SaysText interner.new text.now (tree t)) }
         ensures refused { IfErr result (IsRefusal text.now) }
         ensures untouched { OnFault result (interner.new ≡ interner.old) }
         ensures released { OnErr result (HoldsTheSame interner.old interner.new) };
@@ -90,10 +84,8 @@ pub trait MarkerText: Sized {
         ensures refused { IfErr result (IsRefusal text.now) }
         ensures untouched { OnFault result (interner.new ≡ interner.old) }
         ensures released { OnErr result (HoldsTheSame interner.old interner.new) }
-        ensures unreported { IfErr result (λ refusal. OnRefusedText refusal
-            (Keeps (R.kinds reporter.old) (R.kinds reporter.new))) }
-        ensures begun { IfErr result
-            (λ _. HasBegun Reads text.now (R.kinds reporter.old) (R.kinds reporter.new)) }
+        ensures unreported { ReportsNothing result (R.kinds reporter.old) (R.kinds reporter.new) }
+        ensures begun { BeginsReport result text.now (R.kinds reporter.old) (R.kinds reporter.new) }
         ensures again { R.can_report reporter.new };
 
     /// Parses a marker from a JSON string, as [`MarkerText::parse_str`] parses the string's text.
@@ -118,8 +110,7 @@ pub trait MarkerText: Sized {
     /// comparisons. The list is empty for `TRUE` and for `FALSE`.
     fn to_dnf(self, interner: &Interner) -> Result<Vec<Vec<MarkerExpression>>, AllocError>
         requires { IsHeld interner.now (tree self) }
-        ensures clauses { IfOk result
-            (λ clauses. AreClausesOf interner.now (tree self) (clauses_of clauses.items)) }
+        ensures clauses { IfOk result (HasClauses interner.now (tree self)) }
         ensures dnf { IfOk result
             (λ clauses. dnf interner.now self (clauses_of clauses.items)) };
 
@@ -128,8 +119,7 @@ pub trait MarkerText: Sized {
     /// parses to another marker.
     fn try_to_string(self, interner: &Interner) -> Result<Option<String>, AllocError>
         requires { IsHeld interner.now (tree self) }
-        ensures { IfOk result (λ text.
-            TellsText (truth interner.now (tree self)) (option_map string_bytes text)) };
+        ensures { IfOk result (TellsTree interner.now (tree self)) };
 
     /// Returns the first `extra == '..'` of each clause of [`MarkerText::to_dnf`], if there is a
     /// clause and all have the same.
@@ -138,9 +128,7 @@ pub trait MarkerText: Sized {
         interner: &Interner,
     ) -> Result<Option<MarkerExpression>, AllocError>
         requires { IsHeld interner.now (tree self) }
-        ensures { IfOk result (λ found. (xs : List (List Term))
-            × dnf interner.now self xs × AreClausesOf interner.now (tree self) xs
-            × TellsExtra xs found) }
+        ensures { IfOk result (TellsExtraOf (dnf interner.now self) interner.now (tree self)) }
     {
         let clauses = self.to_dnf(interner)?;
         top_level_extra(&clauses)
@@ -245,10 +233,8 @@ pub fn parse_behind<T: Pep508Url, R: Reporter>(
     ensures refused { IfErr result (IsRefusalIn text.now marker.now) }
     ensures untouched { OnFault result (interner.new ≡ interner.old) }
     ensures released { OnErr result (HoldsTheSame interner.old interner.new) }
-    ensures unreported { IfErr result (λ refusal. OnRefusedText refusal
-        (Keeps (R.kinds reporter.old) (R.kinds reporter.new))) }
-    ensures begun { IfErr result
-        (λ _. HasBegun Reads marker.now (R.kinds reporter.old) (R.kinds reporter.new)) }
+    ensures unreported { ReportsNothing result (R.kinds reporter.old) (R.kinds reporter.new) }
+    ensures begun { BeginsReport result marker.now (R.kinds reporter.old) (R.kinds reporter.new) }
     ensures again { R.can_report reporter.new }
 {
     let mark = interner.mark();

@@ -1,10 +1,9 @@
 //! Joining the trees of one connective.
 
-ghost use Rattle.std.specs.Prelude.{◌≡◌, ◌⊎◌, ◌++◌, ◌∷◌, [], length, reverse, IfNone, IfOk, IfSome, OnOk, ◌≤◌};
+ghost use Rattle.std.specs.Prelude.{◌≡◌, ◌++◌, ◌∷◌, [], length, IfNone, IfOk, IfSome, OnOk, ◌≤◌};
 ghost use Rattle.std.specs.List.Sorted.{IsPermutation};
-ghost use Rattle.marker_environment.specs.Valuation.{Valuation};
-ghost use Rattle.marker_graph.specs.Contents.{IsHeld, IsKept, truth};
-ghost use Rattle.pep508_markers.specs.Trees.{joins, symbol, trees_of, truth_under, AreHeld, AreRuns, Pushes, SaysUnder};
+ghost use Rattle.marker_graph.specs.Contents.{IsHeld, IsKept};
+ghost use Rattle.pep508_markers.specs.Trees.{trees_of, truth_under, AreHeld, AreLastTwo, AreRuns, Connects, HasTreesOfBoth, JoinsAll, JoinsRun, JoinsTwo, SaysTheSameUnder, SaysUnder};
 
 use crate::sets::joined_set_of;
 use marker_graph::{Interner, MarkerTree};
@@ -41,8 +40,7 @@ fn join_two(
     ensures kept { IsKept interner.old interner.new }
     ensures counts { interner.old.expansions ≤ interner.new.expansions }
     ensures held { IfOk result (IsHeld interner.new) }
-    ensures means { IfOk result (λ t. (v : Valuation) → truth interner.new t v
-        ≡ joins connective (truth interner.new left v) (truth interner.new right v)) }
+    ensures means { IfOk result (JoinsTwo interner.new connective left right) }
 {
     let mut tree = left;
     match connective {
@@ -75,8 +73,7 @@ fn join_by_halves(
     ensures kept { IsKept interner.old interner.new }
     ensures counts { interner.old.expansions ≤ interner.new.expansions }
     ensures held { IfOk result (IsHeld interner.new) }
-    ensures means { IfOk result (λ t.
-        SaysUnder interner.old connective (first ∷ others.items) (truth interner.new t)) }
+    ensures means { IfOk result (JoinsAll interner.old interner.new connective first others.items) }
 {
     let mut left = first;
     let mut trees = others;
@@ -161,8 +158,7 @@ fn join_others(
     ensures kept { IsKept interner.old interner.new }
     ensures counts { interner.old.expansions ≤ interner.new.expansions }
     ensures held { IfOk result (IsHeld interner.new) }
-    ensures means { IfOk result (λ t.
-        SaysUnder interner.old connective (first ∷ others.items) (truth interner.new t)) }
+    ensures means { IfOk result (JoinsAll interner.old interner.new connective first others.items) }
 {
     if others.len() < FEW {
         return join_by_halves(interner, connective, first, others);
@@ -210,8 +206,7 @@ pub(crate) fn join_all(interner: &mut Interner, run: Run) -> Result<MarkerTree, 
     ensures kept { IsKept interner.old interner.new }
     ensures counts { interner.old.expansions ≤ interner.new.expansions }
     ensures held { IfOk result (IsHeld interner.new) }
-    ensures means { IfOk result (λ t.
-        SaysUnder interner.old run.connective (trees_of run) (truth interner.new t)) }
+    ensures means { IfOk result (JoinsRun interner.old interner.new run) }
 {
     let connective = run.connective;
     let mut trees = run.others;
@@ -251,8 +246,7 @@ fn run_under(interner: &mut Interner, connective: Connective, run: Run) -> Resul
     ensures counts { interner.old.expansions ≤ interner.new.expansions }
     ensures connective { IfOk result (λ r. r.connective ≡ connective) }
     ensures held { IfOk result (λ r. AreHeld interner.new (trees_of r)) }
-    ensures means { IfOk result (λ r. SaysUnder interner.old run.connective (trees_of run)
-        (truth_under interner.new connective (trees_of r))) }
+    ensures means { IfOk result (SaysTheSameUnder interner.old interner.new connective run) }
 {
     if run.connective == connective {
         return Ok(run);
@@ -282,8 +276,7 @@ fn append(run: Run, more: Run) -> Result<Run, AllocError>
 fn join_runs(left: Run, right: Run) -> Result<Run, AllocError>
     requires { right.connective ≡ left.connective }
     ensures connective { IfOk result (λ r. r.connective ≡ left.connective) }
-    ensures trees { IfOk result (λ r. (trees_of r ≡ trees_of left ++ trees_of right)
-        ⊎ (trees_of r ≡ trees_of right ++ trees_of left)) }
+    ensures trees { IfOk result (HasTreesOfBoth left right) }
 {
     if left.others.len() < right.others.len() {
         append(right, left)
@@ -301,8 +294,7 @@ pub(crate) fn connect(
     requires { AreRuns interner.old runs.old.items }
     ensures kept { IsKept interner.old interner.new }
     ensures counts { interner.old.expansions ≤ interner.new.expansions }
-    ensures runs { OnOk result
-        (Pushes (symbol connective) interner.old runs.old.items interner.new runs.new.items) }
+    ensures runs { OnOk result (Connects connective interner.old runs.old interner.new runs.new) }
 {
     let Some((left, right)) = pop_two(runs) else {
         return Ok(());
@@ -316,8 +308,7 @@ pub(crate) fn connect(
 
 // Takes the last two runs. Takes none if there are fewer.
 fn pop_two(runs: &mut Vec<Run>) -> Option<(Run, Run)>
-    ensures two { IfSome result
-        (λ pair. reverse runs.old.items ≡ pair.1 ∷ pair.0 ∷ reverse runs.new.items) }
+    ensures two { IfSome result (AreLastTwo runs.old.items runs.new.items) }
     ensures fewer { IfNone result ((runs.new.items ≡ []) × (length runs.old.items ≤ 1)) }
 {
     let right = runs.pop()?;

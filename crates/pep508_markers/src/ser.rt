@@ -1,8 +1,8 @@
 //! Markers in JSON, where a marker that is always true is left out.
 
-ghost use Rattle.std.specs.Prelude.{◌≡◌, ◌↔◌, IfErr, IfOk, IsTrue, string_bytes};
-ghost use Rattle.marker_graph.specs.Contents.{IsHeld, truth};
-ghost use Rattle.pep508_markers.specs.Json.{IsJsonOf, IsUnwritten};
+ghost use Rattle.std.specs.Prelude.{◌≡◌, ◌↔◌, IfErr, IfOk, IsTrue};
+ghost use Rattle.marker_graph.specs.Contents.{IsHeld};
+ghost use Rattle.pep508_markers.specs.Json.{IsJsonOfTree, IsUnwritten};
 
 use crate::json::write_string;
 use crate::marker_text::MarkerText;
@@ -29,8 +29,7 @@ pub fn is_empty(tree: &MarkerTree) -> bool
 /// - [`Refusal::OutOfMemory`] when memory runs out.
 pub fn serialize(tree: &MarkerTree, interner: &Interner) -> Result<String, Refusal<NoContents>>
     requires { IsHeld interner.now tree.now }
-    ensures json { IfOk result
-        (λ json. IsJsonOf (truth interner.now tree.now) (string_bytes json)) }
+    ensures json { IfOk result (IsJsonOfTree interner.now tree.now) }
     ensures err { IfErr result (IsUnwritten tree.now) }
 {
     // A marker without a text is true everywhere, so it is `TRUE`.

@@ -1,7 +1,6 @@
 //! Sessions: markers in numbered cells, and commands on them.
 
 ghost use Rattle.std.specs.Prelude.{◌≡◌, [], IfOk, IfNone, IfSome, OnErr, slice_get, Some};
-ghost use Rattle.marker_graph.specs.Contents.{truth};
 ghost use Rattle.pep508_markers.specs.Cells.{AreHeld};
 
 use crate::marker_text::MarkerText;
@@ -191,15 +190,13 @@ impl Session {
 
 // The commands, one by one.
 impl Session {
-    ghost use Rattle.std.specs.Prelude.{◌≤◌, ◌⊎◌, length};
-    ghost use Rattle.version_ranges.specs.Clamp.{bound_of};
-    ghost use Rattle.marker_environment.specs.Environment.{values_of};
-    ghost use Rattle.marker_parts.specs.Expression.{test_of};
+    ghost use Rattle.std.specs.Prelude.{◌≤◌, length};
     ghost use Rattle.marker_graph.specs.Contents.{IsHeld, IsKept};
     ghost use Rattle.marker_grammar.specs.Refused as texts;
     ghost use Rattle.pep508_markers.specs.Machine;
-    ghost use Rattle.pep508_markers.specs.Machine.{make, ask, print, Cells, IsRefusal, Makes, Making};
-    ghost use Rattle.pep508_markers.specs.Session.{cells_of, reason_of, Answers, OnRefused};
+    ghost use Rattle.pep508_markers.specs.Machine.{make, ask, print};
+    ghost use Rattle.pep508_markers.specs.Cells.{AreBothHeld, AreInCells, LacksCell};
+    ghost use Rattle.pep508_markers.specs.Session.{Answers, AnswersRequirePython, AnswersEvaluate, AnswersExpression, AnswersMaking, AnswersSimplifyExtras, AnswersSimplifyPython, IsReasonOfText, OnRefused};
 
     // Parses a text into a new cell.
     fn parse(&mut self, text: &str) -> Reply
@@ -224,8 +221,7 @@ impl Session {
     // Why a text was refused, for a reply.
     fn refusal(alloc: Global, text: &str, error: ComparisonError<'_>) -> Reason
         requires { texts.IsRefusal text.now error }
-        ensures { (cells : Cells)
-            → IsRefusal cells (make (Machine.parse text.now)) (reason_of result) }
+        ensures { IsReasonOfText text.now result }
     {
         match error {
             ComparisonError::OutOfMemory => Reason::OutOfMemory,
@@ -242,8 +238,7 @@ impl Session {
 
     // Stores a comparison in a new cell.
     fn expression(&mut self, expression: &MarkerExpression) -> Reply
-        ensures answers { Answers self.old
-            (make (Machine.expression (test_of expression.now))) result self.new }
+        ensures answers { AnswersExpression self.old expression.now result self.new }
         ensures kept { IsKept self.old.interner self.new.interner }
         ensures cells { OnRefused result (self.new.cells.items ≡ self.old.cells.items) }
     {
@@ -300,9 +295,7 @@ impl Session {
     }
 
     fn simplify_python(&mut self, a: usize, lower: Bound<&Version>, upper: Bound<&Version>) -> Reply
-        ensures answers { Answers self.old
-            (make (Machine.simplify_python a (bound_of lower.entry) (bound_of upper.entry)))
-            result self.new }
+        ensures answers { AnswersSimplifyPython self.old a lower.entry upper.entry result self.new }
         ensures kept { IsKept self.old.interner self.new.interner }
         ensures cells { OnRefused result (self.new.cells.items ≡ self.old.cells.items) }
     {
@@ -321,9 +314,7 @@ impl Session {
         lower: Bound<&Version>,
         upper: Bound<&Version>,
     ) -> Reply
-        ensures answers { Answers self.old
-            (make (Machine.complexify_python a (bound_of lower.entry) (bound_of upper.entry)))
-            result self.new }
+        ensures answers { AnswersRequirePython self.old a lower.entry upper.entry result self.new }
         ensures kept { IsKept self.old.interner self.new.interner }
         ensures cells { OnRefused result (self.new.cells.items ≡ self.old.cells.items) }
     {
@@ -337,8 +328,7 @@ impl Session {
     }
 
     fn simplify_extras(&mut self, a: usize, extras: &[ExtraName]) -> Reply
-        ensures answers { Answers self.old (make (Machine.simplify_extras a extras.now)) result
-            self.new }
+        ensures answers { AnswersSimplifyExtras self.old a extras.now result self.new }
         ensures kept { IsKept self.old.interner self.new.interner }
         ensures cells { OnRefused result (self.new.cells.items ≡ self.old.cells.items) }
     {
@@ -370,8 +360,7 @@ impl Session {
     }
 
     fn evaluate(&self, a: usize, environment: &MarkerEnvironment, extras: &[ExtraName]) -> Reply
-        ensures { Answers self.now
-            (ask (Machine.evaluate a (values_of environment.now) extras.now)) result self.now }
+        ensures { AnswersEvaluate self.now a environment.now extras.now result self.now }
     {
         match self.cell(a) {
             Some(tree) => Reply::Truth(tree.evaluate(&self.interner, environment, extras)),
@@ -411,13 +400,9 @@ impl Session {
 
     // The trees of two cells.
     fn two_cells(&self, a: usize, b: usize) -> Option<(MarkerTree, MarkerTree)>
-        ensures found { IfSome result
-            (λ trees. (slice_get self.now.cells.items a ≡ Some trees.0)
-            × (slice_get self.now.cells.items b ≡ Some trees.1)) }
-        ensures held { IfSome result
-            (λ trees. IsHeld self.now.interner trees.0 × IsHeld self.now.interner trees.1) }
-        ensures missing { IfNone result
-            ((length self.now.cells.items ≤ a) ⊎ (length self.now.cells.items ≤ b)) }
+        ensures found { IfSome result (AreInCells self.now.cells.items a b) }
+        ensures held { IfSome result (AreBothHeld self.now.interner) }
+        ensures missing { IfNone result (LacksCell self.now.cells.items a b) }
     {
         let left = self.cell(a)?;
         let right = self.cell(b)?;
@@ -427,9 +412,7 @@ impl Session {
     // Stores a tree in a new cell.
     fn add(&mut self, tree: MarkerTree, kinds: Vec<MarkerWarningKind>) -> Reply
         requires { IsHeld self.old.interner tree }
-        ensures answers { (making : Making)
-            → Makes (cells_of self.old) making (truth self.old.interner tree) kinds.items
-            → Answers self.old (make making) result self.new }
+        ensures answers { AnswersMaking self.old tree kinds.items result self.new }
         ensures kept { IsKept self.old.interner self.new.interner }
         ensures cells { OnRefused result (self.new.cells.items ≡ self.old.cells.items) }
     {

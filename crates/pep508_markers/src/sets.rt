@@ -1,9 +1,7 @@
 //! Trees that are sets of the values of one variable, joined as sets: the steps make no nodes.
 
-ghost use Rattle.std.specs.Prelude.{◌≡◌, ◌∷◌, IfOk, IfSome};
-ghost use Rattle.marker_environment.specs.Valuation.{Valuation};
-ghost use Rattle.marker_comparisons.specs.ValueSet.{contains};
-ghost use Rattle.pep508_markers.specs.Trees.{joins, AreHeld, SaysUnder};
+ghost use Rattle.std.specs.Prelude.{◌∷◌, IfOk};
+ghost use Rattle.pep508_markers.specs.Trees.{AreHeld, FindsSetOfTwo, FindsSetUnder};
 
 use crate::run::Connective;
 use marker_comparisons::ValueSet;
@@ -17,8 +15,7 @@ fn join_two_sets(
     left: &ValueSet,
     right: &ValueSet,
 ) -> Result<Option<ValueSet>, AllocError>
-    ensures { IfOk result (λ found. IfSome found (λ set. (v : Valuation) → contains set v
-        ≡ joins connective (contains left.now v) (contains right.now v))) }
+    ensures { IfOk result (FindsSetOfTwo connective left.now right.now) }
 {
     match connective {
         Connective::And => left.intersection(alloc, right),
@@ -35,8 +32,7 @@ fn joined_set(
     trees: &[MarkerTree],
 ) -> Result<Option<ValueSet>, AllocError>
     requires { AreHeld interner.now trees.now }
-    ensures { IfOk result (λ found. IfSome found (λ set.
-        SaysUnder interner.now connective trees.now (contains set))) }
+    ensures { IfOk result (FindsSetUnder interner.now connective trees.now) }
 {
     let middle = trees.len() / 2;
     if middle == 0 {
@@ -63,8 +59,7 @@ pub(crate) fn joined_set_of(
     others: &[MarkerTree],
 ) -> Result<Option<ValueSet>, AllocError>
     requires { AreHeld interner.now (first ∷ others.now) }
-    ensures { IfOk result (λ found. IfSome found (λ set.
-        SaysUnder interner.now connective (first ∷ others.now) (contains set))) }
+    ensures { IfOk result (FindsSetUnder interner.now connective (first ∷ others.now)) }
 {
     let Some(left) = first.value_set(interner)? else {
         return Ok(None);

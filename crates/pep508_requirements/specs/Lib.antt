@@ -7,3 +7,5 @@ pub mod Wanted
 pub mod Unnamed
 pub mod Whole
 pub mod Order
+pub mod UrlFault
+pub mod Reporting

@@ -2,14 +2,12 @@
 
 ghost use Rattle.std.specs.Prelude.{◌≡◌, ◌≤◌, ℕ, IfErr, IfOk, List, None, OnErr};
 ghost use Rattle.pep508_errors.specs.declared.warning.MarkerWarningKind.{MarkerWarningKind};
-ghost use Rattle.pep508_errors.specs.Kinds.{Keeps};
-ghost use Rattle.marker_parts.specs.Reporting.{HasBegun};
 ghost use Rattle.marker_graph.specs.Contents.{HoldsTheSame, IsHeld, IsKept};
 ghost use Rattle.pep508_markers.specs.Json.{IsStringOf};
-ghost use Rattle.pep508_markers.specs.Text.{OnFault, OnRefusedText};
-ghost use Rattle.pep508_requirements.specs.Requirement.{IsMarkedBy, urls_in};
+ghost use Rattle.pep508_markers.specs.Text.{OnFault};
 ghost use Rattle.pep508_requirements.specs.Refused.{IsJsonRefusalIn, IsRefusalIn};
-ghost use Rattle.pep508_requirements.specs.Whole.{IsParsed, ReadAs, WithAdded};
+ghost use Rattle.pep508_requirements.specs.Whole.{IsParsed, ReadAs};
+ghost use Rattle.pep508_requirements.specs.Reporting.{HasBegunRead, RefusesUnreported, ReportsRead};
 
 use crate::end::read_end;
 use crate::head::{read_named, read_version_or_url, written_url};
@@ -143,18 +141,16 @@ impl<T: Pep508Url> Requirement<T> {
         ensures kept { IsKept interner.old interner.new }
         ensures counts { interner.old.expansions ≤ interner.new.expansions }
         ensures held { IfOk result (λ r. IsHeld interner.new r.marker) }
-        ensures means { IfOk result (λ r. WithAdded (R.kinds reporter.old) (R.kinds reporter.new)
-            (ReadAs T.names surroundings.now interner.new text.now r)) }
+        ensures means { IfOk result (ReportsRead R.kinds reporter.old reporter.new
+            T.names surroundings.now interner.new text.now) }
         ensures unknown { IfOk result (λ r. r.origin ≡ None) }
         ensures refused { IfErr result (IsRefusalIn
             T.names T.tells_size T.may_overflow surroundings.now text.now) }
         ensures untouched { OnFault result (interner.new ≡ interner.old) }
         ensures released { OnErr result (HoldsTheSame interner.old interner.new) }
-        ensures unreported { IfErr result (λ refusal. OnRefusedText refusal
-            (Keeps (R.kinds reporter.old) (R.kinds reporter.new))) }
-        ensures begun { IfErr result (λ _. HasBegun
-            (IsMarkedBy T.Err (urls_in T.names surroundings.now))
-            text.now (R.kinds reporter.old) (R.kinds reporter.new)) }
+        ensures unreported { IfErr result (RefusesUnreported R.kinds reporter.old reporter.new) }
+        ensures begun { IfErr result (λ _. HasBegunRead R.kinds reporter.old reporter.new
+            T.Err T.names surroundings.now text.now) }
         ensures again { R.can_report reporter.new }
     {
         let mark = interner.mark();

@@ -2,15 +2,13 @@
 
 ghost use Rattle.std.specs.Prelude.{◌≡◌, ◌≤◌, IfErr, IfOk, None, OnErr, Some, false, true};
 ghost use Rattle.pep508_errors.specs.declared.warning.MarkerWarningKind.{MarkerWarningKind};
-ghost use Rattle.pep508_errors.specs.Kinds.{Keeps};
 ghost use Rattle.marker_environment.specs.Environment.{valuation_of, values_of};
-ghost use Rattle.marker_parts.specs.Reporting.{HasBegun};
 ghost use Rattle.marker_walks.specs.Possible.{IsImpossible, IsPossible};
 ghost use Rattle.marker_graph.specs.Contents.{HoldsTheSame, IsHeld, IsKept, truth};
-ghost use Rattle.pep508_markers.specs.Text.{OnFault, OnRefusedText};
-ghost use Rattle.pep508_requirements.specs.Requirement.{urls_in};
-ghost use Rattle.pep508_requirements.specs.Unnamed.{IsUnnamedMarkedBy, IsUnnamedRefusalIn};
-ghost use Rattle.pep508_requirements.specs.Whole.{IsParsedUnnamed, WithAdded};
+ghost use Rattle.pep508_markers.specs.Text.{OnFault};
+ghost use Rattle.pep508_requirements.specs.Unnamed.{IsUnnamedRefusalIn};
+ghost use Rattle.pep508_requirements.specs.Whole.{IsParsedUnnamed};
+ghost use Rattle.pep508_requirements.specs.Reporting.{HasBegunUnnamed, RefusesUnreported, ReportsUnnamed};
 
 use crate::end::read_end;
 use crate::origin::RequirementOrigin;
@@ -115,18 +113,16 @@ impl<Url: UnnamedRequirementUrl> UnnamedRequirement<Url> {
         ensures kept { IsKept interner.old interner.new }
         ensures counts { interner.old.expansions ≤ interner.new.expansions }
         ensures held { IfOk result (λ r. IsHeld interner.new r.marker) }
-        ensures means { IfOk result (λ r. WithAdded (R.kinds reporter.old) (R.kinds reporter.new)
-            (IsParsedUnnamed Url.names surroundings.now Url.given_text interner.new text.now r)) }
+        ensures means { IfOk result (ReportsUnnamed R.kinds reporter.old reporter.new
+            Url.names surroundings.now Url.given_text interner.new text.now) }
         ensures unknown { IfOk result (λ r. r.origin ≡ None) }
         ensures refused { IfErr result (IsUnnamedRefusalIn
             Url.names Url.tells_size Url.may_overflow surroundings.now text.now) }
         ensures untouched { OnFault result (interner.new ≡ interner.old) }
         ensures released { OnErr result (HoldsTheSame interner.old interner.new) }
-        ensures unreported { IfErr result (λ refusal. OnRefusedText refusal
-            (Keeps (R.kinds reporter.old) (R.kinds reporter.new))) }
-        ensures begun { IfErr result (λ _. HasBegun
-            (IsUnnamedMarkedBy (urls_in Url.names surroundings.now))
-            text.now (R.kinds reporter.old) (R.kinds reporter.new)) }
+        ensures unreported { IfErr result (RefusesUnreported R.kinds reporter.old reporter.new) }
+        ensures begun { IfErr result (λ _. HasBegunUnnamed R.kinds reporter.old reporter.new
+            Url.names surroundings.now text.now) }
         ensures again { R.can_report reporter.new }
     {
         let mark = interner.mark();

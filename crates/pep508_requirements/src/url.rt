@@ -1,15 +1,16 @@
 //! A requirement without a name up to its marker, with its URL parsed.
 
-ghost use Rattle.std.specs.Prelude.{◌≡◌, ◌≢◌, ◌++◌, IfErr, IfOk, Some, false, option_copied, true};
+ghost use Rattle.std.specs.Prelude.{◌≡◌, ◌≢◌, ◌++◌, IfErr, IfOk, Some, option_copied};
 ghost use Rattle.std.specs.Str.{chars};
 ghost use Rattle.refusal.specs.declared.Refusal.TheVariants.{SegmentAtEnd};
 ghost use Rattle.pep508_text.specs.Suffix.{IsSuffix};
-ghost use Rattle.refusal.specs.Refused.{IfFault};
+ghost use Rattle.refusal.specs.Refused.{FaultIs};
 ghost use Rattle.pep508_urls.specs.Meaning.{meaning_of};
-ghost use Rattle.pep508_urls.specs.Unnamed.{EachMayOverflow, MakesNamed, NamesNone};
+ghost use Rattle.pep508_urls.specs.Unnamed.{MakesNamed};
 ghost use Rattle.requirement_words.specs.Fault.{FindsInUnnamed};
 ghost use Rattle.requirement_words.specs.Unnamed.{HasNoUnnamedHead, IsUnnamedHead};
 ghost use Rattle.pep508_requirements.specs.Refused.{IsRefusedBy, IsUrlErrorIn, OnError};
+ghost use Rattle.pep508_requirements.specs.UrlFault.{IsFaultOfTarget, IsFaultOfText, IsSizeOfTarget, IsSizeOfText};
 
 use crate::error::{refusal_of_fault, refusal_of_url};
 use pep508_errors::{Pep508Error, Surroundings};
@@ -48,10 +49,10 @@ fn url_of<Url: UnnamedRequirementUrl>(
 ) -> Result<Url, Refusal<Url::Err>>
     ensures value { IfOk result
         (MakesNamed Url.names Url.gives (option_copied folder.entry) (meaning_of target.now)) }
-    ensures fault { IfErr result (λ refusal. IfFault refusal (λ fault. Url.tells_size fault ≡ false
-        → NamesNone Url.names (option_copied folder.entry) (meaning_of target.now))) }
-    ensures size { IfErr result (λ refusal. IfFault refusal (λ fault. Url.tells_size fault ≡ true
-        → EachMayOverflow Url.may_overflow (option_copied folder.entry) (meaning_of target.now))) }
+    ensures fault { FaultIs result
+        (IsFaultOfTarget Url.tells_size Url.names folder.entry target.now) }
+    ensures size { FaultIs result
+        (IsSizeOfTarget Url.tells_size Url.may_overflow folder.entry target.now) }
     ensures no_end { IfErr result (λ refusal. refusal ≢ SegmentAtEnd) }
 {
     match (target, folder) {
@@ -69,10 +70,10 @@ fn given_url<Url: UnnamedRequirementUrl>(
 ) -> Result<Url, Refusal<Url::Err>>
     ensures value { IfOk result (λ url. Url.names given.now surroundings.now url) }
     ensures given { IfOk result (λ url. Url.given_text url ≡ Some given.now) }
-    ensures fault { IfErr result (λ refusal. IfFault refusal (λ fault. Url.tells_size fault ≡ false
-        → (url : Url) → ¬ Url.names given.now surroundings.now url)) }
-    ensures size { IfErr result (λ refusal. IfFault refusal (λ fault. Url.tells_size fault ≡ true
-        → Url.may_overflow given.now surroundings.now)) }
+    ensures fault { FaultIs result
+        (IsFaultOfText Url.tells_size Url.names given.now surroundings.now) }
+    ensures size { FaultIs result
+        (IsSizeOfText Url.tells_size Url.may_overflow given.now surroundings.now) }
     ensures no_end { IfErr result (λ refusal. refusal ≢ SegmentAtEnd) }
 {
     let expanded = expand_env_vars(alloc, given, surroundings)?;

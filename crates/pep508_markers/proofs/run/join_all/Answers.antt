@@ -1,4 +1,4 @@
-use Rattle.std.proofs.Common.{◌≡◌, ◌∷◌, List, length, sym, ap, ◌∙◌, subst, arith}
+use Rattle.std.proofs.Common.{List, length, sym, ap, ◌∙◌, subst, arith}
 use Rattle.std.proofs.lemmas.List.Sorted.{length_permutation}
 use Rattle.marker_graph.specs.declared.tree.MarkerTree.{MarkerTree}
 use Rattle.pep508_markers.specs.Trees.{truth_under, AreHeld}

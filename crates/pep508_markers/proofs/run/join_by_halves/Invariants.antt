@@ -1,7 +1,7 @@
 use Rattle.std.proofs.Common.{◌≡◌, ◌≤◌, ◌∷◌, length}
 use Rattle.marker_environment.specs.Valuation.{Valuation}
 use Rattle.marker_graph.specs.Contents.{IsKept}
-use Rattle.pep508_markers.specs.Trees.{trees_of, truth_under, AreHeld}
+use Rattle.pep508_markers.specs.Trees.{truth_under, AreHeld}
 use Rattle.pep508_markers.proofs.run.join_by_halves.Given as goal
 
 abbrev pub invariant-loop-right : goal.invariant-loop-right
