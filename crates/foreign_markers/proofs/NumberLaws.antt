@@ -19,10 +19,11 @@ use Rattle.foreign_calls.specs.Marker.{Says, IsTreeFor, IsTextOf}
 use Rattle.foreign_calls.specs.Refused.{IsOutOfMemory, IsOfArguments}
 use Rattle.foreign_calls.proofs.KeptLaws.{truth_kept, held_kept}
 use Rattle.foreign_markers.specs.declared.markers.Entry.{Entry}
-use Rattle.foreign_markers.specs.Numbers.{Adds, IsRefused, HasText}
+use Rattle.foreign_markers.specs.Numbers.{Adds, HasText}
 use Rattle.foreign_markers.specs.declared.markers.KnownEnvironment.{KnownEnvironment}
 use Rattle.foreign_markers.specs.Interner.{HasValueAt, HasValueThere, InternerState, IsSetTo, empty_state}
 use Rattle.foreign_markers.specs.Entries.{truths_in, AreBefore, AreHeld}
+use Rattle.foreign_markers.specs.Refused.{Others, IsRefused, is_missing, is_other, TakesArguments, TakesEnvironment, TakesLooks, TakesMemory}
 
 some_is : {e f : Entry} → Some e ≡ Some f → e ≡ f
 some_is e = cc
@@ -156,15 +157,15 @@ pub count_is : (c : Contents) (entries : List Entry) {n : ℕ} → n ≡ length 
 count_is c entries h = h ∙ sym (length-map entries (λ (e : Entry). truth c e.tree))
 
 -- a number that no marker has
-pub missing_one : (cells : Cells) (a : ℕ) → length cells ≤ a → IsRefused cells (a ∷ []) answers.NoSuchMarker
-missing_one cells a h = record { not_done = λ f. (cc); not_small = λ f. (cc); not_shut = λ f. (cc); missing = λ f. inl h; there = λ n. absurd (n refl) }
+pub missing_one : {P : Others} (s : InternerState) (a : ℕ) → length s.cells ≤ a → IsRefused P (a ∷ []) s answers.NoSuchMarker
+missing_one s a h = is_missing refl (inl h)
 
 two_missing : (cells : Cells) (a b : ℕ) → (length cells ≤ a) ⊎ (length cells ≤ b) → IsMissing cells (a ∷ b ∷ [])
 two_missing cells a b (inl h) = inl h
 two_missing cells a b (inr h) = inr (inl h)
 
-pub missing_two : (cells : Cells) (a b : ℕ) → (length cells ≤ a) ⊎ (length cells ≤ b) → IsRefused cells (a ∷ b ∷ []) answers.NoSuchMarker
-missing_two cells a b h = record { not_done = λ f. (cc); not_small = λ f. (cc); not_shut = λ f. (cc); missing = λ f. two_missing cells a b h; there = λ n. absurd (n refl) }
+pub missing_two : {P : Others} (s : InternerState) (a b : ℕ) → (length s.cells ≤ a) ⊎ (length s.cells ≤ b) → IsRefused P (a ∷ b ∷ []) s answers.NoSuchMarker
+missing_two s a b h = is_missing refl (two_missing s.cells a b h)
 
 -- a marker that is there is not missing
 is_there : (cells : Cells) (a : ℕ) (f : Truth) → Holds cells a f → length cells ≤ a → ⊥
@@ -178,39 +179,21 @@ two_there : (cells : Cells) (a b : ℕ) (f g : Truth) → Holds cells a f → Ho
 two_there cells a b f g found other (inl h) = is_there cells a f found h
 two_there cells a b f g found other (inr h) = one_there cells b g other h
 
--- memory ran out, or the interner has no room
-limited : {cells : Cells} {numbers : List ℕ} (answer : Answer) → ¬ IsMissing cells numbers → IsOutOfMemory answer → IsRefused cells numbers answer
-limited answer p (inl e) = record { not_done = λ f. (cc); not_small = λ f. (cc); not_shut = λ f. (cc); missing = λ f. (cc); there = λ n. p }
-limited answer p (inr e) = record { not_done = λ f. (cc); not_small = λ f. (cc); not_shut = λ f. (cc); missing = λ f. (cc); there = λ n. p }
+-- another answer comes where each number has a marker
+pub limited_one : (s : InternerState) (a : ℕ) (answer : Answer) (f : Truth) → Holds s.cells a f → IsOutOfMemory answer → IsRefused TakesMemory (a ∷ []) s answer
+limited_one s a answer f found p = is_other p (one_there s.cells a f found)
 
-pub limited_one : (cells : Cells) (a : ℕ) (answer : Answer) (f : Truth) → Holds cells a f → IsOutOfMemory answer → IsRefused cells (a ∷ []) answer
-limited_one cells a answer f found p = limited answer (one_there cells a f found) p
+pub limited_two : (s : InternerState) (a b : ℕ) (answer : Answer) (f g : Truth) → Holds s.cells a f → Holds s.cells b g → IsOutOfMemory answer → IsRefused TakesMemory (a ∷ b ∷ []) s answer
+limited_two s a b answer f g found there p = is_other p (two_there s.cells a b f g found there)
 
-pub limited_two : (cells : Cells) (a b : ℕ) (answer : Answer) (f g : Truth) → Holds cells a f → Holds cells b g → IsOutOfMemory answer → IsRefused cells (a ∷ b ∷ []) answer
-limited_two cells a b answer f g found other p = limited answer (two_there cells a b f g found other) p
+pub complex_two : (s : InternerState) (a b : ℕ) (f g : Truth) → Holds s.cells a f → Holds s.cells b g → IsRefused TakesLooks (a ∷ b ∷ []) s answers.TooComplex
+complex_two s a b f g found there = is_other refl (two_there s.cells a b f g found there)
 
-pub complex_two : (cells : Cells) (a b : ℕ) (f g : Truth) → Holds cells a f → Holds cells b g → IsRefused cells (a ∷ b ∷ []) answers.TooComplex
-complex_two cells a b f g found other = limited answers.TooComplex (two_there cells a b f g found other) (inr refl)
+pub unset_one : (s : InternerState) (a : ℕ) (f : Truth) → Holds s.cells a f → s.environment ≡ None → IsRefused TakesEnvironment (a ∷ []) s answers.NoEnvironment
+unset_one s a f found unset = is_other (refl, unset) (one_there s.cells a f found)
 
-pub unset_one : (cells : Cells) (a : ℕ) (f : Truth) → Holds cells a f → IsRefused cells (a ∷ []) answers.NoEnvironment
-unset_one cells a f found = record { not_done = λ f. (cc); not_small = λ f. (cc); not_shut = λ f. (cc); missing = λ f. (cc); there = λ n. one_there cells a f found }
-
--- another argument is invalid
-of_arguments : {cells : Cells} {numbers : List ℕ} (answer : Answer) → ¬ IsMissing cells numbers → IsOfArguments answer → IsRefused cells numbers answer
-of_arguments answers.OutOfMemory p q = limited answers.OutOfMemory p (inl refl)
-of_arguments answers.NotUtf8 p q = record { not_done = λ f. (cc); not_small = λ f. (cc); not_shut = λ f. (cc); missing = λ f. (cc); there = λ n. p }
-of_arguments answers.InvalidArgument p q = record { not_done = λ f. (cc); not_small = λ f. (cc); not_shut = λ f. (cc); missing = λ f. (cc); there = λ n. p }
-of_arguments answers.Done p q = absurd q
-of_arguments answers.Invalid p q = absurd q
-of_arguments answers.BufferTooSmall p q = absurd q
-of_arguments answers.NumberTooLarge p q = absurd q
-of_arguments answers.TooComplex p q = absurd q
-of_arguments answers.NoSuchMarker p q = absurd q
-of_arguments answers.Shut p q = absurd q
-of_arguments answers.NoEnvironment p q = absurd q
-
-pub refused_one : (cells : Cells) (a : ℕ) (answer : Answer) (f : Truth) → Holds cells a f → IsOfArguments answer → IsRefused cells (a ∷ []) answer
-refused_one cells a answer f found p = of_arguments answer (one_there cells a f found) p
+pub refused_one : (s : InternerState) (a : ℕ) (answer : Answer) (f : Truth) → Holds s.cells a f → IsOfArguments answer → IsRefused TakesArguments (a ∷ []) s answer
+refused_one s a answer f found p = is_other p (one_there s.cells a f found)
 
 -- the truths are as before, while the interner grew
 pub truths_then : (c d : Contents) (entries : List Entry) {all : Cells} → IsKept c d → AreHeld c entries → all ≡ truths_in d entries → all ≡ truths_in c entries

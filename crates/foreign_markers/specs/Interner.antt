@@ -1,9 +1,7 @@
 -- What a handle has: nothing if it is shut, and otherwise markers by number and an environment.
-use Rattle.std.specs.Prelude.{◌≡◌, ℕ, ℤ, List, [], Bool, Option, Some, None, option_map}
+use Rattle.std.specs.Prelude.{◌≡◌, ℕ, List, [], Bool, Option, Some, None, option_map}
 use Rattle.marker_environment.specs.Environment.{values_of, valuation_of}
 use Rattle.pep508_markers.specs.Machine.{Truth, Cells, Holds}
-use Rattle.foreign_calls.specs.Answer.{code_of}
-use Rattle.foreign_calls.specs.declared.answer.Answer.TheVariants.{NoSuchMarker, NoEnvironment}
 use Rattle.foreign_calls.specs.declared.environment.Environment.{Environment}
 use Rattle.foreign_calls.specs.Environment.{AreGiven, Names}
 use Rattle.foreign_calls.specs.Marker.{HasValue}
@@ -65,10 +63,3 @@ pub record HasValueThere (number : ℕ) (value : Bool) (s : InternerState) : Typ
   pub known : KnownEnvironment
   pub environment_is : s.environment ≡ Some known
   pub value_is : value ≡ truth (valuation_of (values_of known.environment) known.extras.items)
-
--- the numbers of the answers where no marker has a number, and where no environment was set
-abbrev pub no_such_marker : ℤ
-no_such_marker = code_of NoSuchMarker
-
-abbrev pub no_environment : ℤ
-no_environment = code_of NoEnvironment

@@ -4,3 +4,4 @@ pub mod Handle
 pub mod Interner
 pub mod Made
 pub mod Told
+pub mod Refused

@@ -1,8 +1,6 @@
 -- Markers by number: the list of their truths.
-use Rattle.std.specs.Prelude.{◌≡◌, ◌≢◌, ℕ, List, [], ◌∷◌, ◌++◌, length}
-use Rattle.pep508_markers.specs.Machine.{Truth, Cells, Holds, IsMissing}
-use Rattle.foreign_calls.specs.declared.answer.Answer.{Answer}
-use Rattle.foreign_calls.specs.declared.answer.Answer.TheVariants.{Done, BufferTooSmall, NoSuchMarker, Shut}
+use Rattle.std.specs.Prelude.{◌≡◌, ℕ, List, [], ◌∷◌, ◌++◌, length}
+use Rattle.pep508_markers.specs.Machine.{Truth, Cells, Holds}
 use Rattle.foreign_calls.specs.Marker.{IsTextOf}
 use Rattle.foreign_markers.specs.declared.markers.Markers.{Markers}
 use Rattle.foreign_markers.specs.Entries.{truths_in}
@@ -17,15 +15,6 @@ pub record Adds (P : Truth → Type 0) (old new : Cells) (number : ℕ) : Type 0
   pub means : P truth
   pub number_is : number ≡ length old
   pub new_is : new ≡ old ++ (truth ∷ [])
-
--- Why a call on the markers of these numbers has no result. If it is not for memory, a limit or
--- another argument, one of the numbers has no marker.
-pub record IsRefused (cells : Cells) (numbers : List ℕ) (answer : Answer) : Type 0 where
-  pub not_done : answer ≢ Done
-  pub not_small : answer ≢ BufferTooSmall
-  pub not_shut : answer ≢ Shut
-  pub missing : answer ≡ NoSuchMarker → IsMissing cells numbers
-  pub there : answer ≢ NoSuchMarker → ¬ IsMissing cells numbers
 
 -- the bytes are the text of the marker of this number
 pub record HasText (cells : Cells) (number : ℕ) (bytes : List ℕ) : Type 0 where

@@ -3,11 +3,13 @@
 ghost use Rattle.std.specs.Prelude.{◌≡◌, ◌≢◌, ◌∷◌, [], Some, None};
 ghost use Rattle.marker_grammar.specs.Refused.{IsNoMarker};
 ghost use Rattle.pep508_markers.specs.Machine as machine;
+ghost use Rattle.pep508_markers.specs.Machine.{conjunction, disjunction, negation};
 ghost use Rattle.pep508_markers.specs.Text.{TextOverflows};
-ghost use Rattle.foreign_calls.specs.Environment.{bytes_of};
+ghost use Rattle.foreign_calls.specs.declared.answer.Answer.TheVariants.{BufferTooSmall, Done, Invalid, NumberTooLarge, Shut};
 ghost use Rattle.foreign_markers.specs.Interner.{empty_state, state};
 ghost use Rattle.foreign_markers.specs.Made.{HasFirst, HasMarkerOf, HasOneMore, SetsEnvironment};
-ghost use Rattle.foreign_markers.specs.Told.{HasAnswer, HasCount, HasNoEnvironment, HasNone, HasValueIn, IsTrueThere, WouldWriteText, WritesText};
+ghost use Rattle.foreign_markers.specs.Refused.{Always, Refuses, TakesArguments, TakesEnvironment, TakesLooks, TakesMemory};
+ghost use Rattle.foreign_markers.specs.Told.{HasAnswer, HasCount, HasValueIn, IsTrueThere, WouldWriteText, WritesText};
 
 use crate::handle::Handle;
 use crate::markers::Markers;
@@ -18,8 +20,8 @@ use std::alloc::Global;
 impl Handle {
     /// Opens the handle with an interner without markers. An open handle loses the markers it had.
     pub fn begin(&mut self, alloc: Global, options: &[Options<'_>]) -> Answer
-        ensures done { result ≡ Answer.Done → state self.new.value ≡ Some empty_state }
-        ensures kept { result ≢ Answer.Done → state self.new.value ≡ state self.old.value }
+        ensures done { result ≡ Done → state self.new.value ≡ Some empty_state }
+        ensures kept { result ≢ Done → state self.new.value ≡ state self.old.value }
     {
         let settings = match Settings::of(options) {
             Ok(settings) => settings,
@@ -44,10 +46,10 @@ impl Handle {
     /// Writes how many markers have a number.
     #[tactic(auto, using(crate::proofs::HandleLaws::laws))]
     pub fn mark(&mut self, alloc: Global, count: &mut usize) -> Answer
-        ensures done { result ≡ Answer.Done → HasCount count.new self.old.value }
+        ensures done { result ≡ Done → HasCount count.new self.old }
         ensures same { state self.new.value ≡ state self.old.value }
-        ensures shut { self.old.value ≡ None → result ≡ Answer.Shut }
-        ensures kept { result ≢ Answer.Done → count.new ≡ count.old }
+        ensures kept { result ≢ Done → count.new ≡ count.old }
+        ensures refused { result ≢ Done → (result ≡ Shut) × (self.old.value ≡ None) }
     {
         let Some(markers) = self.take(alloc) else {
             return Answer::Shut;
@@ -60,9 +62,9 @@ impl Handle {
     /// Removes the markers from this number on, with their nodes.
     #[tactic(auto, using(crate::proofs::HandleLaws::laws))]
     pub fn release(&mut self, alloc: Global, count: usize) -> Answer
-        ensures done { result ≡ Answer.Done → HasFirst count self.old.value self.new.value }
-        ensures kept { result ≢ Answer.Done → self.new.value ≡ None }
-        ensures shut { self.old.value ≡ None → result ≡ Answer.Shut }
+        ensures done { result ≡ Done → HasFirst count self.old self.new }
+        ensures kept { result ≢ Done → self.new.value ≡ None }
+        ensures refused { result ≢ Done → (result ≡ Shut) × (self.old.value ≡ None) }
     {
         let Some(mut markers) = self.take(alloc) else {
             return Answer::Shut;
@@ -83,10 +85,10 @@ impl Handle {
         environment: &Environment<'_>,
         extras: &[&[u8]],
     ) -> Answer
-        ensures done { result ≡ Answer.Done → SetsEnvironment environment.now (bytes_of extras.now)
-            self.old.value self.new.value }
-        ensures kept { result ≢ Answer.Done → state self.new.value ≡ state self.old.value }
-        ensures shut { self.old.value ≡ None → result ≡ Answer.Shut }
+        ensures done { result ≡ Done → SetsEnvironment environment.now extras.now
+            self.old self.new }
+        ensures kept { result ≢ Done → state self.new.value ≡ state self.old.value }
+        ensures refused { result ≢ Done → Refuses TakesArguments [] self.old result }
     {
         let Some(mut markers) = self.take(alloc) else {
             return Answer::Shut;
@@ -102,13 +104,12 @@ impl Handle {
     /// Parses a marker, and writes its number.
     #[tactic(auto, using(crate::proofs::HandleLaws::laws))]
     pub fn parse(&mut self, alloc: Global, text: &[u8], number: &mut usize) -> Answer
-        ensures done { result ≡ Answer.Done
-            → HasMarkerOf text.now number.new self.old.value self.new.value }
-        ensures kept { result ≢ Answer.Done → state self.new.value ≡ state self.old.value }
-        ensures number { result ≢ Answer.Done → number.new ≡ number.old }
-        ensures invalid { result ≡ Answer.Invalid → IsNoMarker text.now }
-        ensures too_large { result ≡ Answer.NumberTooLarge → TextOverflows text.now }
-        ensures shut { self.old.value ≡ None → result ≡ Answer.Shut }
+        ensures done { result ≡ Done → HasMarkerOf text.now number.new self.old self.new }
+        ensures kept { result ≢ Done → state self.new.value ≡ state self.old.value }
+        ensures number { result ≢ Done → number.new ≡ number.old }
+        ensures invalid { result ≡ Invalid → IsNoMarker text.now }
+        ensures too_large { result ≡ NumberTooLarge → TextOverflows text.now }
+        ensures shut { self.old.value ≡ None → result ≡ Shut }
     {
         let Some(mut markers) = self.take(alloc) else {
             return Answer::Shut;
@@ -127,12 +128,10 @@ impl Handle {
     /// Writes the number of a new marker that is true where both are.
     #[tactic(auto, using(crate::proofs::HandleLaws::laws))]
     pub fn and(&mut self, alloc: Global, a: usize, b: usize, number: &mut usize) -> Answer
-        ensures done { result ≡ Answer.Done
-            → HasOneMore (machine.conjunction a b) number.new self.old.value self.new.value }
-        ensures kept { result ≢ Answer.Done → state self.new.value ≡ state self.old.value }
-        ensures number { result ≢ Answer.Done → number.new ≡ number.old }
-        ensures missing { result ≡ Answer.NoSuchMarker → HasNone (a ∷ b ∷ []) self.old.value }
-        ensures shut { self.old.value ≡ None → result ≡ Answer.Shut }
+        ensures done { result ≡ Done → HasOneMore (conjunction a b) number.new self.old self.new }
+        ensures kept { result ≢ Done → state self.new.value ≡ state self.old.value }
+        ensures number { result ≢ Done → number.new ≡ number.old }
+        ensures refused { result ≢ Done → Refuses TakesMemory (a ∷ b ∷ []) self.old result }
     {
         let Some(mut markers) = self.take(alloc) else {
             return Answer::Shut;
@@ -151,12 +150,10 @@ impl Handle {
     /// Writes the number of a new marker that is true where one of two is.
     #[tactic(auto, using(crate::proofs::HandleLaws::laws))]
     pub fn or(&mut self, alloc: Global, a: usize, b: usize, number: &mut usize) -> Answer
-        ensures done { result ≡ Answer.Done
-            → HasOneMore (machine.disjunction a b) number.new self.old.value self.new.value }
-        ensures kept { result ≢ Answer.Done → state self.new.value ≡ state self.old.value }
-        ensures number { result ≢ Answer.Done → number.new ≡ number.old }
-        ensures missing { result ≡ Answer.NoSuchMarker → HasNone (a ∷ b ∷ []) self.old.value }
-        ensures shut { self.old.value ≡ None → result ≡ Answer.Shut }
+        ensures done { result ≡ Done → HasOneMore (disjunction a b) number.new self.old self.new }
+        ensures kept { result ≢ Done → state self.new.value ≡ state self.old.value }
+        ensures number { result ≢ Done → number.new ≡ number.old }
+        ensures refused { result ≢ Done → Refuses TakesMemory (a ∷ b ∷ []) self.old result }
     {
         let Some(mut markers) = self.take(alloc) else {
             return Answer::Shut;
@@ -175,12 +172,10 @@ impl Handle {
     /// Writes the number of a new marker that is true where the given one is not.
     #[tactic(auto, using(crate::proofs::HandleLaws::laws))]
     pub fn not(&mut self, alloc: Global, a: usize, number: &mut usize) -> Answer
-        ensures done { result ≡ Answer.Done
-            → HasOneMore (machine.negation a) number.new self.old.value self.new.value }
-        ensures kept { result ≢ Answer.Done → state self.new.value ≡ state self.old.value }
-        ensures number { result ≢ Answer.Done → number.new ≡ number.old }
-        ensures missing { result ≡ Answer.NoSuchMarker → HasNone (a ∷ []) self.old.value }
-        ensures shut { self.old.value ≡ None → result ≡ Answer.Shut }
+        ensures done { result ≡ Done → HasOneMore (negation a) number.new self.old self.new }
+        ensures kept { result ≢ Done → state self.new.value ≡ state self.old.value }
+        ensures number { result ≢ Done → number.new ≡ number.old }
+        ensures refused { result ≢ Done → Refuses TakesMemory (a ∷ []) self.old result }
     {
         let Some(mut markers) = self.take(alloc) else {
             return Answer::Shut;
@@ -202,12 +197,10 @@ impl Handle {
     /// Writes whether two markers are true in the same environments.
     #[tactic(auto, using(crate::proofs::HandleLaws::laws))]
     pub fn equal(&mut self, alloc: Global, a: usize, b: usize, value: &mut bool) -> Answer
-        ensures done { result ≡ Answer.Done
-            → HasAnswer (machine.equal a b) value.new self.old.value }
+        ensures done { result ≡ Done → HasAnswer (machine.equal a b) value.new self.old }
         ensures same { state self.new.value ≡ state self.old.value }
-        ensures kept { result ≢ Answer.Done → value.new ≡ value.old }
-        ensures missing { result ≡ Answer.NoSuchMarker → HasNone (a ∷ b ∷ []) self.old.value }
-        ensures shut { self.old.value ≡ None → result ≡ Answer.Shut }
+        ensures kept { result ≢ Done → value.new ≡ value.old }
+        ensures refused { result ≢ Done → Refuses Always (a ∷ b ∷ []) self.old result }
     {
         let Some(markers) = self.take(alloc) else {
             return Answer::Shut;
@@ -226,12 +219,10 @@ impl Handle {
     /// Writes whether two markers are never true together.
     #[tactic(auto, using(crate::proofs::HandleLaws::laws))]
     pub fn disjoint(&mut self, alloc: Global, a: usize, b: usize, value: &mut bool) -> Answer
-        ensures done { result ≡ Answer.Done
-            → HasAnswer (machine.disjoint a b) value.new self.old.value }
+        ensures done { result ≡ Done → HasAnswer (machine.disjoint a b) value.new self.old }
         ensures same { state self.new.value ≡ state self.old.value }
-        ensures kept { result ≢ Answer.Done → value.new ≡ value.old }
-        ensures missing { result ≡ Answer.NoSuchMarker → HasNone (a ∷ b ∷ []) self.old.value }
-        ensures shut { self.old.value ≡ None → result ≡ Answer.Shut }
+        ensures kept { result ≢ Done → value.new ≡ value.old }
+        ensures refused { result ≢ Done → Refuses TakesLooks (a ∷ b ∷ []) self.old result }
     {
         let Some(markers) = self.take(alloc) else {
             return Answer::Shut;
@@ -257,12 +248,11 @@ impl Handle {
         extras: &[&[u8]],
         value: &mut bool,
     ) -> Answer
-        ensures done { result ≡ Answer.Done
-            → HasValueIn number environment.now (bytes_of extras.now) value.new self.old.value }
+        ensures done { result ≡ Done
+            → HasValueIn number environment.now extras.now value.new self.old }
         ensures same { state self.new.value ≡ state self.old.value }
-        ensures kept { result ≢ Answer.Done → value.new ≡ value.old }
-        ensures missing { result ≡ Answer.NoSuchMarker → HasNone (number ∷ []) self.old.value }
-        ensures shut { self.old.value ≡ None → result ≡ Answer.Shut }
+        ensures kept { result ≢ Done → value.new ≡ value.old }
+        ensures refused { result ≢ Done → Refuses TakesArguments (number ∷ []) self.old result }
     {
         let Some(markers) = self.take(alloc) else {
             return Answer::Shut;
@@ -281,12 +271,10 @@ impl Handle {
     /// Writes whether a marker is true in the environment that was set.
     #[tactic(auto, using(crate::proofs::HandleLaws::laws))]
     pub fn is_true(&mut self, alloc: Global, number: usize, value: &mut bool) -> Answer
-        ensures done { result ≡ Answer.Done → IsTrueThere number value.new self.old.value }
+        ensures done { result ≡ Done → IsTrueThere number value.new self.old }
         ensures same { state self.new.value ≡ state self.old.value }
-        ensures kept { result ≢ Answer.Done → value.new ≡ value.old }
-        ensures missing { result ≡ Answer.NoSuchMarker → HasNone (number ∷ []) self.old.value }
-        ensures unset { result ≡ Answer.NoEnvironment → HasNoEnvironment self.old.value }
-        ensures shut { self.old.value ≡ None → result ≡ Answer.Shut }
+        ensures kept { result ≢ Done → value.new ≡ value.old }
+        ensures refused { result ≢ Done → Refuses TakesEnvironment (number ∷ []) self.old result }
     {
         let Some(markers) = self.take(alloc) else {
             return Answer::Shut;
@@ -311,15 +299,14 @@ impl Handle {
         buffer: &mut [u8],
         needed: &mut usize,
     ) -> Answer
-        ensures done { result ≡ Answer.Done
-            → WritesText number buffer.old buffer.new needed.new self.old.value }
-        ensures too_small { result ≡ Answer.BufferTooSmall
-            → WouldWriteText number buffer.old buffer.new needed.new self.old.value }
+        ensures done { result ≡ Done → WritesText number buffer.old buffer.new needed.new self.old }
+        ensures too_small { result ≡ BufferTooSmall
+            → WouldWriteText number buffer.old buffer.new needed.new self.old }
         ensures same { state self.new.value ≡ state self.old.value }
-        ensures kept { result ≢ Answer.Done → buffer.new ≡ buffer.old }
-        ensures none { result ≢ Answer.Done → result ≢ Answer.BufferTooSmall → needed.new ≡ 0 }
-        ensures missing { result ≡ Answer.NoSuchMarker → HasNone (number ∷ []) self.old.value }
-        ensures shut { self.old.value ≡ None → result ≡ Answer.Shut }
+        ensures kept { result ≢ Done → buffer.new ≡ buffer.old }
+        ensures none { result ≢ Done → result ≢ BufferTooSmall → needed.new ≡ 0 }
+        ensures refused { result ≢ Done → result ≢ BufferTooSmall
+            → Refuses TakesMemory (number ∷ []) self.old result }
     {
         *needed = 0;
         let Some(markers) = self.take(alloc) else {

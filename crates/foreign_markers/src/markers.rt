@@ -44,7 +44,8 @@ impl Markers {
     ghost use Rattle.foreign_calls.specs.Refused.{IsMarkerRefusal, IsOfArguments, IsOutOfMemory};
     ghost use Rattle.foreign_markers.specs.Entries.{AreBefore};
     ghost use Rattle.foreign_markers.specs.Interner.{IsSetTo, empty_state, state_of};
-    ghost use Rattle.foreign_markers.specs.Numbers.{Adds, IsRefused, truths_of};
+    ghost use Rattle.foreign_markers.specs.Numbers.{Adds, truths_of};
+    ghost use Rattle.foreign_markers.specs.Refused.{IsRefused, TakesMemory};
 
     /// Returns an interner without markers and without an environment, with the key and the limits
     /// of the settings.
@@ -83,7 +84,7 @@ impl Markers {
         ensures added { IfOk result
             (Adds (λ f. Makes (truths_of self.old) (conjunction a b) f [])
             (truths_of self.old) (truths_of self.new)) }
-        ensures refused { IfErr result (IsRefused (truths_of self.old) (a ∷ b ∷ [])) }
+        ensures refused { IfErr result (IsRefused TakesMemory (a ∷ b ∷ []) (state_of self.old)) }
         ensures kept { OnErr result (truths_of self.new ≡ truths_of self.old) }
         ensures environment { self.new.environment ≡ self.old.environment }
     {
@@ -104,7 +105,7 @@ impl Markers {
         ensures added { IfOk result
             (Adds (λ f. Makes (truths_of self.old) (disjunction a b) f [])
             (truths_of self.old) (truths_of self.new)) }
-        ensures refused { IfErr result (IsRefused (truths_of self.old) (a ∷ b ∷ [])) }
+        ensures refused { IfErr result (IsRefused TakesMemory (a ∷ b ∷ []) (state_of self.old)) }
         ensures kept { OnErr result (truths_of self.new ≡ truths_of self.old) }
         ensures environment { self.new.environment ≡ self.old.environment }
     {
@@ -125,7 +126,7 @@ impl Markers {
         ensures added { IfOk result
             (Adds (λ f. Makes (truths_of self.old) (negation number) f [])
             (truths_of self.old) (truths_of self.new)) }
-        ensures refused { IfErr result (IsRefused (truths_of self.old) (number ∷ [])) }
+        ensures refused { IfErr result (IsRefused TakesMemory (number ∷ []) (state_of self.old)) }
         ensures kept { OnErr result (truths_of self.new ≡ truths_of self.old) }
         ensures environment { self.new.environment ≡ self.old.environment }
     {

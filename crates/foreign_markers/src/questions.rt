@@ -1,11 +1,12 @@
 //! Questions about markers by number, which change nothing.
 
-ghost use Rattle.std.specs.Prelude.{◌≡◌, ◌∷◌, [], IfErr, IfOk, None, string_bytes};
+ghost use Rattle.std.specs.Prelude.{◌∷◌, [], IfErr, IfOk, string_bytes};
 ghost use Rattle.pep508_markers.specs.Machine as machine;
 ghost use Rattle.pep508_markers.specs.Machine.{Tells};
 ghost use Rattle.foreign_calls.specs.Environment.{bytes_of};
 ghost use Rattle.foreign_markers.specs.Interner.{HasValueAt, HasValueThere, state_of};
-ghost use Rattle.foreign_markers.specs.Numbers.{HasText, IsRefused, truths_of};
+ghost use Rattle.foreign_markers.specs.Numbers.{HasText, truths_of};
+ghost use Rattle.foreign_markers.specs.Refused.{Always, IsRefused, TakesArguments, TakesEnvironment, TakesLooks, TakesMemory};
 
 use crate::markers::Markers;
 use foreign_calls::{Answer, Environment, marker_text, read_environment, read_names};
@@ -16,7 +17,7 @@ impl Markers {
     #[tactic(auto, using(crate::proofs::NumberLaws::missing_two))]
     pub fn equal(&self, a: usize, b: usize) -> Result<bool, Answer>
         ensures told { IfOk result (Tells (truths_of self.now) (machine.equal a b)) }
-        ensures refused { IfErr result (IsRefused (truths_of self.now) (a ∷ b ∷ [])) }
+        ensures refused { IfErr result (IsRefused Always (a ∷ b ∷ []) (state_of self.now)) }
     {
         let Some((left, right)) = self.two_trees(a, b) else {
             return Err(Answer::NoSuchMarker);
@@ -29,7 +30,7 @@ impl Markers {
     #[tactic(auto, using(crate::proofs::NumberLaws::separating))]
     pub fn disjoint(&self, a: usize, b: usize) -> Result<bool, Answer>
         ensures told { IfOk result (Tells (truths_of self.now) (machine.disjoint a b)) }
-        ensures refused { IfErr result (IsRefused (truths_of self.now) (a ∷ b ∷ [])) }
+        ensures refused { IfErr result (IsRefused TakesLooks (a ∷ b ∷ []) (state_of self.now)) }
     {
         let Some((left, right)) = self.two_trees(a, b) else {
             return Err(Answer::NoSuchMarker);
@@ -51,7 +52,8 @@ impl Markers {
     ) -> Result<bool, Answer>
         ensures told { IfOk result (λ value. HasValueAt number values.now (bytes_of extras.now)
             value (truths_of self.now)) }
-        ensures refused { IfErr result (IsRefused (truths_of self.now) (number ∷ [])) }
+        ensures refused { IfErr result
+            (IsRefused TakesArguments (number ∷ []) (state_of self.now)) }
     {
         let Some(tree) = self.tree(number) else {
             return Err(Answer::NoSuchMarker);
@@ -66,9 +68,8 @@ impl Markers {
     #[tactic(auto, using(crate::proofs::NumberLaws::asking))]
     pub fn is_true(&self, number: usize) -> Result<bool, Answer>
         ensures told { IfOk result (λ value. HasValueThere number value (state_of self.now)) }
-        ensures refused { IfErr result (IsRefused (truths_of self.now) (number ∷ [])) }
-        ensures unset { IfErr result
-            (λ answer. answer ≡ Answer.NoEnvironment → self.now.environment ≡ None) }
+        ensures refused { IfErr result
+            (IsRefused TakesEnvironment (number ∷ []) (state_of self.now)) }
     {
         let Some(tree) = self.tree(number) else {
             return Err(Answer::NoSuchMarker);
@@ -84,7 +85,7 @@ impl Markers {
     pub fn text(&self, number: usize) -> Result<String, Answer>
         ensures written { IfOk result
             (λ text. HasText (truths_of self.now) number (string_bytes text)) }
-        ensures refused { IfErr result (IsRefused (truths_of self.now) (number ∷ [])) }
+        ensures refused { IfErr result (IsRefused TakesMemory (number ∷ []) (state_of self.now)) }
     {
         let Some(tree) = self.tree(number) else {
             return Err(Answer::NoSuchMarker);

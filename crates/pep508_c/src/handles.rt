@@ -3,12 +3,13 @@
 ghost use Rattle.std.specs.Prelude.{◌≡◌, ◌≢◌, ◌∷◌, [], Some, None};
 ghost use Rattle.marker_grammar.specs.Refused.{IsNoMarker};
 ghost use Rattle.pep508_markers.specs.Machine as machine;
+ghost use Rattle.pep508_markers.specs.Machine.{conjunction, disjunction, negation};
 ghost use Rattle.pep508_markers.specs.Text.{TextOverflows};
 ghost use Rattle.foreign_calls.specs.Answer.{done, invalid, shut, too_large, too_small};
-ghost use Rattle.foreign_calls.specs.Environment.{bytes_of};
-ghost use Rattle.foreign_markers.specs.Interner.{empty_state, no_environment, no_such_marker, state};
+ghost use Rattle.foreign_markers.specs.Interner.{empty_state, state};
 ghost use Rattle.foreign_markers.specs.Made.{HasFirst, HasMarkerOf, HasOneMore, SetsEnvironment};
-ghost use Rattle.foreign_markers.specs.Told.{HasAnswer, HasCount, HasNoEnvironment, HasNone, HasValueIn, IsTrueThere, WouldWriteText, WritesText};
+ghost use Rattle.foreign_markers.specs.Refused.{Always, RefusesBy, TakesArguments, TakesEnvironment, TakesLooks, TakesMemory};
+ghost use Rattle.foreign_markers.specs.Told.{HasAnswer, HasCount, HasValueIn, IsTrueThere, WouldWriteText, WritesText};
 
 use foreign_calls::{Environment, Options};
 use foreign_markers::Handle;
@@ -38,10 +39,10 @@ pub extern "C" fn pep508_interner_free(alloc: Global, handle: &mut Handle)
 /// Writes how many markers have a number.
 #[unsafe(no_mangle)]
 pub extern "C" fn pep508_interner_mark(alloc: Global, handle: &mut Handle, count: &mut usize) -> i32
-    ensures done { result ≡ done → HasCount count.new handle.old.value }
+    ensures done { result ≡ done → HasCount count.new handle.old }
     ensures same { state handle.new.value ≡ state handle.old.value }
-    ensures shut { handle.old.value ≡ None → result ≡ shut }
     ensures kept { result ≢ done → count.new ≡ count.old }
+    ensures refused { result ≢ done → (result ≡ shut) × (handle.old.value ≡ None) }
 {
     handle.mark(alloc, count).code()
 }
@@ -49,9 +50,9 @@ pub extern "C" fn pep508_interner_mark(alloc: Global, handle: &mut Handle, count
 /// Removes the markers from this number on, with their nodes.
 #[unsafe(no_mangle)]
 pub extern "C" fn pep508_interner_release(alloc: Global, handle: &mut Handle, count: usize) -> i32
-    ensures done { result ≡ done → HasFirst count handle.old.value handle.new.value }
+    ensures done { result ≡ done → HasFirst count handle.old handle.new }
     ensures kept { result ≢ done → handle.new.value ≡ None }
-    ensures shut { handle.old.value ≡ None → result ≡ shut }
+    ensures refused { result ≢ done → (result ≡ shut) × (handle.old.value ≡ None) }
 {
     handle.release(alloc, count).code()
 }
@@ -64,8 +65,7 @@ pub extern "C" fn pep508_marker_parse(
     text: &[u8],
     number: &mut usize,
 ) -> i32
-    ensures done { result ≡ done
-        → HasMarkerOf text.now number.new handle.old.value handle.new.value }
+    ensures done { result ≡ done → HasMarkerOf text.now number.new handle.old handle.new }
     ensures kept { result ≢ done → state handle.new.value ≡ state handle.old.value }
     ensures number { result ≢ done → number.new ≡ number.old }
     ensures invalid { result ≡ invalid → IsNoMarker text.now }
@@ -84,12 +84,10 @@ pub extern "C" fn pep508_marker_and(
     b: usize,
     number: &mut usize,
 ) -> i32
-    ensures done { result ≡ done
-        → HasOneMore (machine.conjunction a b) number.new handle.old.value handle.new.value }
+    ensures done { result ≡ done → HasOneMore (conjunction a b) number.new handle.old handle.new }
     ensures kept { result ≢ done → state handle.new.value ≡ state handle.old.value }
     ensures number { result ≢ done → number.new ≡ number.old }
-    ensures missing { result ≡ no_such_marker → HasNone (a ∷ b ∷ []) handle.old.value }
-    ensures shut { handle.old.value ≡ None → result ≡ shut }
+    ensures refused { result ≢ done → RefusesBy TakesMemory (a ∷ b ∷ []) handle.old result }
 {
     handle.and(alloc, a, b, number).code()
 }
@@ -103,12 +101,10 @@ pub extern "C" fn pep508_marker_or(
     b: usize,
     number: &mut usize,
 ) -> i32
-    ensures done { result ≡ done
-        → HasOneMore (machine.disjunction a b) number.new handle.old.value handle.new.value }
+    ensures done { result ≡ done → HasOneMore (disjunction a b) number.new handle.old handle.new }
     ensures kept { result ≢ done → state handle.new.value ≡ state handle.old.value }
     ensures number { result ≢ done → number.new ≡ number.old }
-    ensures missing { result ≡ no_such_marker → HasNone (a ∷ b ∷ []) handle.old.value }
-    ensures shut { handle.old.value ≡ None → result ≡ shut }
+    ensures refused { result ≢ done → RefusesBy TakesMemory (a ∷ b ∷ []) handle.old result }
 {
     handle.or(alloc, a, b, number).code()
 }
@@ -121,12 +117,10 @@ pub extern "C" fn pep508_marker_not(
     a: usize,
     number: &mut usize,
 ) -> i32
-    ensures done { result ≡ done
-        → HasOneMore (machine.negation a) number.new handle.old.value handle.new.value }
+    ensures done { result ≡ done → HasOneMore (negation a) number.new handle.old handle.new }
     ensures kept { result ≢ done → state handle.new.value ≡ state handle.old.value }
     ensures number { result ≢ done → number.new ≡ number.old }
-    ensures missing { result ≡ no_such_marker → HasNone (a ∷ []) handle.old.value }
-    ensures shut { handle.old.value ≡ None → result ≡ shut }
+    ensures refused { result ≢ done → RefusesBy TakesMemory (a ∷ []) handle.old result }
 {
     handle.not(alloc, a, number).code()
 }
@@ -140,11 +134,10 @@ pub extern "C" fn pep508_marker_equal(
     b: usize,
     value: &mut bool,
 ) -> i32
-    ensures done { result ≡ done → HasAnswer (machine.equal a b) value.new handle.old.value }
+    ensures done { result ≡ done → HasAnswer (machine.equal a b) value.new handle.old }
     ensures same { state handle.new.value ≡ state handle.old.value }
     ensures kept { result ≢ done → value.new ≡ value.old }
-    ensures missing { result ≡ no_such_marker → HasNone (a ∷ b ∷ []) handle.old.value }
-    ensures shut { handle.old.value ≡ None → result ≡ shut }
+    ensures refused { result ≢ done → RefusesBy Always (a ∷ b ∷ []) handle.old result }
 {
     handle.equal(alloc, a, b, value).code()
 }
@@ -158,11 +151,10 @@ pub extern "C" fn pep508_marker_disjoint(
     b: usize,
     value: &mut bool,
 ) -> i32
-    ensures done { result ≡ done → HasAnswer (machine.disjoint a b) value.new handle.old.value }
+    ensures done { result ≡ done → HasAnswer (machine.disjoint a b) value.new handle.old }
     ensures same { state handle.new.value ≡ state handle.old.value }
     ensures kept { result ≢ done → value.new ≡ value.old }
-    ensures missing { result ≡ no_such_marker → HasNone (a ∷ b ∷ []) handle.old.value }
-    ensures shut { handle.old.value ≡ None → result ≡ shut }
+    ensures refused { result ≢ done → RefusesBy TakesLooks (a ∷ b ∷ []) handle.old result }
 {
     handle.disjoint(alloc, a, b, value).code()
 }
@@ -178,11 +170,10 @@ pub extern "C" fn pep508_marker_evaluate_number(
     value: &mut bool,
 ) -> i32
     ensures done { result ≡ done
-        → HasValueIn number environment.now (bytes_of extras.now) value.new handle.old.value }
+        → HasValueIn number environment.now extras.now value.new handle.old }
     ensures same { state handle.new.value ≡ state handle.old.value }
     ensures kept { result ≢ done → value.new ≡ value.old }
-    ensures missing { result ≡ no_such_marker → HasNone (number ∷ []) handle.old.value }
-    ensures shut { handle.old.value ≡ None → result ≡ shut }
+    ensures refused { result ≢ done → RefusesBy TakesArguments (number ∷ []) handle.old result }
 {
     handle
         .evaluate(alloc, number, environment, extras, value)
@@ -198,10 +189,10 @@ pub extern "C" fn pep508_interner_set_environment(
     environment: &Environment<'_>,
     extras: &[&[u8]],
 ) -> i32
-    ensures done { result ≡ done → SetsEnvironment environment.now (bytes_of extras.now)
-        handle.old.value handle.new.value }
+    ensures done { result ≡ done → SetsEnvironment environment.now extras.now
+        handle.old handle.new }
     ensures kept { result ≢ done → state handle.new.value ≡ state handle.old.value }
-    ensures shut { handle.old.value ≡ None → result ≡ shut }
+    ensures refused { result ≢ done → RefusesBy TakesArguments [] handle.old result }
 {
     handle.set_environment(alloc, environment, extras).code()
 }
@@ -214,12 +205,10 @@ pub extern "C" fn pep508_marker_is_true(
     number: usize,
     value: &mut bool,
 ) -> i32
-    ensures done { result ≡ done → IsTrueThere number value.new handle.old.value }
+    ensures done { result ≡ done → IsTrueThere number value.new handle.old }
     ensures same { state handle.new.value ≡ state handle.old.value }
     ensures kept { result ≢ done → value.new ≡ value.old }
-    ensures missing { result ≡ no_such_marker → HasNone (number ∷ []) handle.old.value }
-    ensures unset { result ≡ no_environment → HasNoEnvironment handle.old.value }
-    ensures shut { handle.old.value ≡ None → result ≡ shut }
+    ensures refused { result ≢ done → RefusesBy TakesEnvironment (number ∷ []) handle.old result }
 {
     handle.is_true(alloc, number, value).code()
 }
@@ -233,15 +222,14 @@ pub extern "C" fn pep508_marker_text(
     buffer: &mut [u8],
     needed: &mut usize,
 ) -> i32
-    ensures done { result ≡ done
-        → WritesText number buffer.old buffer.new needed.new handle.old.value }
+    ensures done { result ≡ done → WritesText number buffer.old buffer.new needed.new handle.old }
     ensures too_small { result ≡ too_small
-        → WouldWriteText number buffer.old buffer.new needed.new handle.old.value }
+        → WouldWriteText number buffer.old buffer.new needed.new handle.old }
     ensures same { state handle.new.value ≡ state handle.old.value }
     ensures kept { result ≢ done → buffer.new ≡ buffer.old }
     ensures none { result ≢ done → result ≢ too_small → needed.new ≡ 0 }
-    ensures missing { result ≡ no_such_marker → HasNone (number ∷ []) handle.old.value }
-    ensures shut { handle.old.value ≡ None → result ≡ shut }
+    ensures refused { result ≢ done → result ≢ too_small
+        → RefusesBy TakesMemory (number ∷ []) handle.old result }
 {
     handle.text(alloc, number, buffer, needed).code()
 }

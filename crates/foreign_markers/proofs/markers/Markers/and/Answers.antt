@@ -1,6 +1,6 @@
 use Rattle.std.proofs.Common.{inl}
 use Rattle.marker_graph.specs.Contents.{truth}
-use Rattle.foreign_markers.specs.Entries.{truths_in}
+use Rattle.foreign_markers.specs.Interner.{state_of}
 use Rattle.foreign_markers.proofs.NumberLaws.{adds_and, limited_two, on_err, on_ok, truths_then}
 use Rattle.foreign_markers.proofs.markers.Markers.and.Goals as goal
 
@@ -13,7 +13,7 @@ returns-in-Ok-clause-added c =
 pub returns-in-Ok-clause-refused : goal.returns-in-Ok-clause-refused
 returns-in-Ok-clause-refused c =
     let self = c.args.self.now in
-    on_err c.add.result (λ answer e. limited_two (truths_in self.interner self.entries.items) c.args.a c.args.b answer (truth self.interner c.in-Some.left) (truth self.interner c.in-Some.right)
+    on_err c.add.result (λ answer e. limited_two (state_of self) c.args.a c.args.b answer (truth self.interner c.in-Some.left) (truth self.interner c.in-Some.right)
     c.in-Some.ensures.first c.in-Some.ensures.second (inl e)) c.add.ensures.refused
 
 pub returns-in-Ok-clause-kept : goal.returns-in-Ok-clause-kept
@@ -24,7 +24,7 @@ returns-in-Ok-clause-kept c =
 pub returns-in-Err-clause-refused : goal.returns-in-Err-clause-refused
 returns-in-Err-clause-refused c =
     let self = c.args.self.now in
-    limited_two (truths_in self.interner self.entries.items) c.args.a c.args.b c.undo.result (truth self.interner c.in-Some.left) (truth self.interner c.in-Some.right)
+    limited_two (state_of self) c.args.a c.args.b c.undo.result (truth self.interner c.in-Some.left) (truth self.interner c.in-Some.right)
     c.in-Some.ensures.first c.in-Some.ensures.second c.undo.ensures.refused
 
 pub returns-in-Err-clause-kept : goal.returns-in-Err-clause-kept

@@ -1,6 +1,6 @@
 use Rattle.std.proofs.Common.{inl}
 use Rattle.marker_graph.specs.Contents.{truth}
-use Rattle.foreign_markers.specs.Entries.{truths_in}
+use Rattle.foreign_markers.specs.Interner.{state_of}
 use Rattle.foreign_markers.proofs.NumberLaws.{adds_not, limited_one, on_err, on_ok}
 use Rattle.foreign_markers.proofs.markers.Markers.not.Goals as goal
 
@@ -12,4 +12,4 @@ returns-clause-added c =
 pub returns-clause-refused : goal.returns-clause-refused
 returns-clause-refused c =
     let self = c.args.self.now in
-    on_err c.add.result (λ answer e. limited_one (truths_in self.interner self.entries.items) c.args.number answer (truth self.interner c.in-Some.tree) c.in-Some.ensures.found (inl e)) c.add.ensures.refused
+    on_err c.add.result (λ answer e. limited_one (state_of self) c.args.number answer (truth self.interner c.in-Some.tree) c.in-Some.ensures.found (inl e)) c.add.ensures.refused
