@@ -2,7 +2,7 @@
 
 use clap::{Arg, ArgMatches, Command, value_parser};
 use marker_commands::marker_argument;
-use pep508_program::{Coloring, color_argument, coloring_of};
+use pep508_program::{Coloring, color_argument, coloring_of, option};
 use std::alloc::{AllocError, Global};
 
 /// How a drawing is written.
@@ -28,26 +28,25 @@ pub struct DrawCommand<'m> {
 
 static FORMATS: [&str; 3] = ["text", "dot", "svg"];
 
-// The command line of the command.
-fn command_line<'a>(alloc: Global) -> Result<Command<'a>, AllocError> {
-    let format = Arg::new(alloc, "format")
-        .long("format")
-        .value_name("FORMAT")
+fn format_argument<'a>(alloc: Global) -> Arg<'a> {
+    let help = "Write a tree, the language of Graphviz, or a picture";
+    option(alloc, "format", "FORMAT", help)
         .value_parser(FORMATS.as_slice())
         .default_value("text")
-        .help("Write a tree, the language of Graphviz, or a picture");
-    let limit = Arg::new(alloc, "limit")
-        .long("limit")
-        .value_name("N")
-        .value_parser(value_parser!(u64).range(1..))
-        .help("Draw up to N nodes, in place of 2000, of a marker with room N, in place of 1000000");
+}
+
+// The command line of the command.
+fn command_line<'a>(alloc: Global) -> Result<Command<'a>, AllocError> {
+    let limit =
+        "Draw up to N nodes, in place of 2000, of a marker with room N, in place of 1000000";
+    let limit = option(alloc, "limit", "N", limit).value_parser(value_parser!(u64).range(1..));
     Command::new(alloc, "draw")
         .about("Draws the decision diagram of a marker")
         .after_help(
             "Example: pep508 draw --format svg \"python_version >= '3.8' and os_name == 'nt'\"",
         )
         .arg(marker_argument(alloc, "marker", "MARKER"))?
-        .arg(format)?
+        .arg(format_argument(alloc))?
         .arg(color_argument(alloc))?
         .arg(limit)
 }

@@ -1,7 +1,7 @@
 //! The command line of the command `fmt`.
 
-use clap::{Arg, ArgAction, ArgMatches, Command, value_parser};
-use pep508_program::{Coloring, color_argument, coloring_of};
+use clap::{Arg, ArgMatches, Command};
+use pep508_program::{Coloring, color_argument, coloring_of, flag, limit_argument};
 use std::alloc::{AllocError, Global};
 
 /// What becomes of the formatted files.
@@ -26,43 +26,23 @@ pub struct FormatCommand<'m> {
     pub limit: u64,
 }
 
-fn flag<'a>(alloc: Global, name: &'a str, help: &'a str) -> Arg<'a> {
-    Arg::new(alloc, name)
-        .long(name)
-        .action(ArgAction::SetTrue)
-        .help(help)
-}
-
 // The command line of the command.
 fn command_line<'a>(alloc: Global) -> Result<Command<'a>, AllocError> {
     let files = Arg::new(alloc, "file")
         .value_name("FILE")
         .num_args(0..)
         .help("The requirements files to format; `-`, or none, is standard input");
-    let check = flag(
-        alloc,
-        "check",
-        "Name the lines that would change, and fail if there are some",
-    );
-    let write = flag(
-        alloc,
-        "write",
-        "Replace each file that changes by its new text",
-    );
-    let limit = Arg::new(alloc, "limit")
-        .long("limit")
-        .value_name("N")
-        .value_parser(value_parser!(u64).range(1..))
-        .default_value("1000000")
-        .help("The room of each requirement; one that needs more is too complex, and stays");
+    let check = "Name the lines that would change, and fail if there are some";
+    let write = "Replace each file that changes by its new text";
+    let limit = "The room of each requirement; one that needs more is too complex, and stays";
     Command::new(alloc, "fmt")
         .about("Writes each requirement of a requirements file in its normal text")
         .after_help("Example: pep508 fmt --check requirements.txt")
         .arg(files)?
-        .arg(check.conflicts_with("write")?)?
-        .arg(write)?
+        .arg(flag(alloc, "check", check).conflicts_with("write")?)?
+        .arg(flag(alloc, "write", write))?
         .arg(color_argument(alloc))?
-        .arg(limit)
+        .arg(limit_argument(alloc, limit))
 }
 
 /// Adds the command `fmt` to a command line.

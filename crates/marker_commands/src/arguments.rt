@@ -1,7 +1,7 @@
 //! The command lines of the commands about markers.
 
-use clap::{Arg, ArgAction, ArgMatches, Command, value_parser};
-use pep508_program::{Coloring, color_argument, coloring_of};
+use clap::{Arg, ArgAction, ArgMatches, Command};
+use pep508_program::{Coloring, color_argument, coloring_of, flag, limit_argument, option};
 use std::alloc::{AllocError, Global};
 
 /// The words of `compare`.
@@ -75,115 +75,74 @@ pub fn marker_argument<'a>(alloc: Global, id: &'a str, value: &'a str) -> Arg<'a
         .help("A marker, such as \"python_version >= '3.8'\"")
 }
 
-fn limit_argument<'a>(alloc: Global) -> Arg<'a> {
-    Arg::new(alloc, "limit")
-        .long("limit")
-        .value_name("N")
-        .value_parser(value_parser!(u64).range(1..))
-        .default_value("1000000")
-        .help("The room of the markers; one that needs more is too complex")
-}
-
 /// Returns the option `--extra`, which may be used several times.
 pub fn extra_argument<'a>(alloc: Global) -> Arg<'a> {
-    Arg::new(alloc, "extra")
-        .long("extra")
-        .value_name("NAME")
-        .action(ArgAction::Append)
-        .help("An extra that is asked for")
+    option(alloc, "extra", "NAME", "An extra that is asked for").action(ArgAction::Append)
+}
+
+/// Returns the option `--implementation`.
+pub fn implementation_argument<'a>(alloc: Global) -> Arg<'a> {
+    let help = "implementation_name and platform_python_implementation";
+    option(alloc, "implementation", "NAME", help).value_parser(IMPLEMENTATIONS.as_slice())
 }
 
 /// Adds the options of all commands about markers: `--color` and `--limit`.
 pub fn with_common(alloc: Global, command: Command<'_>) -> Result<Command<'_>, AllocError> {
+    let limit = "The room of the markers; one that needs more is too complex";
     command
         .arg(color_argument(alloc))?
-        .arg(limit_argument(alloc))
+        .arg(limit_argument(alloc, limit))
 }
 
 fn compare_command<'a>(alloc: Global) -> Result<Command<'a>, AllocError> {
-    let witness = Arg::new(alloc, "witness")
-        .long("witness")
-        .action(ArgAction::SetTrue)
-        .help("Write environments that show it; keys without a value are free");
+    let witness = "Write environments that show it; keys without a value are free";
     let compare = Command::new(alloc, "compare")
         .about("Tells how the environments of two markers relate")
         .after_help("Example: pep508 compare \"os_name == 'nt'\" \"os_name != 'posix'\"")
         .arg(marker_argument(alloc, "first", "FIRST"))?
         .arg(marker_argument(alloc, "second", "SECOND"))?
-        .arg(witness)?;
+        .arg(flag(alloc, "witness", witness))?;
     with_common(alloc, compare)
 }
 
 fn simplify_command<'a>(alloc: Global) -> Result<Command<'a>, AllocError> {
-    let python = Arg::new(alloc, "python")
-        .long("python")
-        .value_name("RANGE")
-        .help("Python versions that are taken for granted, such as '>=3.8,<3.13'");
-    let requires_python = Arg::new(alloc, "require-python")
-        .long("require-python")
-        .action(ArgAction::SetTrue)
-        .requires_arg("python")?
-        .help("Require the range, in place of taking it for granted");
+    let python = "Python versions that are taken for granted, such as '>=3.8,<3.13'";
+    let required = "Require the range, in place of taking it for granted";
     let simplify = Command::new(alloc, "simplify")
         .about("Writes what is left of a marker where something is granted")
         .after_help(
             "Example: pep508 simplify --python '>=3.8' \"python_version >= '3.7' and os_name == 'nt'\"",
         )
         .arg(marker_argument(alloc, "marker", "MARKER"))?
-        .arg(python)?
-        .arg(requires_python)?
+        .arg(option(alloc, "python", "RANGE", python))?
+        .arg(flag(alloc, "require-python", required).requires_arg("python")?)?
         .arg(extra_argument(alloc))?;
     with_common(alloc, simplify)
 }
 
 /// Adds the options that give keys their values.
 pub fn with_environment(alloc: Global, command: Command<'_>) -> Result<Command<'_>, AllocError> {
-    let value = Arg::new(alloc, "env")
-        .long("env")
-        .value_name("KEY=VALUE")
-        .action(ArgAction::Append)
-        .help("The value of a key; goes before the options below");
-    let python = Arg::new(alloc, "python")
-        .long("python")
-        .value_name("VERSION")
-        .help("The version of Python, such as 3.12 or 3.12.4");
-    let platform = Arg::new(alloc, "platform")
-        .long("platform")
-        .value_name("NAME")
-        .value_parser(PLATFORMS.as_slice())
-        .help("The platform: os_name, sys_platform and platform_system");
-    let implementation = Arg::new(alloc, "implementation")
-        .long("implementation")
-        .value_name("NAME")
-        .value_parser(IMPLEMENTATIONS.as_slice())
-        .help("implementation_name and platform_python_implementation");
-    let file = Arg::new(alloc, "env-file")
-        .long("env-file")
-        .value_name("FILE")
-        .help("Values of further keys, as an object of JSON; `-` is standard input");
+    let value = "The value of a key; goes before the options below";
+    let python = "The version of Python, such as 3.12 or 3.12.4";
+    let platform = "The platform: os_name, sys_platform and platform_system";
+    let file = "Values of further keys, as an object of JSON; `-` is standard input";
     command
-        .arg(value)?
-        .arg(python)?
-        .arg(platform)?
-        .arg(implementation)?
-        .arg(file)
+        .arg(option(alloc, "env", "KEY=VALUE", value).action(ArgAction::Append))?
+        .arg(option(alloc, "python", "VERSION", python))?
+        .arg(option(alloc, "platform", "NAME", platform).value_parser(PLATFORMS.as_slice()))?
+        .arg(implementation_argument(alloc))?
+        .arg(option(alloc, "env-file", "FILE", file))
 }
 
 fn eval_command<'a>(alloc: Global) -> Result<Command<'a>, AllocError> {
-    let status = Arg::new(alloc, "status")
-        .long("status")
-        .action(ArgAction::SetTrue)
-        .help("End with status 1 if the marker is false");
     let eval = Command::new(alloc, "eval")
         .about("Tells whether a marker is true where values of its keys are known")
         .after_help("Example: pep508 eval --python 3.12 \"python_version >= '3.8'\"")
         .arg(marker_argument(alloc, "marker", "MARKER"))?;
-    with_common(
-        alloc,
-        with_environment(alloc, eval)?
-            .arg(extra_argument(alloc))?
-            .arg(status)?,
-    )
+    let eval = with_environment(alloc, eval)?
+        .arg(extra_argument(alloc))?
+        .arg(flag(alloc, "status", "End with status 1 if the marker is false"))?;
+    with_common(alloc, eval)
 }
 
 /// Adds the commands about markers to a command line.

@@ -70,6 +70,29 @@ pub struct Request<'m> {
     pub group: Option<&'m str>,
 }
 
+/// Returns an option without a value.
+pub fn flag<'a>(alloc: Global, name: &'a str, help: &'a str) -> Arg<'a> {
+    Arg::new(alloc, name)
+        .long(name)
+        .action(ArgAction::SetTrue)
+        .help(help)
+}
+
+/// Returns an option with a value, which this word stands for in the help.
+pub fn option<'a>(alloc: Global, name: &'a str, value: &'a str, help: &'a str) -> Arg<'a> {
+    Arg::new(alloc, name)
+        .long(name)
+        .value_name(value)
+        .help(help)
+}
+
+/// Returns the option `--limit` of a room, 1,000,000 by default.
+pub fn limit_argument<'a>(alloc: Global, help: &'a str) -> Arg<'a> {
+    option(alloc, "limit", "N", help)
+        .value_parser(value_parser!(u64).range(1..))
+        .default_value("1000000")
+}
+
 fn files_argument<'a>(alloc: Global) -> Arg<'a> {
     Arg::new(alloc, "file")
         .value_name("FILE")
@@ -78,71 +101,58 @@ fn files_argument<'a>(alloc: Global) -> Arg<'a> {
 }
 
 fn kind_argument<'a>(alloc: Global) -> Arg<'a> {
-    Arg::new(alloc, "kind")
-        .long("kind")
-        .value_name("KIND")
-        .value_parser(KINDS.as_slice())
-        .help("Read the named files as this, and not by their names")
-}
-
-fn recursive_argument<'a>(alloc: Global) -> Arg<'a> {
-    Arg::new(alloc, "recursive")
-        .long("recursive")
-        .action(ArgAction::SetTrue)
-        .help("Search folders, the current one if there is no FILE")
+    option(
+        alloc,
+        "kind",
+        "KIND",
+        "Read the named files as this, and not by their names",
+    )
+    .value_parser(KINDS.as_slice())
 }
 
 /// Returns the option `--format` of text or JSON.
 pub fn format_argument<'a>(alloc: Global) -> Arg<'a> {
-    Arg::new(alloc, "format")
-        .long("format")
-        .value_name("FORMAT")
-        .value_parser(FORMATS.as_slice())
-        .default_value("text")
-        .help("Write text, or an object of JSON on each line")
+    option(
+        alloc,
+        "format",
+        "FORMAT",
+        "Write text, or an object of JSON on each line",
+    )
+    .value_parser(FORMATS.as_slice())
+    .default_value("text")
 }
 
 /// Returns the option `--color`.
 pub fn color_argument<'a>(alloc: Global) -> Arg<'a> {
-    Arg::new(alloc, "color")
-        .long("color")
-        .value_name("WHEN")
+    let help = "Color the text; auto: on a terminal, unless NO_COLOR is set";
+    option(alloc, "color", "WHEN", help)
         .value_parser(COLORINGS.as_slice())
         .default_value("auto")
-        .help("Color the text; auto: on a terminal, unless NO_COLOR is set")
 }
 
 fn variable_argument<'a>(alloc: Global) -> Arg<'a> {
-    Arg::new(alloc, "var")
-        .long("var")
-        .value_name("NAME=VALUE")
-        .action(ArgAction::Append)
-        .help("Set a variable, which goes before the environment's")
-}
-
-fn limit_argument<'a>(alloc: Global) -> Arg<'a> {
-    Arg::new(alloc, "limit")
-        .long("limit")
-        .value_name("N")
-        .value_parser(value_parser!(u64).range(1..))
-        .default_value("1000000")
-        .help("The room of each requirement; one that needs more is too complex")
+    let help = "Set a variable, which goes before the environment's";
+    option(alloc, "var", "NAME=VALUE", help).action(ArgAction::Append)
 }
 
 fn ignore_argument<'a>(alloc: Global) -> Arg<'a> {
-    Arg::new(alloc, "ignore")
-        .long("ignore")
-        .value_name("NAME")
-        .action(ArgAction::Append)
-        .value_parser(WARNINGS.as_slice())
-        .help("Do not report the warnings of this name")
+    option(
+        alloc,
+        "ignore",
+        "NAME",
+        "Do not report the warnings of this name",
+    )
+    .action(ArgAction::Append)
+    .value_parser(WARNINGS.as_slice())
 }
 
-fn group_argument<'a>(alloc: Global) -> Arg<'a> {
-    Arg::new(alloc, "group")
-        .long("group")
-        .value_name("NAME")
-        .help("List only this dependency group of a project, with the groups that it includes")
+/// Returns the option `--show-values`.
+pub fn shows_values_argument<'a>(alloc: Global) -> Arg<'a> {
+    flag(
+        alloc,
+        "show-values",
+        "Show what the values of variables went into",
+    )
 }
 
 static KINDS: [&str; 3] = ["requirements", "metadata", "project"];
@@ -157,40 +167,35 @@ pub fn with_files<'a>(
     command: Command<'a>,
     format: Arg<'a>,
 ) -> Result<Command<'a>, AllocError> {
+    let recursive = "Search folders, the current one if there is no FILE";
+    let limit = "The room of each requirement; one that needs more is too complex";
     command
         .arg(files_argument(alloc))?
         .arg(kind_argument(alloc))?
-        .arg(recursive_argument(alloc))?
+        .arg(flag(alloc, "recursive", recursive))?
         .arg(format)?
         .arg(color_argument(alloc))?
         .arg(variable_argument(alloc))?
-        .arg(limit_argument(alloc))
+        .arg(limit_argument(alloc, limit))
 }
 
 fn check_command<'a>(alloc: Global) -> Result<Command<'a>, AllocError> {
-    let strict = Arg::new(alloc, "strict")
-        .long("strict")
-        .action(ArgAction::SetTrue)
-        .help("Fail on warnings too");
     let check = Command::new(alloc, "check")
         .about("Reports the errors and warnings of requirements files, metadata and projects")
         .after_help("Example: pep508 check --strict requirements.txt");
     with_files(alloc, check, format_argument(alloc))?
-        .arg(strict)?
+        .arg(flag(alloc, "strict", "Fail on warnings too"))?
         .arg(ignore_argument(alloc))
 }
 
 fn list_command<'a>(alloc: Global) -> Result<Command<'a>, AllocError> {
-    let shows_values = Arg::new(alloc, "show-values")
-        .long("show-values")
-        .action(ArgAction::SetTrue)
-        .help("Show what the values of variables went into");
+    let group = "List only this dependency group of a project, with the groups that it includes";
     let list = Command::new(alloc, "list")
         .about("Lists the requirements of requirements files, metadata and projects")
         .after_help("Example: pep508 list --format json requirements.txt");
     with_files(alloc, list, format_argument(alloc))?
-        .arg(shows_values)?
-        .arg(group_argument(alloc))
+        .arg(shows_values_argument(alloc))?
+        .arg(option(alloc, "group", "NAME", group))
 }
 
 /// Returns the command line of the program.

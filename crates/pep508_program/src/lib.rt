@@ -22,8 +22,9 @@ mod variables;
 mod walks;
 
 pub use crate::arguments::{
-    Coloring, Request, Task, WARNINGS, color_argument, coloring_of, command_line, format_argument,
-    request_of, task_of, with_files,
+    Coloring, Request, Task, WARNINGS, color_argument, coloring_of, command_line, flag,
+    format_argument, limit_argument, option, request_of, shows_values_argument, task_of,
+    with_files,
 };
 pub use crate::commands::{
     execute, has_colors, out_of_memory, read_request, read_words, report_failure, wrong_use,

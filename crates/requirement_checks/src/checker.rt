@@ -148,7 +148,9 @@ pub struct Checker<'s> {
 
 impl<'s> Checker<'s> {
     /// Returns a checker that has seen no line.
-    pub fn new(alloc: Global, settings: CheckSettings<'s>) -> Checker<'s> {
+    pub fn new(alloc: Global, settings: CheckSettings<'s>) -> Checker<'s>
+        ensures { result.settings ≡ settings.entry }
+    {
         Checker {
             settings,
             interner: None,

@@ -1,8 +1,10 @@
 //! The command lines of `select` and `matrix`.
 
 use clap::{Arg, ArgAction, ArgMatches, Command};
-use marker_commands::{EnvironmentWords, environment_words, extra_argument, with_environment};
-use pep508_program::{format_argument, with_files};
+use marker_commands::{
+    EnvironmentWords, environment_words, extra_argument, implementation_argument, with_environment,
+};
+use pep508_program::{format_argument, option, shows_values_argument, with_files};
 use std::alloc::{AllocError, Global};
 
 /// The words of `select` about the environment.
@@ -46,15 +48,6 @@ pub enum SelectionCommand<'m> {
 
 static TABLE_FORMATS: [&str; 3] = ["text", "json", "csv"];
 
-static IMPLEMENTATIONS: [&str; 2] = ["cpython", "pypy"];
-
-fn shows_values_argument<'a>(alloc: Global) -> Arg<'a> {
-    Arg::new(alloc, "show-values")
-        .long("show-values")
-        .action(ArgAction::SetTrue)
-        .help("Show what the values of variables went into")
-}
-
 fn select_command<'a>(alloc: Global) -> Result<Command<'a>, AllocError> {
     let select = Command::new(alloc, "select")
         .about("Lists the requirements that apply in an environment")
@@ -66,42 +59,28 @@ fn select_command<'a>(alloc: Global) -> Result<Command<'a>, AllocError> {
 }
 
 fn matrix_command<'a>(alloc: Global) -> Result<Command<'a>, AllocError> {
-    let format = Arg::new(alloc, "format")
-        .long("format")
-        .value_name("FORMAT")
-        .value_parser(TABLE_FORMATS.as_slice())
-        .default_value("text")
-        .help("Write columns, an object of JSON on each line, or comma-separated values");
-    let pythons = Arg::new(alloc, "python")
-        .long("python")
-        .value_name("VERSIONS")
-        .help("Versions of Python, such as 3.9,3.10");
-    let platforms = Arg::new(alloc, "platform")
-        .long("platform")
-        .value_name("NAMES")
-        .help("Platforms: some of linux,macos,windows");
-    let value = Arg::new(alloc, "env")
-        .long("env")
-        .value_name("KEY=VALUE")
-        .action(ArgAction::Append)
-        .help("The value of a key in all environments");
-    let implementation = Arg::new(alloc, "implementation")
-        .long("implementation")
-        .value_name("NAME")
-        .value_parser(IMPLEMENTATIONS.as_slice())
-        .help("implementation_name and platform_python_implementation");
+    let pythons = "Versions of Python, such as 3.9,3.10";
+    let platforms = "Platforms: some of linux,macos,windows";
+    let value = "The value of a key in all environments";
     let matrix = Command::new(alloc, "matrix")
         .about("Tells in which of several environments requirements apply")
         .after_help(
             "Example: pep508 matrix --python 3.9,3.12 --platform linux,windows requirements.txt",
         );
-    with_files(alloc, matrix, format)?
-        .arg(pythons)?
-        .arg(platforms)?
-        .arg(value)?
-        .arg(implementation)?
+    with_files(alloc, matrix, table_format_argument(alloc))?
+        .arg(option(alloc, "python", "VERSIONS", pythons))?
+        .arg(option(alloc, "platform", "NAMES", platforms))?
+        .arg(option(alloc, "env", "KEY=VALUE", value).action(ArgAction::Append))?
+        .arg(implementation_argument(alloc))?
         .arg(extra_argument(alloc))?
         .arg(shows_values_argument(alloc))
+}
+
+fn table_format_argument<'a>(alloc: Global) -> Arg<'a> {
+    let help = "Write columns, an object of JSON on each line, or comma-separated values";
+    option(alloc, "format", "FORMAT", help)
+        .value_parser(TABLE_FORMATS.as_slice())
+        .default_value("text")
 }
 
 /// Adds the commands `select` and `matrix` to a command line.

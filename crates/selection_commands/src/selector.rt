@@ -75,6 +75,7 @@ impl<'s> Selector<'s> {
     ) -> Selector<'s>
         ensures target { result.target ≡ target }
         ensures settings { result.reader.settings ≡ settings.entry }
+        ensures checker { result.checker.settings ≡ settings.entry }
     {
         Selector {
             checker: Checker::new(alloc, settings),

@@ -42,6 +42,7 @@ impl<'s> Tabulator<'s> {
     pub fn new(alloc: Global, settings: CheckSettings<'s>, targets: Vec<Target>) -> Tabulator<'s>
         ensures targets { result.targets ≡ targets }
         ensures settings { result.reader.settings ≡ settings.entry }
+        ensures checker { result.checker.settings ≡ settings.entry }
         ensures empty { result.rows.items ≡ [] }
     {
         Tabulator {
