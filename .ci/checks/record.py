@@ -4,7 +4,8 @@ A file keeps, for each crate whose edits were tried, a sum of all that their out
 crate and its edits, all crates below it, the toolchain's line, and these scripts. Lines that are
 comments change nothing of it, and are no part of the sum. The prover sees only the statements of a
 crate below, so for its edits the bodies of functions there are no part either, nor private functions,
-functions that nothing names, and lemmas that nothing cites.
+functions that nothing names, and lemmas that nothing cites. Tests run what is compiled, so for their
+edits clauses, definitions and proofs are no part.
 """
 
 from __future__ import annotations
@@ -46,6 +47,48 @@ def code_of(file: Path) -> bytes:
         return text
     lines = [line for line in text.splitlines() if line.strip()]
     return b"\n".join(line for line in lines if not line.lstrip().startswith(begin.encode()))
+
+
+# How a line begins that is for the prover alone, and what stands between quotes in it.
+GHOST = re.compile(r" *(?:(?:pub )?(?:ensures|requires|ghost)\b|#\[tactic\b)")
+QUOTED = re.compile(r'"(?:[^"\\]|\\.)*"')
+
+
+def compiled(text: str) -> str:
+    """A laid-out text without what is for the prover alone. A clause goes on in the lines that are
+    set further in; one whose braces are not closed there stays."""
+    lines = text.splitlines()
+    kept: list[str] = []
+    at = 0
+    while at < len(lines):
+        end = at + 1
+        if GHOST.match(lines[at]):
+            inside = f"{set_in(lines[at])} "
+            while end < len(lines) and lines[end].startswith(inside):
+                end += 1
+            clause = QUOTED.sub("", "".join(lines[at:end]))
+            if clause.count("{") == clause.count("}"):
+                at = end
+                continue
+        kept.append(lines[at])
+        at += 1
+    return "\n".join(kept)
+
+
+def set_in(line: str) -> str:
+    """The spaces before a line's text."""
+    return line[: len(line) - len(line.lstrip(" "))]
+
+
+def is_compiled(file: Path) -> bool:
+    """Whether a file is compiled, and not for the prover alone."""
+    return file.suffix != ".antt"
+
+
+def run_of(file: Path) -> bytes:
+    """A file without what changes nothing of a run: comments, and what is for the prover alone."""
+    code = code_of(file)
+    return compiled(code.decode()).encode() if file.suffix in (".rt", ".txt") else code
 
 
 # How a function begins whose body no other crate sees: that of a `const fn` may be computed there.
@@ -200,17 +243,24 @@ class Record:
         statements of the crates below, and for tests, of all that they run."""
         kind, _, crate = task.partition("-")
         root = self.repository
-        below = root.below(crate)
-        whole = [*(below if kind != "refused" else []), crate, *(edit.crate for edit in tried)]
-        files = [file for name in dict.fromkeys(whole) for file in root.files(name)]
+        names = dict.fromkeys([*root.below(crate), crate, *(edit.crate for edit in tried)])
+        uses = "\n".join(f"{name}: {' '.join(root.uses[name])}" for name in names)
+        total = self.sum_of_proofs(crate, tried) if kind == "refused" else self.sum_run(names, tried)
+        return hashlib.sha256(f"{self.common}\n{uses}\n{total}".encode()).hexdigest()
+
+    def sum_of_proofs(self, crate: str, tried: list[Edit]) -> str:
+        """The sum of what the prover sees that checks a crate with these edits."""
+        files = [*self.repository.files(crate), *(edit.path for edit in tried)]
+        return f"{self.sum_below(crate, files)}\n{self.repository.sum_of(files, code_of)}"
+
+    def sum_run(self, crates: Iterable[str], tried: list[Edit]) -> str:
+        """The sum of what is compiled of crates with these edits, and run."""
+        root = self.repository
+        files = [file for name in crates for file in root.files(name) if is_compiled(file)]
         files += [edit.path for edit in tried]
-        seen = self.sum_below(crate, files) if kind == "refused" else ""
         if any(edit.fields.get("test") == STORED_RUN for edit in tried):
             files += [root.folder(PROGRAM) / name for name in ("stdin", "stdout")]
-        names = dict.fromkeys([*below, *whole])
-        uses = "\n".join(f"{name}: {' '.join(root.uses[name])}" for name in names)
-        total = f"{seen}\n{root.sum_of(files, code_of)}"
-        return hashlib.sha256(f"{self.common}\n{uses}\n{total}".encode()).hexdigest()
+        return root.sum_of(files, run_of)
 
     def stands(self, task: str, total: str) -> bool:
         return self.kept.get(task) == total

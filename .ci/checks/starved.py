@@ -49,7 +49,7 @@ LINKER = """\
 '%s' "$@" && cp program '%s'
 """
 # Seconds that a run may take.
-LIMIT = 60
+LIMIT = 600
 
 # In so many runs of a family the refused growth comes after all of its own.
 LEFT = 3
