@@ -12,7 +12,7 @@ use Rattle.marker_diagrams.specs.Residue.{IsSubtree, itself}
 use Rattle.marker_diagrams.proofs.IdLaws.{same_id_is, same_id_itself}
 use Rattle.marker_diagrams.proofs.NodeLaws.{Descends}
 use Rattle.marker_diagrams.proofs.ResidueLaws.{subtree_both, subtree_kept}
-use Rattle.marker_nodes.specs.Node.{Node, markers}
+use Rattle.marker_nodes.specs.Node.{markers}
 use Rattle.marker_conjunctions.specs.Contents.{Contents, IsKept, IsWellKept, same_pair}
 use Rattle.marker_conjunctions.specs.Count.{Spends, unknown}
 
@@ -28,10 +28,6 @@ pub descends_of : (c : Contents) → IsWellKept c → Descends markers c.nodes
 descends_of c w i n f = (w.nodes.node i n f).below
 
 -- ---- what is spent
--- only nodes are added afterwards
-pub spends_placed : (c d : Contents) (last : List Node) (size : ℕ) (a b : NodeId) → Spends c d size a b → Spends c record { nodes = last; memo = d.memo; expansions = d.expansions } size a b
-spends_placed c d last size a b s = record { above = s.above; spent = s.spent; rises = s.rises }
-
 -- a call on subtrees comes after
 pub spends_both : (c d e : Contents) (size less : ℕ) (a b x y : NodeId) → IsKept c d → Descends markers c.nodes → IsHeld c.nodes x → IsHeld c.nodes y →
     IsSubtree markers c.nodes a x → IsSubtree markers c.nodes b y → less ≤ size → Spends c d size a b → Spends d e less x y → Spends c e size a b

@@ -17,6 +17,7 @@ use Rattle.marker_nodes.specs.And.{IsAnd}
 use Rattle.marker_nodes.specs.Table.{oldest}
 use Rattle.marker_nodes.proofs.OldestLaws.{oldest_store, oldest_kept, oldest_undoes}
 use Rattle.marker_conjunctions.specs.Contents.{Contents, IsKept, HoldsTheSame, IsWellKept, StaysFirst, released, same_pair}
+use Rattle.marker_conjunctions.specs.Step.{StaysWellKept}
 use Rattle.marker_conjunctions.specs.Reach.{Memo, first_within, reach, reach_from, reaches_from, top}
 use Rattle.marker_conjunctions.proofs.CountLaws.{same_pair_is}
 
@@ -132,6 +133,12 @@ kept_itself c = record { nodes = keeps_itself markers c.nodes; memo = stays_itse
 
 pub kept_both : (c d e : Contents) → IsKept c d → IsKept d e → IsKept c e
 kept_both c d e k l = record { nodes = keeps_both markers c.nodes d.nodes e.nodes k.nodes l.nodes; memo = stays_both c.memo d.memo e.memo k.memo l.memo }
+
+pub well_itself : (c : Contents) → IsWellKept c → StaysWellKept c c
+well_itself c w = record { rules = w; kept = kept_itself c; remembers = λ p h. h }
+
+pub well_both : (c d e : Contents) → StaysWellKept c d → StaysWellKept d e → StaysWellKept c e
+well_both c d e k l = record { rules = l.rules; kept = kept_both c d e k.kept l.kept; remembers = λ p h. l.remembers p (k.remembers p h) }
 
 -- nothing but nodes came
 pub kept_nodes : (c d : Contents) → Keeps markers c.nodes d.nodes → d.memo ≡ c.memo → IsKept c d

@@ -60,6 +60,12 @@ pub record IsWellKept (c : Contents) : Type 0 where
       → diagram.IsHeld c.nodes a × (diagram.IsHeld c.nodes b × IsAnd c.nodes a b t)
   pub within : reach c.memo ≤ length c.nodes
 
+-- the contents are well kept, and have both ids
+pub record HoldsBoth (c : Contents) (a b : NodeId) : Type 0 where
+  pub rules : IsWellKept c
+  pub left : diagram.IsHeld c.nodes a
+  pub right : diagram.IsHeld c.nodes b
+
 -- the id is the conjunction of two in all nodes that have them, if what is known is well kept there
 abbrev pub IsAndBy : Conjunctions → NodeId → NodeId → NodeId → Type 0
 IsAndBy conjunctions a b t = (nodes : List Node) → IsWellKept (contents nodes conjunctions)

@@ -9,7 +9,7 @@ use Rattle.marker_diagrams.specs.Residue.{IsSubtree}
 use Rattle.marker_nodes.specs.Node.{Node, markers}
 use Rattle.marker_conjunctions.specs.declared.conjunctions.Conjunctions.{Conjunctions}
 use Rattle.marker_conjunctions.specs.Contents.{Contents, contents, same_pair}
-use Rattle.marker_conjunctions.specs.Step.{IsKnown}
+use Rattle.marker_conjunctions.specs.Step.{IsKnown, IsSettled}
 
 -- how many of the pairs have no known conjunction
 abbrev pub unknown : List (NodeId × NodeId) → List ((NodeId × NodeId) × NodeId) → ℕ
@@ -42,6 +42,11 @@ IsCounted old new t =
 abbrev pub Rises : ℕ → ℕ → Type 0
 Rises old new = old < 18446744073709551615 → old < new
 
+-- the conjunction of the pair became known and was counted
+pub record AddsPair (old new : Conjunctions) (p : NodeId × NodeId) : Type 0 where
+  pub known : IsKnown new.memo.entries p
+  pub counted : Rises old.expansions new.expansions
+
 -- nodes, and the conjunctions of their ids
 abbrev pub State : Type 0
 State = List Node × Conjunctions
@@ -60,6 +65,6 @@ IsCountedIn old new t = IsCounted (contents old.0 old.1) (contents new.0 new.1) 
 abbrev pub IsTold : {A E : Type 0} → Result A E → State → State → Type 0
 IsTold result old new = IsOk result × (contents new.0 new.1 ≡ contents old.0 old.1)
 
--- so it is if the conjunction of the pair was known
-abbrev pub IsToldIfKnown : {A E : Type 0} → Result A E → State → State → NodeId × NodeId → Type 0
-IsToldIfKnown result old new p = IsKnown old.1.memo.entries p → IsTold result old new
+-- so it is if the conjunction of the pair was known or needs no node
+abbrev pub IsToldIfSettled : {A E : Type 0} → Result A E → State → State → NodeId × NodeId → Type 0
+IsToldIfSettled result old new p = IsSettled old.1.memo.entries p → IsTold result old new

@@ -5,12 +5,13 @@ use Rattle.marker_diagrams.specs.declared.node_id.NodeId.{NodeId}
 use Rattle.marker_diagrams.specs.Id.{place_of}
 use Rattle.marker_diagrams.specs.Diagram.{IsHeld}
 use Rattle.marker_diagrams.specs.Residue.{IsSubtree}
-use Rattle.marker_nodes.specs.And.{IsShort}
+use Rattle.marker_nodes.specs.declared.choice.Choice.{Choice}
+use Rattle.marker_nodes.specs.And.{IsAnd, IsShort}
 use Rattle.marker_nodes.specs.Node.{Node, markers}
 use Rattle.marker_conjunctions.specs.declared.conjunctions.Step.{Step}
 use Rattle.marker_conjunctions.specs.declared.conjunctions.Step.TheVariants.{Made, Open}
 use Rattle.marker_conjunctions.specs.Branch.{Joins}
-use Rattle.marker_conjunctions.specs.Contents.{same_pair}
+use Rattle.marker_conjunctions.specs.Contents.{Contents, IsKept, IsWellKept, same_pair}
 pub use Rattle.marker_conjunctions.specs.Reach.{Memo}
 
 -- the conjunction of the pair was computed
@@ -25,11 +26,28 @@ IsSettled memo p = IsShort p.0 p.1 ⊎ IsKnown memo p
 abbrev pub Remembers : Memo → Memo → Type 0
 Remembers old new = (p : NodeId × NodeId) → IsKnown old p → IsKnown new p
 
+-- the new contents are well kept, and have the nodes and the conjunctions of the old ones
+pub record StaysWellKept (old new : Contents) : Type 0 where
+  pub rules : IsWellKept new
+  pub kept : IsKept old new
+  pub remembers : Remembers old.memo new.memo
+
+-- the id is the conjunction of two, which is known or needs no node
+pub record IsSettledAnd (c : Contents) (a b t : NodeId) : Type 0 where
+  pub and : IsAnd c.nodes a b t
+  pub settled : IsSettled c.memo (a, b)
+
 -- the conjunction is still to be computed, of two ids of nodes
 pub record IsOpen (memo : Memo) (p : NodeId × NodeId) : Type 0 where
   pub unsettled : ¬ IsSettled memo p
   pub left_node : 0 < place_of p.0
   pub right_node : 0 < place_of p.1
+
+-- so it is, and it is this choice among the conjunctions of their children
+pub record IsDue (nodes : List Node) (memo : Memo) (p : NodeId × NodeId) (choice : Choice)
+    : Type 0 where
+  pub unsettled : IsOpen memo p
+  pub joins : Joins nodes p.0 p.1 choice
 
 -- the pair is of a subtree of a and one of b, which the nodes have
 pub record IsPair (nodes : List Node) (a b : NodeId) (p : NodeId × NodeId) : Type 0 where

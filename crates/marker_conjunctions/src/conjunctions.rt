@@ -45,14 +45,14 @@ impl Conjunctions {
     ghost use Rattle.std.specs.Prelude.{[], IfNone, IfOk, IfSome, OnOk, length, slice_index, take};
     ghost use Rattle.std.specs.HashMap.{hasher_of};
     ghost use Rattle.node_hasher.specs.Hash.{keyed};
-    ghost use Rattle.marker_diagrams.specs.Diagram.{IsHeld, Keeps};
-    ghost use Rattle.marker_nodes.specs.And.{IsAnd, IsShort};
+    ghost use Rattle.marker_diagrams.specs.Diagram.{Keeps};
+    ghost use Rattle.marker_nodes.specs.And.{IsAnd};
     ghost use Rattle.marker_nodes.specs.Node.{markers};
     ghost use Rattle.marker_conjunctions.specs.Branch.{Joins};
-    ghost use Rattle.marker_conjunctions.specs.Contents.{contents, nothing, IsAndBy, IsKept, IsWellKept};
-    ghost use Rattle.marker_conjunctions.specs.Count.{IsCountedIn, IsTold, IsToldIfKnown, Rises, SpendsWithin};
+    ghost use Rattle.marker_conjunctions.specs.Contents.{contents, nothing, HoldsBoth, IsAndBy, IsWellKept};
+    ghost use Rattle.marker_conjunctions.specs.Count.{AddsPair, IsCountedIn, IsToldIfSettled, SpendsWithin};
     ghost use Rattle.marker_conjunctions.specs.Reach.{first_within, reach};
-    ghost use Rattle.marker_conjunctions.specs.Step.{IsKnown, IsOpen, IsPair, IsSettled, IsStep, Remembers, TakesPair, Waits, WaitsFor};
+    ghost use Rattle.marker_conjunctions.specs.Step.{IsDue, IsOpen, IsPair, IsSettled, IsSettledAnd, IsStep, StaysWellKept, TakesPair, Waits, WaitsFor};
 
     /// Returns the state without any conjunction. It hashes by the fixed key.
     pub fn new(alloc: Global) -> Self
@@ -124,18 +124,12 @@ impl Conjunctions {
     /// Pairs that wait for those of their children are in a list, so that depth costs memory and no
     /// stack.
     pub fn and(&mut self, nodes: &mut NodeTable, a: NodeId, b: NodeId) -> Result<NodeId, AllocError>
-        requires rules { IsWellKept (contents nodes.old self.old) }
-        requires a { IsHeld nodes.old a }
-        requires b { IsHeld nodes.old b }
-        ensures rules { IsWellKept (contents nodes.new self.new) }
-        ensures kept { IsKept (contents nodes.old self.old) (contents nodes.new self.new) }
-        ensures and { IfOk result (IsAnd nodes.new a b) }
+        requires held { HoldsBoth (contents nodes.old self.old) a b }
+        ensures kept { StaysWellKept (contents nodes.old self.old) (contents nodes.new self.new) }
+        ensures and { IfOk result (IsSettledAnd (contents nodes.new self.new) a b) }
         ensures spends { SpendsWithin (nodes.old, self.old) (nodes.new, self.new) a b }
         ensures counted { IfOk result (IsCountedIn (nodes.old, self.old) (nodes.new, self.new)) }
-        ensures short { IsShort a b → IsTold result (nodes.old, self.old) (nodes.new, self.new) }
-        ensures known { IsToldIfKnown result (nodes.old, self.old) (nodes.new, self.new) (a, b) }
-        ensures settled { OnOk result (IsSettled self.new.memo.entries (a, b)) }
-        ensures remembers { Remembers self.old.memo.entries self.new.memo.entries }
+        ensures told { IsToldIfSettled result (nodes.old, self.old) (nodes.new, self.new) (a, b) }
     {
         if let Some(known) = self.look_up(a, b) {
             return Ok(known);
@@ -193,13 +187,10 @@ impl Conjunctions {
         pending: &mut Vec<(NodeId, NodeId)>,
         first: (NodeId, NodeId),
     ) -> Result<((NodeId, NodeId), Choice), AllocError>
-        requires rules { IsWellKept (contents nodes.now self.now) }
-        requires left { IsHeld nodes.now first.0 }
-        requires right { IsHeld nodes.now first.1 }
+        requires held { HoldsBoth (contents nodes.now self.now) first.0 first.1 }
         requires unsettled { IsOpen self.now.memo.entries first }
-        ensures unsettled { IfOk result (λ r. IsOpen self.now.memo.entries r.0) }
         ensures pair { IfOk result (λ r. IsPair nodes.now first.0 first.1 r.0) }
-        ensures joins { IfOk result (λ r. Joins nodes.now r.0.0 r.0.1 r.1) }
+        ensures due { IfOk result (λ r. IsDue nodes.now self.now.memo.entries r.0 r.1) }
         ensures waits { OnOk result (WaitsFor nodes.now first pending.old.items pending.new.items) }
     {
         let mut pair = first;
@@ -221,9 +212,7 @@ impl Conjunctions {
         a: NodeId,
         b: NodeId,
     ) -> Result<Step, AllocError>
-        requires rules { IsWellKept (contents nodes.now self.now) }
-        requires a { IsHeld nodes.now a }
-        requires b { IsHeld nodes.now b }
+        requires held { HoldsBoth (contents nodes.now self.now) a b }
         requires unsettled { IsOpen self.now.memo.entries (a, b) }
         ensures step { IfOk result (IsStep nodes.now self.now.memo.entries a b) }
         ensures waits { OnOk result (Waits nodes.now a b pending.old.items pending.new.items) }
@@ -260,18 +249,12 @@ impl Conjunctions {
         b: NodeId,
         choice: Choice,
     ) -> Result<NodeId, AllocError>
-        requires rules { IsWellKept (contents nodes.old self.old) }
-        requires a { IsHeld nodes.old a }
-        requires b { IsHeld nodes.old b }
-        requires unsettled { IsOpen self.old.memo.entries (a, b) }
-        requires joins { Joins nodes.old a b choice }
+        requires held { HoldsBoth (contents nodes.old self.old) a b }
+        requires due { IsDue nodes.old self.old.memo.entries (a, b) choice }
         ensures and { IfOk result (IsAnd nodes.new a b) }
-        ensures rules { IsWellKept (contents nodes.new self.new) }
-        ensures kept { IsKept (contents nodes.old self.old) (contents nodes.new self.new) }
+        ensures kept { StaysWellKept (contents nodes.old self.old) (contents nodes.new self.new) }
         ensures spends { SpendsWithin (nodes.old, self.old) (nodes.new, self.new) a b }
-        ensures counted { OnOk result (Rises self.old.expansions self.new.expansions) }
-        ensures known { OnOk result (IsKnown self.new.memo.entries (a, b)) }
-        ensures remembers { Remembers self.old.memo.entries self.new.memo.entries }
+        ensures known { OnOk result (AddsPair self.old self.new (a, b)) }
     {
         let id = self.place(nodes, a, b, choice)?;
         let before = self.reach(self.known());
@@ -291,9 +274,7 @@ impl Conjunctions {
         b: NodeId,
         choice: Choice,
     ) -> Result<NodeId, AllocError>
-        requires rules { IsWellKept (contents nodes.old self.now) }
-        requires a { IsHeld nodes.old a }
-        requires b { IsHeld nodes.old b }
+        requires held { HoldsBoth (contents nodes.old self.now) a b }
         requires joins { Joins nodes.old a b choice }
         ensures rules { IsWellKept (contents nodes.new self.now) }
         ensures kept { Keeps markers nodes.old nodes.new }

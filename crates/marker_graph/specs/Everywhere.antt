@@ -1,6 +1,6 @@
 -- What is true of every interner that keeps the rules, of the markers that it holds, and as it
 -- grows.
-use Rattle.std.specs.Prelude.{◌≡◌, ◌<◌, ◌≤◌, ◌+◌, ◌*◌, Bool, false, List, [], ◌∷◌, Some, length}
+use Rattle.std.specs.Prelude.{◌≡◌, ◌<◌, ◌≤◌, ◌+◌, ◌*◌, Bool, false, List, [], ◌∷◌, OnOk, Result, Some, length}
 use Rattle.std.specs.Ordering.{is_lt}
 use Rattle.marker_environment.specs.Valuation.{Valuation}
 use Rattle.marker_diagrams.specs.Diagram.{IsStore}
@@ -66,3 +66,11 @@ GrowsByPairs old new t u = (xs ys : List MarkerTree) → HasSubtrees old t xs �
 abbrev pub CountsNew : Contents → Contents → MarkerTree → Type 0
 CountsNew old new t = (IsHeld old t → ⊥) → old.expansions < 18446744073709551615
     → old.expansions < new.expansions
+
+-- the expansions for a marker that joins two others: at most one for each pair of subtrees, none
+-- uncounted, and one if the marker is new
+pub record CountsJoin {T E : Type 0} (result : Result T E) (old new : Contents)
+    (a b joined : MarkerTree) : Type 0 where
+  pub bound : GrowsByPairs old new a b
+  pub rises : old.expansions ≤ new.expansions
+  pub raises : OnOk result (CountsNew old new joined)

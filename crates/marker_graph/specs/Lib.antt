@@ -10,7 +10,7 @@ pub mod ContentsTree
 pub mod Everywhere
 pub mod Laws
 -- what the crates below say of truths over valuations
-pub use Rattle.marker_comparisons.specs.Expression
+pub use Rattle.marker_simplifications.specs.Expression
 pub use Rattle.marker_walks.specs.Possible
 pub use Rattle.marker_simplifications.specs.Python
 pub mod Mark

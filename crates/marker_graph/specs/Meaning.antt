@@ -1,10 +1,17 @@
 -- What markers mean, as facts of each valuation.
 use Rattle.std.specs.Prelude.{◌≡◌, Bool, true, false, ◌&&◌, ◌||◌}
 use Rattle.marker_environment.specs.Valuation.{Valuation}
-use Rattle.marker_comparisons.specs.declared.value_set.ValueSet.{ValueSet}
-use Rattle.marker_comparisons.specs.ValueSet.{contains}
+use Rattle.marker_parts.specs.Expression.{Test, Overflows}
+use Rattle.marker_simplifications.specs.declared.value_set.ValueSet.{ValueSet}
+use Rattle.marker_simplifications.specs.Expression.{IsInvalid}
+use Rattle.marker_simplifications.specs.ValueSet.{contains}
 use Rattle.marker_graph.specs.declared.tree.MarkerTree.{MarkerTree}
 use Rattle.marker_graph.specs.Contents.{Contents, truth}
+
+-- the test can be a marker: no bound would be above 2^64 - 1, and `~=` compares no texts
+pub record CanBeMade (test : Test) : Type 0 where
+  pub no_overflow : ¬ Overflows test
+  pub not_invalid : ¬ IsInvalid test
 
 -- the marker is true exactly where the test is
 abbrev pub IsTrueWhere : Contents → (Valuation → Bool) → MarkerTree → Type 0

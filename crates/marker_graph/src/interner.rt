@@ -1,31 +1,32 @@
 //! Interners, which store the nodes of markers.
 
-ghost use Rattle.std.specs.Prelude.{◌≡◌, ◌↔◌, ◌<◌, ◌≤◌, ◌+◌, false, IfErr, IfOk, IsOk, IsTrue, OnOk};
+ghost use Rattle.std.specs.Prelude.{◌≡◌, ◌↔◌, ◌<◌, ◌≤◌, ◌+◌, false, IfErr, IfOk, IsTrue, OnOk};
 ghost use Rattle.std.specs.Fn.{FnReturnsAt};
 ghost use Rattle.marker_parts.specs.Expression.{Overflows, holds, test_of};
 ghost use Rattle.marker_diagrams.specs.Diagram as diagram;
 ghost use Rattle.marker_diagrams.specs.Diagram.{IsStore};
 ghost use Rattle.marker_diagrams.specs.Id.{place_of};
-ghost use Rattle.marker_nodes.specs.And.{IsAnd, IsShort};
+ghost use Rattle.marker_nodes.specs.And.{IsAnd};
 ghost use Rattle.marker_nodes.specs.Variable.{answer};
 ghost use Rattle.marker_nodes.specs.Node.{markers};
 ghost use Rattle.marker_nodes.specs.Table.{pieces_of};
 ghost use Rattle.marker_conjunctions.specs.Contents.{nothing, IsKept, IsWellKept};
 ghost use Rattle.marker_conjunctions.specs.Count.{IsCounted, Spends};
-ghost use Rattle.marker_conjunctions.specs.Step.{IsKnown, IsSettled, Remembers};
-ghost use Rattle.marker_comparisons.specs.Expression.{IsInvalid, IsTruthOf, IsUnmade};
+ghost use Rattle.marker_simplifications.specs.Expression.{IsInvalid, IsTruthOf, IsUnmade};
 ghost use Rattle.marker_simplifications.specs.Simplified.{IsGranted};
 ghost use Rattle.marker_graph.specs.Contents.{HasOnlyNodes, IsHeld, Separated};
 ghost use Rattle.marker_graph.specs.Mark.{HoldsUpTo, IsMarkOf, Restores, released};
 ghost use Rattle.marker_graph.specs.Ranged.{HasPoint, IsAssumedIn, IsIdOfRange};
+ghost use Rattle.marker_graph.specs.Tree.{ComputesOnce};
 
 use crate::mark::Mark;
 use crate::tree::MarkerTree;
-use marker_comparisons::{InvalidExpression, asks, expression};
 use marker_conjunctions::Conjunctions;
 use marker_nodes::{NodeId, NodeTable, TruthVariable};
 use marker_parts::MarkerExpression;
-use marker_simplifications::{assume_python_range, grant_extras, python_range};
+use marker_simplifications::{
+    InvalidExpression, asks, assume_python_range, expression, grant_extras, python_range,
+};
 use marker_texts::KnownTexts;
 use pep440_version::Version;
 use pep508_names::ExtraName;
@@ -207,16 +208,12 @@ impl Interner {
 impl Interner {
     // The conjunction of two ids.
     pub(crate) fn and(&mut self, a: NodeId, b: NodeId) -> Result<NodeId, AllocError>
-        requires a { diagram.IsHeld self.old.nodes a }
-        requires b { diagram.IsHeld self.old.nodes b }
+        requires { diagram.IsHeld self.old.nodes a × diagram.IsHeld self.old.nodes b }
         ensures kept { IsKept self.old self.new }
         ensures and { IfOk result (IsAnd self.new.nodes a b) }
         ensures spends { Spends self.old self.new (place_of a + place_of b + 1) a b }
         ensures counted { IfOk result (IsCounted self.old self.new) }
-        ensures short { IsShort a b → IsOk result × (self.new ≡ self.old) }
-        ensures known { IsKnown self.old.memo (a, b) → IsOk result × (self.new ≡ self.old) }
-        ensures settled { OnOk result (IsSettled self.new.memo (a, b)) }
-        ensures remembers { Remembers self.old.memo self.new.memo }
+        ensures known { ComputesOnce result self.old self.new a b a b }
     {
         self.conjunctions.and(&mut self.nodes, a, b)
     }

@@ -1,15 +1,15 @@
 //! Sets of the values of one variable as markers.
 
 ghost use Rattle.std.specs.Prelude.{IfOk, IfSome};
-ghost use Rattle.marker_comparisons.specs.Expression.{IsTruthOf};
-ghost use Rattle.marker_comparisons.specs.ValueSet.{contains};
+ghost use Rattle.marker_simplifications.specs.Expression.{IsTruthOf};
+ghost use Rattle.marker_simplifications.specs.ValueSet.{contains};
 ghost use Rattle.marker_graph.specs.Contents.{HasOnlyNodes, IsHeld, IsKept};
 ghost use Rattle.marker_graph.specs.Meaning.{IsSetOf, IsTrueWhere};
 
 use crate::interner::Interner;
 use crate::tree::MarkerTree;
-use marker_comparisons::ValueSet;
 use marker_nodes::NodeId;
+use marker_simplifications::ValueSet;
 use std::alloc::AllocError;
 
 impl Interner {

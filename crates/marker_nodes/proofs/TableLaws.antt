@@ -131,10 +131,6 @@ module _ (keys nodes new : List Node) (n : Node) (w : IsStore markers (reverse k
     pub insert_added : IsHeld nodes (id_of index false) → reverse new ≡ nodes
     insert_added h = added_by (list_any (node_eq n) keys) refl new_is (let l : length (reverse keys) ≡ length keys = length-reverse keys in let m : length (reverse keys) ≡ length nodes = ap length view_is in omega arith)
 
--- a table keeps the rules
-pub view_store : (keys nodes : List Node) → IsStore markers (reverse keys) → reverse keys ≡ nodes → IsStore markers nodes
-view_store keys nodes w view_is = subst (IsStore markers) view_is w
-
 signed_self : (s : Bool) → signed s s ≡ false
 signed_self true = refl
 signed_self false = refl

@@ -6,14 +6,11 @@ use Rattle.std.specs.Option.{option_copied}
 use Rattle.marker_diagrams.specs.declared.node_id.NodeId.{NodeId}
 use Rattle.marker_diagrams.specs.Id.{place_of}
 use Rattle.marker_diagrams.specs.Diagram.{node_at, node_of}
-use Rattle.marker_diagrams.proofs.NodeLaws.{same_some, none_some, node_bounds, node_kept}
+use Rattle.marker_diagrams.proofs.NodeLaws.{same_some, node_bounds, node_kept}
 use Rattle.marker_diagrams.proofs.KeyLaws.{newest}
 use Rattle.marker_nodes.specs.Branches.{has_trimmed_cuts}
 use Rattle.marker_nodes.specs.Node.{Node}
 use Rattle.marker_nodes.specs.Table.{AreTrimmed}
-
-pub none_trimmed : AreTrimmed []
-none_trimmed i n e = none_some n e
 
 -- one node more, or less
 module _ (n : Node) (older : List Node) where

@@ -1,6 +1,7 @@
--- How many pieces the nodes of a table have, and how many they may have.
-use Rattle.std.specs.Prelude.{◌≡◌, ℕ, ◌+◌, ◌-◌, ◌≤◌, ◌<◌, ◌^◌, true, List, [], ◌∷◌, Some, drop, length}
-use Rattle.marker_diagrams.specs.Diagram.{IsStore, node_at}
+-- How a table of nodes grows: which nodes it has, and how many pieces they have and may have.
+use Rattle.std.specs.Prelude.{◌≡◌, ℕ, ◌+◌, ◌-◌, ◌≤◌, ◌<◌, ◌^◌, true, List, [], ◌∷◌, MatchResult, Result, Some, drop, length}
+use Rattle.marker_diagrams.specs.declared.node_id.NodeId.{NodeId}
+use Rattle.marker_diagrams.specs.Diagram.{IsHeld, IsStore, Keeps, node_at}
 use Rattle.marker_nodes.specs.Branches.{count, has_trimmed_cuts}
 use Rattle.marker_nodes.specs.Node.{Node, markers}
 
@@ -28,3 +29,14 @@ pub record HasRoom (nodes : List Node) (pieces room : ℕ) : Type 0 where
 -- are no more
 abbrev pub oldest : ℕ → List Node → List Node
 oldest count nodes = drop (length nodes - count) nodes
+
+-- the new list has the nodes of the old one, with their meanings, and follows the rules of diagrams
+-- if that does
+pub record GrowsByRules (old new : List Node) : Type 0 where
+  pub nodes : Keeps markers old new
+  pub rules : IsStore markers old → IsStore markers new
+
+-- nothing is added if there is an error, or if the list has the resulting id already
+abbrev pub AddsOnly : {E : Type 0} → Result NodeId E → List Node → List Node → Type 0
+AddsOnly result old new =
+    MatchResult result (λ id. IsHeld old id → new ≡ old) (λ e. new ≡ old)

@@ -1,13 +1,13 @@
 //! A table of nodes.
 
-ghost use Rattle.std.specs.Prelude.{◌≡◌, ◌↔◌, ◌<◌, ◌≤◌, [], false, true, length, IfOk, IfSome, IsTrue, OnErr};
+ghost use Rattle.std.specs.Prelude.{◌≡◌, ◌↔◌, ◌<◌, ◌≤◌, [], false, true, length, IfOk, IfSome, IsTrue};
 ghost use Rattle.std.specs.Option.{option_copied};
 ghost use Rattle.marker_diagrams.specs.Diagram.{node_of, IsHeld, truth, Separated, AreChildren, IsReady, IsStore, Keeps, IsChoice};
 ghost use Rattle.marker_nodes.specs.Branches.{count, has_trimmed_cuts, value_at, variable};
 ghost use Rattle.marker_nodes.specs.Choice.{asked, chosen};
 ghost use Rattle.marker_nodes.specs.Listed.{HasChildrenFor, IsPlacedAs};
 ghost use Rattle.marker_nodes.specs.Node.{is_joined, lowest, markers};
-ghost use Rattle.marker_nodes.specs.Table.{oldest, pieces_of};
+ghost use Rattle.marker_nodes.specs.Table.{oldest, pieces_of, AddsOnly, GrowsByRules};
 
 use crate::choice::Choice;
 use crate::node::{Branches, Children, Node};
@@ -183,10 +183,8 @@ impl NodeTable {
         requires children { HasChildrenFor self.old branches children.items }
         requires trimmed { has_trimmed_cuts branches ≡ true }
         ensures id { IfOk result (IsPlacedAs self.new branches children.items) }
-        ensures rules { IsStore markers self.old → IsStore markers self.new }
-        ensures added { IfOk result (λ id. IsHeld self.old id → self.new ≡ self.old) }
-        ensures refused { OnErr result (self.new ≡ self.old) }
-        ensures kept { Keeps markers self.old self.new }
+        ensures kept { GrowsByRules self.old self.new }
+        ensures added { AddsOnly result self.old self.new }
     {
         let choice = branches.choice(children)?;
         self.place_choice(choice)
@@ -197,10 +195,8 @@ impl NodeTable {
     pub fn place_choice(&mut self, choice: Choice) -> Result<NodeId, AllocError>
         requires { AreChildren markers self.old (asked choice) (chosen choice) }
         ensures id { IfOk result (IsChoice markers self.new (asked choice) (chosen choice)) }
-        ensures rules { IsStore markers self.old → IsStore markers self.new }
-        ensures added { IfOk result (λ id. IsHeld self.old id → self.new ≡ self.old) }
-        ensures refused { OnErr result (self.new ≡ self.old) }
-        ensures kept { Keeps markers self.old self.new }
+        ensures kept { GrowsByRules self.old self.new }
+        ensures added { AddsOnly result self.old self.new }
     {
         let Choice { first, node } = choice;
         if node.is_constant() {
@@ -215,10 +211,8 @@ impl NodeTable {
         requires children { AreChildren markers self.old (variable node) (value_at node) }
         requires trimmed { has_trimmed_cuts node ≡ true }
         ensures id { IfOk result (IsChoice markers self.new (variable node) (value_at node)) }
-        ensures rules { IsStore markers self.old → IsStore markers self.new }
-        ensures added { IfOk result (λ id. IsHeld self.old id → self.new ≡ self.old) }
-        ensures refused { OnErr result (self.new ≡ self.old) }
-        ensures kept { Keeps markers self.old self.new }
+        ensures kept { GrowsByRules self.old self.new }
+        ensures added { AddsOnly result self.old self.new }
     {
         let children = node.values(self.alloc)?;
         self.place(node, children)
@@ -231,10 +225,8 @@ impl NodeTable {
         requires joined { is_joined node ≡ true }
         requires trimmed { has_trimmed_cuts node ≡ true }
         ensures id { IfOk result (IsChoice markers self.new (variable node) (value_at node)) }
-        ensures rules { IsStore markers self.old → IsStore markers self.new }
-        ensures added { IfOk result (λ id. IsHeld self.old id → self.new ≡ self.old) }
-        ensures refused { OnErr result (self.new ≡ self.old) }
-        ensures kept { Keeps markers self.old self.new }
+        ensures kept { GrowsByRules self.old self.new }
+        ensures added { AddsOnly result self.old self.new }
     {
         if first_child(&node).is_complement() || node.is_constant() {
             return self.place_node(node);
@@ -259,9 +251,8 @@ impl NodeTable {
         requires trimmed { has_trimmed_cuts node ≡ true }
         ensures id { IfOk result (IsChoice markers self.new (variable node) (value_at node)) }
         ensures rules { IsStore markers self.new }
-        ensures added { IfOk result (λ id. IsHeld self.old id → self.new ≡ self.old) }
-        ensures refused { OnErr result (self.new ≡ self.old) }
         ensures kept { Keeps markers self.old self.new }
+        ensures added { AddsOnly result self.old self.new }
     {
         let pieces = node.piece_count();
         if self.room - self.pieces < pieces {

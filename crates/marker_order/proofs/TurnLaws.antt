@@ -161,12 +161,6 @@ version_uppers (Excluded v) Unbounded = refl
 version_uppers (Excluded v) (Included w) = then_equal (point_cmp version_cmp (at v) (above w))
 version_uppers (Excluded v) (Excluded w) = then_equal (point_cmp version_cmp (at v) (at w))
 
-string_lower : Bound (String Global) → Mark
-string_lower b = text_lower (bound_map string_bytes b)
-
-string_upper : Bound (String Global) → Mark
-string_upper b = text_upper (bound_map string_bytes b)
-
 string_lowers : (l m : Bound (String Global)) → mark_cmp (text_lower (bound_map string_bytes l)) (text_lower (bound_map string_bytes m)) ≡ lower_cmp string_cmp l m
 string_lowers Unbounded Unbounded = refl
 string_lowers Unbounded (Included w) = refl

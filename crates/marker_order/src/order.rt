@@ -4,7 +4,7 @@ ghost use Rattle.std.specs.Prelude.{◌≡◌, ◌+◌, ◌<◌, ◌≤◌, ◌^
 ghost use Rattle.std.specs.declared.cmp.Ordering.TheVariants.{Equal};
 ghost use Rattle.marker_diagrams.specs.Diagram.{IsStore};
 ghost use Rattle.marker_nodes.specs.Node.{markers};
-ghost use Rattle.marker_order.specs.Agreement.{AgreeAt, AgreeUpTo, AreEqual, IsEqualWith, IsOrderOf, RemainEqualWith};
+ghost use Rattle.marker_order.specs.Agreement.{AgreeAt, AgreeUpTo, AreKnown, AreStores, IsEqualWith, IsOrderOf, RemainEqualWith};
 ghost use Rattle.marker_order.specs.Order.{diagram_cmp};
 
 use crate::turns::{Turn, side_by_side};
@@ -73,8 +73,7 @@ fn order_by<const N: usize>(
     other: NodeId,
     looks: Option<usize>,
 ) -> Option<Ordering>
-    requires rules { IsStore markers table.now }
-    requires other_rules { IsStore markers other_table.now }
+    requires rules { AreStores table.now other_table.now }
     requires places { 2 ≤ N }
     requires size { N ≤ 65536 }
     ensures order { IfSome result (IsOrderOf (table.now, id) (other_table.now, other)) }
@@ -96,16 +95,12 @@ fn order_from<const N: usize>(
     other: NodeId,
     memory: &mut Memory<N>,
 ) -> Option<Ordering>
-    requires rules { IsStore markers table.now }
-    requires other_rules { IsStore markers other_table.now }
+    requires rules { AreStores table.now other_table.now }
     requires places { 2 ≤ N }
-    requires agreed { AgreeUpTo table.now other_table.now memory.old.agreed }
-    requires equal { AreEqual table.now other_table.now memory.old.equal }
+    requires known { AreKnown table.now other_table.now memory.old.agreed memory.old.equal }
     ensures order { IfSome result (IsOrderOf (table.now, id) (other_table.now, other)) }
-    ensures answered { memory.old.looks ≡ None → IsSome result }
-    ensures unbounded { memory.old.looks ≡ None → memory.new.looks ≡ None }
-    ensures agreed { AgreeUpTo table.now other_table.now memory.new.agreed }
-    ensures equal { AreEqual table.now other_table.now memory.new.equal }
+    ensures unbounded { memory.old.looks ≡ None → IsSome result × (memory.new.looks ≡ None) }
+    ensures known { AreKnown table.now other_table.now memory.new.agreed memory.new.equal }
 {
     let mut agreed = memory.agreed;
     let passed_over = are_passed_over(table, id, other_table, other, &mut agreed);
@@ -150,8 +145,7 @@ fn order_from<const N: usize>(
 impl<const N: usize> Memory<N> {
     // Uses up a visit, if one is left.
     fn take_look(&mut self) -> Option<()>
-        ensures taken { self.old.looks ≡ None → IsSome result }
-        ensures unbounded { self.old.looks ≡ None → self.new.looks ≡ None }
+        ensures unbounded { self.old.looks ≡ None → IsSome result × (self.new.looks ≡ None) }
         ensures agreed { self.new.agreed ≡ self.old.agreed }
         ensures equal { self.new.equal ≡ self.old.equal }
     {
@@ -216,8 +210,7 @@ fn are_passed_over(
     other: NodeId,
     agreed: &mut usize,
 ) -> bool
-    requires rules { IsStore markers table.now }
-    requires other_rules { IsStore markers other_table.now }
+    requires rules { AreStores table.now other_table.now }
     requires agreed { AgreeUpTo table.now other_table.now agreed.old }
     ensures equal { result ≡ true → diagram_cmp (table.now, id) (other_table.now, other) ≡ Equal }
     ensures agreed { AgreeUpTo table.now other_table.now agreed.new }

@@ -33,7 +33,7 @@ use Rattle.marker_nodes.specs.Node.{Node, markers, child_at}
 use Rattle.marker_nodes.proofs.NodeLaws.{lawful, at_version}
 use Rattle.marker_nodes.specs.Python.{python_of, versions_with_python, with_python}
 use Rattle.marker_simplifications.specs.Python.{Assumes}
-use Rattle.marker_simplifications.specs.Simplified.{AreAssumed, AreFound, AreLater, IsAssumed}
+use Rattle.marker_simplifications.specs.Simplified.{AreAssumed, AreFound, AreLater, IsAfterImplementation, IsAssumed}
 use Rattle.marker_nodes.proofs.Descents.{held_kept}
 use Rattle.marker_simplifications.proofs.RangeLaws.{assumes_same, assumes_signed, assumes_unseen, assumes_by, assumes_clamped, clamped_from}
 
@@ -222,14 +222,11 @@ module _ (lower upper : Bound Parts) where
 
 -- ---- the children of an id one after another
 module _ (first now : List Node) (lower upper : Bound Parts) (ids : List NodeId) (later : AreLater first (of_version ImplementationVersion) ids) (k : Keeps markers first now) (i : ℕ) (within : i < length ids) (d : NodeId) where
-  next_later : IsHeld first (get_or ids i d) × IsAfter markers first (of_version ImplementationVersion) (get_or ids i d)
+  next_later : IsAfterImplementation first (get_or ids i d)
   next_later = later i (get_or ids i d) (slice_get-get_or ids i d within)
 
-  pub next_held : IsHeld now (get_or ids i d)
-  next_held = held_kept first now (get_or ids i d) k next_later.0
-
-  pub next_after : IsAfter markers now (of_version ImplementationVersion) (get_or ids i d)
-  next_after = after_still markers first now (of_version ImplementationVersion) (get_or ids i d) k next_later.0 next_later.1
+  pub next_after : IsAfterImplementation now (get_or ids i d)
+  next_after = (held_kept first now (get_or ids i d) k next_later.0, after_still markers first now (of_version ImplementationVersion) (get_or ids i d) k next_later.0 next_later.1)
 
   pub next_assumed : (new : List Node) (t : NodeId) (made more : List NodeId) → Keeps markers now new → length made ≡ i → AreAssumed now lower upper ids made → IsAssumed new lower upper (get_or ids i d) t → more ≡ made ++ t ∷ [] → AreAssumed new lower upper ids more
   next_assumed new t made more keeps len done last more_is =

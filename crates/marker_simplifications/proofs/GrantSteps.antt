@@ -38,17 +38,10 @@ index_by : (p : ℕ) (b : Bool) → (p == 0) ≡ b → None ≡ cond b None (Som
 index_by p true e f = eqb-true p 0 e
 index_by p false e f = none_some (p - 1) f
 
-some_by : (p : ℕ) (b : Bool) (i : ℕ) → (p == 0) ≡ b → Some i ≡ cond b None (Some (p - 1)) → 0 < p
-some_by p true i e f = none_some i (sym f)
-some_by p false i e f = let k : p ≡ 0 → ⊥ = eqb-false p 0 e in omega arith
-
 pub no_index : (t : NodeId) → None ≡ index_of t → place_of t ≡ 0
 no_index t e = index_by (place_of t) (place_of t == 0) refl e
 
 -- ---- what is found
-pub constant_settled : (known : Known) (t : NodeId) → place_of t ≡ 0 → ¬ IsUnknown known (plain t)
-constant_settled known t e h = let k : 0 < place_of t = h.node in omega arith
-
 module _ (known : Known) (id key : NodeId) (key_is : key ≡ signed_id (is_negated id) id) where
   at_plain : (o : Option NodeId) → o ≡ lookup (same_id key) known → lookup (same_id (plain id)) known ≡ o
   at_plain o e = ap (λ k. lookup (same_id k) known) (sym (plain_is id key key_is)) ∙ sym e
@@ -72,9 +65,6 @@ pub each_granted : (Answers : List ℕ → Bool → Type 0) (nodes : List Node) 
 each_granted Answers nodes known ids made w held h i a t e f = found_granted Answers nodes known a t w (held i a e) (h i a t e f)
 
 -- ---- fewer ids are unknown
-at_place : ℕ → NodeId
-at_place n = record { place = n; complement = false }
-
 -- how many of the ids of the first n nodes are unknown
 abbrev pub unknown_ids : ℕ → Known → ℕ
 unknown_ids zero known = 0

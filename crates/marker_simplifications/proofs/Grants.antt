@@ -1,12 +1,11 @@
 -- Ids with extras set true.
-use Rattle.std.proofs.Common.{◌≡◌, ℕ, ◌<◌, Bool, true, false, cond, ◌||◌, List, [], ◌∷◌, ◌++◌, length, get_or, Some, None, Result, Ok, Err, refl, sym, ap, ◌∙◌, subst, arith}
+use Rattle.std.proofs.Common.{◌≡◌, ℕ, ◌<◌, Bool, true, false, cond, ◌||◌, List, [], length, Some, None, Result, Ok, Err, refl, sym, ap, ◌∙◌, subst, arith}
 use Rattle.std.specs.Prelude.{slice_get, IfOk, String}
 use Rattle.std.specs.Global.{Global}
 use Rattle.std.specs.Map.{lookup}
 use Rattle.std.specs.declared.alloc.AllocError.{AllocError}
 use Rattle.std.specs.declared.cmp.Ordering.TheVariants.{Less}
-use lib.Dec.{eqb}
-use Rattle.std.proofs.lemmas.Bool.{false≢true, eqb-true}
+use Rattle.std.proofs.lemmas.Bool.{false≢true}
 use Rattle.std.proofs.lemmas.Option.{slice_get-get_or, slice_get_within}
 use Rattle.version_ranges.specs.declared.cuts.Cuts.{Cuts}
 use Rattle.marker_environment.specs.Valuation.{Valuation}
@@ -15,7 +14,6 @@ use Rattle.marker_diagrams.specs.declared.node_id.TheConstants.NodeId.{TRUE, FAL
 use Rattle.marker_diagrams.specs.Id.{place_of, is_negated, signed, signed_id, same_id}
 use Rattle.marker_diagrams.specs.Diagram.{node_of, IsHeld, IsStore, Keeps, IsAfter, IsChoice, AreChildren, truth}
 use Rattle.marker_diagrams.proofs.IdLaws.{same_id_is, signed_id_undone}
-use Rattle.marker_diagrams.proofs.KeyLaws.{get_last}
 use Rattle.marker_diagrams.proofs.NodeLaws.{none_some, same_some, truth_child, truth_signed, truth_still, after_still, after_before}
 use Rattle.marker_nodes.specs.declared.variable.TruthVariable.{TruthVariable}
 use Rattle.marker_nodes.specs.declared.variable.TruthVariable.TheVariants.{In, Contains, Extra, Arbitrary}
@@ -107,18 +105,6 @@ module _ (Answers : List ℕ → Bool → Type 0) where
   pub truth_touched : (n : Node) (x : TruthVariable) (high low : NodeId) → n ≡ Truth x high low → (b : Bool) → Grants Answers x b → b ≡ true → IsTouched Answers n high
   truth_touched n x high low is b h e = subst (λ m. IsTouched Answers m high) (sym is) (record { picks = high_answer x high low b h e; some = (lowest, high_picked x high low) })
 
-  -- ---- a list that grows
-  pub granted_more : (old new : List Node) (ids : List NodeId) (j : ℕ) (a t : NodeId) (made more : List NodeId) → Keeps markers old new → ((k : ℕ) (b : NodeId) → slice_get ids k ≡ Some b → IsHeld old b) → length made ≡ j →
-      slice_get ids j ≡ Some a → AreGranted old Answers ids made → IsGranted new Answers a t → more ≡ made ++ t ∷ [] → AreGranted new Answers ids more
-  granted_more old new ids j a t made more keeps held len at_j done last more_is k b s e h =
-      by_test (eqb k (length made)) refl (sym (get_last made t k) ∙ ap (λ xs. slice_get xs k) (sym more_is) ∙ h)
-    where
-      by_test : (z : Bool) → eqb k (length made) ≡ z → cond z (Some t) (slice_get made k) ≡ Some s → IsGranted new Answers b s
-      by_test true u w =
-          let same : a ≡ b = same_some a b (sym at_j ∙ ap (slice_get ids) (sym (eqb-true k (length made) u ∙ len)) ∙ e) in
-          subst (IsGranted new Answers b) (same_some t s w) (subst (λ x. IsGranted new Answers x t) same last)
-      by_test false u w = granted_kept old new b s keeps (held k b e) (done k b s e w)
-
 -- ---- a node, whose id has no sign
 module _ (old : List Node) (store : IsStore markers old) (t : NodeId) (held : IsHeld old t) (plain : is_negated t ≡ false) (x : Variable) (child : Valuation → NodeId) (has : HasChildren old t x child) where
   pub child_below : (v : Valuation) → place_of (child v) < place_of t
@@ -208,26 +194,6 @@ module _ (old : List Node) (store : IsStore markers old) (t : NodeId) (held : Is
       pub listed_placed : (last : List Node) → Keeps markers new last → ((granted : List ℕ → Bool) → AnswersBy Answers granted → (v : Valuation) → child (with_extras granted v) ≡ child v) →
           (r : Result NodeId AllocError) → IfOk r (IsChoice markers last x (λ v. child_at made (index v))) → IfOk r (IsGranted last Answers t)
       listed_placed = granted_placed (λ v. child_at made (index v)) each_granted
-
--- ---- ids below a parent, one after another
-pub next_under : (first now : List Node) (parent : NodeId) (ids : List NodeId) → AreUnder first parent ids → Keeps markers first now → (i : ℕ) → i < length ids → (d : NodeId) →
-    (place_of (get_or ids i d) < place_of parent) × IsHeld now (get_or ids i d)
-next_under first now parent ids under k i within d =
-    let h = under i (get_or ids i d) (slice_get-get_or ids i d within) in
-    (h.1, held_kept first now (get_or ids i d) k h.0)
-
-pub next_granted : (Answers : List ℕ → Bool → Type 0) (first now : List Node) (parent : NodeId) (ids : List NodeId) → AreUnder first parent ids → Keeps markers first now → (i : ℕ) → i < length ids → (d : NodeId) →
-    (new : List Node) (t : NodeId) (made more : List NodeId) → Keeps markers now new → length made ≡ i → AreGranted now Answers ids made → IsGranted new Answers (get_or ids i d) t → more ≡ made ++ t ∷ [] → AreGranted new Answers ids more
-next_granted Answers first now parent ids under k i within d new t made more keeps len done last more_is =
-    granted_more Answers now new ids i (get_or ids i d) t made more keeps (λ n b e. held_kept first now b k ((under n b e).0)) len (slice_get-get_or ids i d within) done last more_is
-
--- a sign undoes itself
-pub without_sign : (id plain : NodeId) → plain ≡ signed_id (is_negated id) id → is_negated plain ≡ false
-without_sign id plain e = ap is_negated e ∙ by_sign (is_negated id)
-  where
-    by_sign : (s : Bool) → signed s s ≡ false
-    by_sign true = refl
-    by_sign false = refl
 
 -- ---- a clone of the id's node
 module _ (old : List Node) (store : IsStore markers old) (t : NodeId) (held : IsHeld old t) (plain : is_negated t ≡ false) (n : Node) (stands : Some n ≡ node_of old t) where

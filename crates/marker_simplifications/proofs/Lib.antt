@@ -1,3 +1,5 @@
+pub mod TruthLaws
+pub mod SetLaws
 pub mod RangeLaws
 pub mod TrimLaws
 pub mod Assumptions

@@ -24,7 +24,7 @@ use Rattle.marker_diagrams.specs.Diagram.{Keeps, truth}
 use Rattle.marker_diagrams.proofs.NodeLaws.{truth_still}
 use Rattle.marker_nodes.specs.Node.{Node, markers}
 use Rattle.marker_nodes.specs.And.{IsAnd}
-use Rattle.marker_comparisons.specs.Expression.{IsTruthOf}
+use Rattle.marker_simplifications.specs.Expression.{IsTruthOf}
 use Rattle.marker_simplifications.specs.Python.{is_python_in, require}
 
 trimmed_tied : (v : Parts) → version_cmp (trimmed_parts v) v ≡ Equal

@@ -42,6 +42,18 @@ pub record IsPlain (n : ℕ) (t : NodeId) : Type 0 where
   pub within : place_of t ≤ n
   pub sign : is_negated t ≡ false
 
+-- so it is, and the id has no result yet
+pub record IsUnsolved (n : ℕ) (known : Known) (t : NodeId) : Type 0 where
+  pub plain : IsPlain n t
+  pub unknown : IsUnknown known t
+
+-- the pair has an id that has no result yet, and its result; the id is plain if the first one is
+pub record Solves (nodes : List Node) (Answers : List ℕ → Bool → Type 0) (known : Known)
+    (first : NodeId) (p : NodeId × NodeId) : Type 0 where
+  pub unknown : IsUnknown known p.0
+  pub plain : (n : ℕ) → IsPlain n first → IsPlain n p.0
+  pub granted : IsGranted nodes Answers p.0 p.1
+
 -- the id, which is not a negation and has no result, is below a parent
 pub record IsWanted (known : Known) (parent t : NodeId) : Type 0 where
   pub below : place_of t < place_of parent

@@ -1,3 +1,6 @@
+pub mod Expression
+pub mod Found
+pub mod ValueSet
 pub mod Python
 pub mod Extras
 pub mod Granting

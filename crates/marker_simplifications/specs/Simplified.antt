@@ -1,5 +1,5 @@
 -- Ids under a range of Python versions, and ids with extras set true.
-use Rattle.std.specs.Prelude.{◌≡◌, ℕ, ◌<◌, Bool, false, List, Some, slice_get}
+use Rattle.std.specs.Prelude.{◌≡◌, ℕ, ◌<◌, Bool, false, List, Some, length, slice_get}
 use Rattle.std.specs.Map.{lookup}
 use Rattle.std.specs.Borrow.{Bor}
 use Rattle.std.specs.declared.ops.Bound.{Bound}
@@ -19,17 +19,20 @@ use Rattle.marker_nodes.specs.Side.{is_asked}
 use Rattle.marker_simplifications.specs.Python.{Assumes}
 use Rattle.marker_simplifications.specs.Extras.{AnswersBy, grant, with_extras}
 
--- the list of nodes has each id, which depends only on variables after x
+-- the list of nodes has the id, which depends only on variables after x
+abbrev pub IsLater : List Node → Variable → NodeId → Type 0
+IsLater nodes x t = diagram.IsHeld nodes t × diagram.IsAfter markers nodes x t
+
+-- so it is of each id
 abbrev pub AreLater : List Node → Variable → List NodeId → Type 0
-AreLater nodes x ids = (i : ℕ) (t : NodeId) → slice_get ids i ≡ Some t → diagram.IsHeld nodes t
-    × diagram.IsAfter markers nodes x t
+AreLater nodes x ids = (i : ℕ) (t : NodeId) → slice_get ids i ≡ Some t → IsLater nodes x t
 
--- the id depends only on variables after the version of the implementation
+-- the list of nodes has the id, which depends only on variables after the version of the
+-- implementation
 abbrev pub IsAfterImplementation : List Node → NodeId → Type 0
-IsAfterImplementation nodes t =
-    diagram.IsAfter markers nodes (of_version ImplementationVersion) t
+IsAfterImplementation nodes t = IsLater nodes (of_version ImplementationVersion) t
 
--- the list of nodes has each id, which depends only on such variables
+-- so it is of each id
 abbrev pub AreAfterImplementation : List Node → List NodeId → Type 0
 AreAfterImplementation nodes ids = AreLater nodes (of_version ImplementationVersion) ids
 
@@ -61,17 +64,19 @@ abbrev pub IsAssumedBetween : List Node → Bound (Bor Parts) → Bound (Bor Par
     → Type 0
 IsAssumedBetween nodes lower upper a t = IsAssumed nodes (bound_of lower) (bound_of upper) a t
 
--- the ids of one list are those of the other, one by one, given that it is between them
-abbrev pub AreAssumedBetween : List Node → Bound (Bor Parts) → Bound (Bor Parts) → List NodeId
-    → List NodeId → Type 0
-AreAssumedBetween nodes lower upper ids made =
-    AreAssumed nodes (bound_of lower) (bound_of upper) ids made
+-- one list has as many ids as the other, which are the same, one by one, given that it is between
+-- them
+pub record AreAssumedBetween (nodes : List Node) (lower upper : Bound (Bor Parts))
+    (ids made : List NodeId) : Type 0 where
+  pub count : length made ≡ length ids
+  pub assumed : AreAssumed nodes (bound_of lower) (bound_of upper) ids made
 
--- the result for an id is that id, given that it is between them
-abbrev pub AreFoundBetween : List Node → Bound (Bor Parts) → Bound (Bor Parts)
-    → List (NodeId × NodeId) → Type 0
-AreFoundBetween nodes lower upper found =
-    AreFound nodes (bound_of lower) (bound_of upper) found
+-- the nodes satisfy the rules of diagrams, and the result for an id is that id, given that it is
+-- between them
+pub record KnowsBetween (nodes : List Node) (lower upper : Bound (Bor Parts))
+    (known : List (NodeId × NodeId)) : Type 0 where
+  pub rules : diagram.IsStore markers nodes
+  pub found : AreFound nodes (bound_of lower) (bound_of upper) known
 
 -- whether a variable is set to true: for an extra the answer for its name, and otherwise never
 abbrev pub Grants : (List ℕ → Bool → Type 0) → TruthVariable → Bool → Type 0
@@ -100,10 +105,6 @@ pub record IsGranted (nodes : List Node) (Answers : List ℕ → Bool → Type 0
       → diagram.truth markers nodes t v ≡ grant granted (diagram.truth markers nodes a) v
   pub after : (x : Variable) → diagram.IsAfter markers nodes x a → diagram.IsAfter markers nodes x t
 
--- the second id of the pair is the first one with extras set to true
-abbrev pub IsGrantedPair : List Node → (List ℕ → Bool → Type 0) → NodeId × NodeId → Type 0
-IsGrantedPair nodes Answers p = IsGranted nodes Answers p.0 p.1
-
 -- the ids of one list are those of the other, one by one, with extras set true
 abbrev pub AreGranted : List Node → (List ℕ → Bool → Type 0) → List NodeId → List NodeId → Type 0
 AreGranted nodes Answers ids made = (i : ℕ) (a t : NodeId) → slice_get ids i ≡ Some a
@@ -113,6 +114,12 @@ AreGranted nodes Answers ids made = (i : ℕ) (a t : NodeId) → slice_get ids i
 abbrev pub AreKnown : List Node → (List ℕ → Bool → Type 0) → List (NodeId × NodeId) → Type 0
 AreKnown nodes Answers known = (a t : NodeId) → lookup (same_id a) known ≡ Some t
     → diagram.IsHeld nodes a × IsGranted nodes Answers a t
+
+-- so they are, and the nodes satisfy the rules of diagrams
+pub record KnowsGranted (nodes : List Node) (Answers : List ℕ → Bool → Type 0)
+    (results : List (NodeId × NodeId)) : Type 0 where
+  pub rules : diagram.IsStore markers nodes
+  pub known : AreKnown nodes Answers results
 
 -- the node of the id branches on x, and these are its children
 abbrev pub HasChildren : List Node → NodeId → Variable → (Valuation → NodeId) → Type 0

@@ -1,12 +1,13 @@
 //! Ids simplified for extras that are active.
 
-ghost use Rattle.std.specs.Prelude.{◌≡◌, ℕ, [], IfNone, IfOk, IfSome, OnOk, length, true};
+ghost use Rattle.std.specs.Prelude.{◌≡◌, [], IfNone, IfOk, IfSome, OnOk, length, true};
 ghost use Rattle.std.specs.Fn.{FnReturnsAt};
 ghost use Rattle.marker_diagrams.specs.Diagram as diagram;
 ghost use Rattle.marker_diagrams.specs.Diagram.{Keeps};
 ghost use Rattle.marker_nodes.specs.Node.{markers};
-ghost use Rattle.marker_simplifications.specs.Granting.{AreFoundAs, AreSettled, AreWantedOf, IsFoundAs, IsNext, IsPlain, IsUnknown, RemainPlainWith, TakesPlain, plain};
-ghost use Rattle.marker_simplifications.specs.Simplified.{AreKnown, Grants, IsGranted, IsGrantedPair, IsTouched, IsUntouched};
+ghost use Rattle.marker_nodes.specs.Table.{GrowsByRules};
+ghost use Rattle.marker_simplifications.specs.Granting.{AreFoundAs, AreSettled, AreWantedOf, IsFoundAs, IsNext, IsPlain, IsUnknown, IsUnsolved, RemainPlainWith, Solves, TakesPlain, plain};
+ghost use Rattle.marker_simplifications.specs.Simplified.{Grants, IsGranted, IsTouched, IsUntouched, KnowsGranted};
 
 use marker_nodes::{Branches, Children, Node, NodeId, NodeTable, TruthVariable};
 use pep508_names::ExtraName;
@@ -85,16 +86,12 @@ fn descend<F: Fn(&ExtraName) -> bool>(
     pending: &mut Vec<NodeId>,
     first: NodeId,
 ) -> Result<(NodeId, NodeId), AllocError>
-    requires rules { diagram.IsStore markers nodes.old }
-    requires plain { IsPlain (length nodes.old) first }
-    requires unknown { IsUnknown known.now.entries first }
+    requires first { IsUnsolved (length nodes.old) known.now.entries first }
     requires callable { F.IsAlwaysCallable is_extra.now }
-    requires known { AreKnown nodes.old (FnReturnsAt F.Fn is_extra.now) known.now.entries }
-    ensures kept { Keeps markers nodes.old nodes.new }
-    ensures rules { diagram.IsStore markers nodes.new }
-    ensures unknown { IfOk result (λ r. IsUnknown known.now.entries r.0) }
-    ensures plain { IfOk result (λ r. (n : ℕ) → IsPlain n first → IsPlain n r.0) }
-    ensures granted { IfOk result (IsGrantedPair nodes.new (FnReturnsAt F.Fn is_extra.now)) }
+    requires known { KnowsGranted nodes.old (FnReturnsAt F.Fn is_extra.now) known.now.entries }
+    ensures kept { GrowsByRules nodes.old nodes.new }
+    ensures solved { IfOk result (Solves nodes.new (FnReturnsAt F.Fn is_extra.now)
+        known.now.entries first) }
     ensures pending { OnOk result (RemainPlainWith first pending.old.items pending.new.items) }
 {
     let mut at = first;
@@ -125,12 +122,10 @@ fn advance<F: Fn(&ExtraName) -> bool>(
     is_extra: &F,
     id: NodeId,
 ) -> Result<Step, AllocError>
-    requires rules { diagram.IsStore markers nodes.old }
     requires plain { IsPlain (length nodes.old) id }
     requires callable { F.IsAlwaysCallable is_extra.now }
-    requires known { AreKnown nodes.old (FnReturnsAt F.Fn is_extra.now) known.now.entries }
-    ensures kept { Keeps markers nodes.old nodes.new }
-    ensures rules { diagram.IsStore markers nodes.new }
+    requires known { KnowsGranted nodes.old (FnReturnsAt F.Fn is_extra.now) known.now.entries }
+    ensures kept { GrowsByRules nodes.old nodes.new }
     ensures next { IfOk result (IsNext nodes.new (FnReturnsAt F.Fn is_extra.now)
         known.now.entries id) }
 {

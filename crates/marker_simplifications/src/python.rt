@@ -1,6 +1,6 @@
 //! Ids and ranges of Python versions: simplifying for a range, and requiring one.
 
-ghost use Rattle.std.specs.Prelude.{◌≡◌, true, length, IfNone, IfOk, IfSome, Some};
+ghost use Rattle.std.specs.Prelude.{◌≡◌, true, IfNone, IfOk, IfSome, Some};
 ghost use Rattle.std.specs.Range.Bound.{bound_map};
 ghost use Rattle.version_ranges.specs.Bounds.{all_cuts};
 ghost use Rattle.version_ranges.specs.Point.{Point};
@@ -13,11 +13,11 @@ ghost use Rattle.marker_diagrams.specs.Diagram.{node_of, Keeps};
 ghost use Rattle.marker_nodes.specs.declared.node.Branches.TheVariants as kinds;
 ghost use Rattle.marker_nodes.specs.Node.{markers};
 ghost use Rattle.marker_nodes.specs.Variable.{of_version};
-ghost use Rattle.marker_comparisons.specs.Expression.{IsTruthOf};
+ghost use Rattle.marker_simplifications.specs.Expression.{IsTruthOf};
 ghost use Rattle.marker_simplifications.specs.Python.{is_python_between, is_whole};
-ghost use Rattle.marker_simplifications.specs.Simplified.{AreAfterImplementation, AreAssumedBetween, AreFoundBetween, BranchesElsewhere, IsAfterImplementation, IsAssumedBetween};
+ghost use Rattle.marker_simplifications.specs.Simplified.{AreAfterImplementation, AreAssumedBetween, BranchesElsewhere, IsAfterImplementation, IsAssumedBetween, KnowsBetween};
 
-use marker_comparisons::asks_version;
+use crate::questions::asks_version;
 use marker_nodes::{Branches, Children, NodeId, NodeTable};
 use marker_words::VersionVariable;
 use pep440_version::Version;
@@ -127,7 +127,6 @@ fn assume_at_python(
     upper: Bound<&Version>,
 ) -> Result<NodeId, AllocError>
     requires rules { diagram.IsStore markers nodes.old }
-    requires held { diagram.IsHeld nodes.old id }
     requires after { IsAfterImplementation nodes.old id }
     requires point { (p : Point Parts) × IsBetween version_cmp (bound_of lower) (bound_of upper) p }
     ensures kept { Keeps markers nodes.old nodes.new }
@@ -155,7 +154,6 @@ fn assume_all(
     requires point { (p : Point Parts) × IsBetween version_cmp (bound_of lower) (bound_of upper) p }
     ensures kept { Keeps markers nodes.old nodes.new }
     ensures rules { diagram.IsStore markers nodes.new }
-    ensures count { IfOk result (λ r. length r.items ≡ length children.now) }
     ensures assumed { IfOk result
         (λ r. AreAssumedBetween nodes.new lower.entry upper.entry children.now r.items) }
 {
@@ -176,15 +174,12 @@ fn assume_once(
     lower: Bound<&Version>,
     upper: Bound<&Version>,
 ) -> Result<NodeId, AllocError>
-    requires rules { diagram.IsStore markers nodes.old }
-    requires held { diagram.IsHeld nodes.old id }
     requires after { IsAfterImplementation nodes.old id }
     requires point { (p : Point Parts) × IsBetween version_cmp (bound_of lower) (bound_of upper) p }
-    requires known { AreFoundBetween nodes.old lower upper known.old.entries }
+    requires known { KnowsBetween nodes.old lower upper known.old.entries }
     ensures kept { Keeps markers nodes.old nodes.new }
-    ensures rules { diagram.IsStore markers nodes.new }
     ensures assumed { IfOk result (IsAssumedBetween nodes.new lower.entry upper.entry id) }
-    ensures known { AreFoundBetween nodes.new lower.entry upper.entry known.new.entries }
+    ensures known { KnowsBetween nodes.new lower.entry upper.entry known.new.entries }
 {
     if let Some(found) = known.get(&id) {
         return Ok(*found);

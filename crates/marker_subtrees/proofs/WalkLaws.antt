@@ -10,7 +10,7 @@ use Rattle.marker_diagrams.specs.Residue.{IsSubtree, itself, child, AreExactly}
 use Rattle.marker_diagrams.proofs.NodeLaws.{same_some, none_some}
 use Rattle.marker_nodes.specs.Branches.{piece, value_at}
 use Rattle.marker_nodes.specs.Node.{Node, markers}
-use Rattle.marker_subtrees.specs.Subtrees.{Has, IsOnce, child_at, AddsChildren, AddsFirst}
+use Rattle.marker_subtrees.specs.Subtrees.{Has, IsOnce, child_at, AddsChildren, AddsFirst, AreMoreThan}
 use Rattle.marker_subtrees.proofs.GrowthLaws.{Grows}
 
 less_or : (k i : ℕ) → k < i + 1 → (k < i) ⊎ (k ≡ i)
@@ -149,6 +149,10 @@ walks_node nodes id index old new parent n e node a w = record {
             let P : Node → Type 0 = λ k. Has new (child_at k u v) in
             let Q : NodeId → Type 0 = λ k. Has new (child_at n k v) in
             subst P q (subst Q p (a.all v))
+
+-- what is found so far may be more than enough
+pub walked_past : (nodes : List Node) (id : NodeId) (index most : ℕ) (ids : List NodeId) → most < length ids → Walks nodes id index ids → AreMoreThan most (IsSubtree markers nodes id)
+walked_past nodes id index most ids l w = record { ids = ids; more = l; each = w.each; once = w.once }
 
 -- where each of the listed has its children in the list, all subtrees are there
 pub walked : (nodes : List Node) (id : NodeId) (index : ℕ) (ids : List NodeId) → length ids ≤ index → Walks nodes id index ids → AreExactly (IsSubtree markers nodes id) ids

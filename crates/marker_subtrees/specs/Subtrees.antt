@@ -15,6 +15,13 @@ abbrev pub IsOnce : List NodeId → Type 0
 IsOnce ids = (i j : ℕ) (id : NodeId) → slice_get ids i ≡ Some id → slice_get ids j ≡ Some id
     → i ≡ j
 
+-- More ids than so many are such: a list has more of them, and none of them twice.
+pub record AreMoreThan (most : ℕ) (P : NodeId → Type 0) : Type 0 where
+  pub ids : List NodeId
+  pub more : most < length ids
+  pub each : (i : ℕ) (u : NodeId) → slice_get ids i ≡ Some u → P u
+  pub once : IsOnce ids
+
 -- the child of a node at a valuation, as that of the id whose node it is: negated where the id is
 abbrev pub child_at : Node → NodeId → Valuation → NodeId
 child_at n parent v = signed_id (is_negated parent) (value_at n v)

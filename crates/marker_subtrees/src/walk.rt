@@ -1,9 +1,9 @@
 //! The subtrees of an id.
 
-ghost use Rattle.std.specs.Prelude.{IfOk, IfSome, OnOk, length};
+ghost use Rattle.std.specs.Prelude.{IfNone, IfOk, IfSome, OnOk, length};
 ghost use Rattle.marker_diagrams.specs.Residue.{AreExactly, IsSubtree};
 ghost use Rattle.marker_nodes.specs.Node.{markers};
-ghost use Rattle.marker_subtrees.specs.Subtrees.{AddsChildren, AddsFirst};
+ghost use Rattle.marker_subtrees.specs.Subtrees.{AddsChildren, AddsFirst, AreMoreThan};
 
 use indexmap::IndexSet;
 use marker_nodes::{Node, NodeId, NodeTable};
@@ -16,8 +16,10 @@ pub fn subtrees(
     id: NodeId,
     most: usize,
 ) -> Result<Option<IndexSet<NodeId>>, AllocError>
-    ensures { IfOk result (λ found. IfSome found
+    ensures subtrees { IfOk result (λ found. IfSome found
         (λ ids. AreExactly (IsSubtree markers table.now id) ids.keys)) }
+    ensures more { IfOk result (λ found. IfNone found
+        (AreMoreThan most (IsSubtree markers table.now id))) }
 {
     let alloc = table.allocator();
     let mut found = IndexSet::new(alloc);

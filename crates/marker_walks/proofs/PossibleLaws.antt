@@ -1,5 +1,5 @@
 -- Walks that look for a valuation with given extras.
-use Rattle.std.proofs.Common.{◌≡◌, ℕ, zero, suc, ◌<◌, Bool, true, false, not, cond, ◌||◌, List, [], ◌∷◌, length, Option, Some, None, replicate, string_bytes, refl, sym, ap, ◌∙◌, subst, arith}
+use Rattle.std.proofs.Common.{◌≡◌, ℕ, zero, suc, ◌<◌, ◌≤◌, Bool, true, false, not, cond, ◌||◌, List, [], ◌∷◌, length, Option, Some, None, replicate, string_bytes, refl, sym, ap, ◌∙◌, subst, arith}
 use Rattle.std.specs.Prelude.{slice_get, String}
 use Rattle.std.specs.Borrow.{Bor}
 use Rattle.std.specs.List.{list_any, Contains}
@@ -41,8 +41,9 @@ use Rattle.marker_nodes.proofs.VariableLaws.{variable_total}
 use Rattle.marker_nodes.proofs.EdgeLaws.{not_true}
 use Rattle.marker_nodes.proofs.NodeLaws.{lawful}
 use Rattle.marker_walks.specs.Possible.{is_listed}
-use Rattle.marker_walks.specs.Search.{AreOut}
+use Rattle.marker_walks.specs.Search.{AreOut, IsKept, IsMemory, IsSearch}
 use Rattle.marker_walks.specs.Search as searches
+use Rattle.marker_walks.specs.declared.looks.Looks.{Looks}
 use Rattle.marker_nodes.specs.Python.{python_of, with_python}
 use Rattle.marker_walks.specs.Possible.{HasExtras, HasSome, IsAmong, IsPossible, IsImpossible, IsPossibleAt, IsImpossibleAt, AnswersPossible, listed_versions, may_lie_in, may_be_so, may_not_be_so}
 use Rattle.marker_nodes.proofs.Descents.{end_means}
@@ -370,6 +371,22 @@ module _ (extras : List (List ℕ)) (versions : Option (List Parts)) where
 -- at first the only remembered id is FALSE
 pub nothing_out : (extras : List (List ℕ)) (versions : Option (Bor (List Parts))) (nodes : List Node) (n : ℕ) → AreOut extras versions nodes (replicate n FALSE)
 nothing_out extras versions nodes n = All-replicate (searches.IsOut extras versions nodes) n FALSE (λ v i j. false_is nodes v)
+
+-- a search goes on from another id of the nodes
+pub sought_from : {nodes : List Node} {versions : Option (Bor (List Parts))} {t u : NodeId} → IsSearch nodes versions t → IsHeld nodes u → IsSearch nodes versions u
+sought_from s held = record { rules = s.rules; some = s.some; held = held }
+
+-- what is remembered, as it is and after visits
+module _ {extras : List (List ℕ)} {versions : Option (Bor (List Parts))} {nodes : List Node} {looks : Looks} {ids : List NodeId} where
+  pub starts : IsMemory extras versions nodes ids → IsKept extras versions nodes looks ids looks ids
+  starts m = record { unbounded = λ u. u; places = refl; out = m.out }
+
+  module _ {looks' : Looks} {ids' : List NodeId} (g : IsKept extras versions nodes looks ids looks' ids') where
+    pub still_right : IsMemory extras versions nodes ids → IsMemory extras versions nodes ids'
+    still_right m = record { places = subst (λ (n : ℕ). 2 ≤ n) (sym g.places) m.places; out = g.out }
+
+    pub goes_further : {looks'' : Looks} {ids'' : List NodeId} → IsKept extras versions nodes looks' ids' looks'' ids'' → IsKept extras versions nodes looks ids looks'' ids''
+    goes_further h = record { unbounded = λ u. h.unbounded (g.unbounded u); places = h.places ∙ g.places; out = h.out }
 
 -- what is satisfied by nothing that is looked for answers no
 pub out_tells : (extras : List (List ℕ)) (versions : Option (Bor (List Parts))) (nodes : List Node) (t : NodeId) → searches.IsOut extras versions nodes t → AnswersPossible extras (listed_versions versions) (truth markers nodes t) false

@@ -8,7 +8,7 @@ ghost use Rattle.std.specs.Prelude.{◌≡◌, ◌+◌, ◌<◌, ◌≤◌, IfNo
 ghost use Rattle.marker_diagrams.specs.Diagram as diagram;
 ghost use Rattle.marker_diagrams.specs.Id.{place_of};
 ghost use Rattle.marker_nodes.specs.Node.{markers};
-ghost use Rattle.marker_walks.specs.Disjoint.{AreApart, AreDisjoint, Leaves, RemainApartWith, TellsDisjoint, TellsDisjointWith};
+ghost use Rattle.marker_walks.specs.Disjoint.{AreDisjoint, HasBoth, IsKept, IsMemory, Leaves, RemainApartWith, TellsDisjoint, TellsDisjointWith};
 ghost use Rattle.marker_walks.specs.Looks.{AreUnbounded};
 
 use crate::looks::{FIRST, Looks, SECOND, THIRD};
@@ -108,9 +108,7 @@ fn glance(nodes: &NodeTable, a: NodeId, b: NodeId) -> Option<bool>
 // pays for them.
 #[inline(never)]
 fn walk<const N: usize>(nodes: &NodeTable, looks: Looks, a: NodeId, b: NodeId) -> Option<bool>
-    requires rules { diagram.IsStore markers nodes.now }
-    requires a { diagram.IsHeld nodes.now a }
-    requires b { diagram.IsHeld nodes.now b }
+    requires ids { HasBoth nodes.now a b }
     requires places { 2 ≤ N }
     requires size { N ≤ 65536 }
     ensures answer { IfSome result (TellsDisjoint nodes.now a b) }
@@ -139,15 +137,11 @@ fn are_apart<const N: usize>(
     a: NodeId,
     b: NodeId,
 ) -> Option<bool>
-    requires rules { diagram.IsStore markers nodes.now }
-    requires a { diagram.IsHeld nodes.now a }
-    requires b { diagram.IsHeld nodes.now b }
-    requires places { 2 ≤ N }
-    requires apart { AreApart nodes.now memory.old.apart }
+    requires ids { HasBoth nodes.now a b }
+    requires memory { IsMemory nodes.now N memory.old.apart }
     ensures answer { IfSome result (TellsDisjoint nodes.now a b) }
     ensures answered { AreUnbounded memory.old.looks → IsSome result }
-    ensures unbounded { AreUnbounded memory.old.looks → AreUnbounded memory.new.looks }
-    ensures apart { AreApart nodes.now memory.new.apart }
+    ensures kept { IsKept nodes.now memory.old.looks memory.new.looks memory.new.apart }
 {
     if let Some(answer) = memory.recall(a, b) {
         return Some(answer);
@@ -174,16 +168,11 @@ fn are_apart<const N: usize>(
 // Remembers a disjoint pair, and those on the path from each to the last pair of its children.
 #[cycle(apart)]
 fn remember_way<const N: usize>(nodes: &NodeTable, memory: &mut Memory<N>, a: NodeId, b: NodeId)
-    requires rules { diagram.IsStore markers nodes.now }
-    requires a { diagram.IsHeld nodes.now a }
-    requires b { diagram.IsHeld nodes.now b }
-    requires a_node { 0 < place_of a }
-    requires b_node { 0 < place_of b }
-    requires places { 2 ≤ N }
-    requires apart { AreApart nodes.now memory.old.apart }
+    requires ids { HasBoth nodes.now a b }
+    requires nodes { (0 < place_of a) × (0 < place_of b) }
+    requires memory { IsMemory nodes.now N memory.old.apart }
     requires disjoint { AreDisjoint nodes.now a b }
-    ensures unbounded { AreUnbounded memory.old.looks → AreUnbounded memory.new.looks }
-    ensures apart { AreApart nodes.now memory.new.apart }
+    ensures kept { IsKept nodes.now memory.old.looks memory.new.looks memory.new.apart }
 {
     memory.remember(a, b);
     let mut pair = (a, b);
@@ -207,17 +196,12 @@ fn all_but_last<const N: usize>(
     a: NodeId,
     b: NodeId,
 ) -> Option<Rest>
-    requires rules { diagram.IsStore markers nodes.now }
-    requires a { diagram.IsHeld nodes.now a }
-    requires b { diagram.IsHeld nodes.now b }
-    requires a_node { 0 < place_of a }
-    requires b_node { 0 < place_of b }
-    requires places { 2 ≤ N }
-    requires apart { AreApart nodes.now memory.old.apart }
+    requires ids { HasBoth nodes.now a b }
+    requires nodes { (0 < place_of a) × (0 < place_of b) }
+    requires memory { IsMemory nodes.now N memory.old.apart }
     ensures rest { IfSome result (Leaves nodes.now a b) }
     ensures answered { AreUnbounded memory.old.looks → IsSome result }
-    ensures unbounded { AreUnbounded memory.old.looks → AreUnbounded memory.new.looks }
-    ensures apart { AreApart nodes.now memory.new.apart }
+    ensures kept { IsKept nodes.now memory.old.looks memory.new.looks memory.new.apart }
 {
     memory.looks.take()?;
     let mut last = (NodeId::FALSE, NodeId::FALSE);

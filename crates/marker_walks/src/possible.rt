@@ -9,7 +9,7 @@ ghost use Rattle.marker_diagrams.specs.Diagram as diagram;
 ghost use Rattle.marker_nodes.specs.Node.{markers};
 ghost use Rattle.marker_nodes.specs.declared.node.Branches.TheVariants as kinds;
 ghost use Rattle.marker_walks.specs.Possible.{HasSome, may_be_so, may_lie_between, may_not_be_so};
-ghost use Rattle.marker_walks.specs.Search.{Answers, AreOut, IsOneOf, IsOut, IsOutWith, IsSearch, Leaves, RemainOutWith};
+ghost use Rattle.marker_walks.specs.Search.{Answers, IsKept, IsMemory, IsOneOf, IsOut, IsOutWith, IsSearch, Leaves, RemainOutWith};
 ghost use Rattle.marker_walks.specs.Looks.{AreUnbounded};
 
 use crate::child::is_listed;
@@ -78,8 +78,7 @@ fn first_walks(
     mut looks: Looks,
     id: NodeId,
 ) -> Option<bool>
-    requires search { IsSearch nodes.now versions }
-    requires id { diagram.IsHeld nodes.now id }
+    requires search { IsSearch nodes.now versions id }
     ensures answer { IfSome result (Answers extras.now versions.entry nodes.now id) }
     ensures answered { AreUnbounded looks → IsSome result }
 {
@@ -105,8 +104,7 @@ fn walk<const N: usize>(
     looks: Looks,
     id: NodeId,
 ) -> Option<bool>
-    requires search { IsSearch nodes.now versions }
-    requires id { diagram.IsHeld nodes.now id }
+    requires search { IsSearch nodes.now versions id }
     requires places { 2 ≤ N }
     requires size { N ≤ 65536 }
     ensures answer { IfSome result (Answers extras.now versions.entry nodes.now id) }
@@ -127,15 +125,11 @@ fn possible(
     looks: &mut Looks,
     id: NodeId,
 ) -> Option<bool>
-    requires search { IsSearch nodes.now versions }
-    requires id { diagram.IsHeld nodes.now id }
-    requires places { 2 ≤ length out.old }
-    requires out { AreOut extras.now versions nodes.now out.old }
+    requires search { IsSearch nodes.now versions id }
+    requires memory { IsMemory extras.now versions nodes.now out.old }
     ensures answer { IfSome result (Answers extras.now versions.entry nodes.now id) }
     ensures answered { AreUnbounded looks.old → IsSome result }
-    ensures unbounded { AreUnbounded looks.old → AreUnbounded looks.new }
-    ensures places { length out.new ≡ length out.old }
-    ensures out { AreOut extras.now versions.entry nodes.now out.new }
+    ensures kept { IsKept extras.now versions.entry nodes.now looks.old out.old looks.new out.new }
 {
     if id.is_true() {
         return Some(true);
@@ -160,15 +154,11 @@ fn possible_by_nodes(
     looks: &mut Looks,
     id: NodeId,
 ) -> Option<bool>
-    requires search { IsSearch nodes.now versions }
-    requires id { diagram.IsHeld nodes.now id }
-    requires places { 2 ≤ length out.old }
-    requires out { AreOut extras.now versions nodes.now out.old }
+    requires search { IsSearch nodes.now versions id }
+    requires memory { IsMemory extras.now versions nodes.now out.old }
     ensures answer { IfSome result (Answers extras.now versions.entry nodes.now id) }
     ensures answered { AreUnbounded looks.old → IsSome result }
-    ensures unbounded { AreUnbounded looks.old → AreUnbounded looks.new }
-    ensures places { length out.new ≡ length out.old }
-    ensures out { AreOut extras.now versions.entry nodes.now out.new }
+    ensures kept { IsKept extras.now versions.entry nodes.now looks.old out.old looks.new out.new }
 {
     let mut at = id;
     let mut passed = 0usize;
@@ -215,14 +205,10 @@ fn remember_way(
     looks: &mut Looks,
     id: NodeId,
 )
-    requires search { IsSearch nodes.now versions }
-    requires id { diagram.IsHeld nodes.now id }
+    requires search { IsSearch nodes.now versions id }
     requires impossible { IsOut extras.now versions nodes.now id }
-    requires places { 2 ≤ length out.old }
-    requires out { AreOut extras.now versions nodes.now out.old }
-    ensures unbounded { AreUnbounded looks.old → AreUnbounded looks.new }
-    ensures places { length out.new ≡ length out.old }
-    ensures out { AreOut extras.now versions.entry nodes.now out.new }
+    requires memory { IsMemory extras.now versions nodes.now out.old }
+    ensures kept { IsKept extras.now versions.entry nodes.now looks.old out.old looks.new out.new }
 {
     let mut at = id;
     loop {
@@ -254,16 +240,12 @@ fn possible_at_version(
     variable: VersionVariable,
     edges: &Cuts<Version, NodeId>,
 ) -> Option<bool>
-    requires search { IsSearch nodes.now versions }
-    requires id { diagram.IsHeld nodes.now id }
+    requires search { IsSearch nodes.now versions id }
     requires node { diagram.node_of nodes.now id ≡ Some (kinds.Version variable edges.now) }
-    requires places { 2 ≤ length out.old }
-    requires out { AreOut extras.now versions nodes.now out.old }
+    requires memory { IsMemory extras.now versions nodes.now out.old }
     ensures answer { IfSome result (Answers extras.now versions.entry nodes.now id) }
     ensures answered { AreUnbounded looks.old → IsSome result }
-    ensures unbounded { AreUnbounded looks.old → AreUnbounded looks.new }
-    ensures places { length out.new ≡ length out.old }
-    ensures out { AreOut extras.now versions.entry nodes.now out.new }
+    ensures kept { IsKept extras.now versions.entry nodes.now looks.old out.old looks.new out.new }
 {
     for piece in edges.pieces() {
         if !may_lie_in(variable, versions, &piece) {
@@ -287,16 +269,12 @@ fn possible_at_text(
     id: NodeId,
     edges: &Cuts<String, NodeId>,
 ) -> Option<bool>
-    requires search { IsSearch nodes.now versions }
-    requires id { diagram.IsHeld nodes.now id }
+    requires search { IsSearch nodes.now versions id }
     requires node { IsOneOf nodes.now id (λ x. kinds.Text x edges.now) }
-    requires places { 2 ≤ length out.old }
-    requires out { AreOut extras.now versions nodes.now out.old }
+    requires memory { IsMemory extras.now versions nodes.now out.old }
     ensures answer { IfSome result (Answers extras.now versions.entry nodes.now id) }
     ensures answered { AreUnbounded looks.old → IsSome result }
-    ensures unbounded { AreUnbounded looks.old → AreUnbounded looks.new }
-    ensures places { length out.new ≡ length out.old }
-    ensures out { AreOut extras.now versions.entry nodes.now out.new }
+    ensures kept { IsKept extras.now versions.entry nodes.now looks.old out.old looks.new out.new }
 {
     for piece in edges.pieces() {
         if possible(nodes, extras, versions, out, looks, piece.value.negate(id))? {
@@ -320,16 +298,12 @@ fn rest_at_truth(
     high: NodeId,
     low: NodeId,
 ) -> Option<Rest>
-    requires search { IsSearch nodes.now versions }
-    requires id { diagram.IsHeld nodes.now id }
+    requires search { IsSearch nodes.now versions id }
     requires node { diagram.node_of nodes.now id ≡ Some (kinds.Truth variable.now high low) }
-    requires places { 2 ≤ length out.old }
-    requires out { AreOut extras.now versions nodes.now out.old }
+    requires memory { IsMemory extras.now versions nodes.now out.old }
     ensures rest { IfSome result (Leaves extras.now versions.entry nodes.now id) }
     ensures answered { AreUnbounded looks.old → IsSome result }
-    ensures unbounded { AreUnbounded looks.old → AreUnbounded looks.new }
-    ensures places { length out.new ≡ length out.old }
-    ensures out { AreOut extras.now versions.entry nodes.now out.new }
+    ensures kept { IsKept extras.now versions.entry nodes.now looks.old out.old looks.new out.new }
 {
     if !may_be_so(variable, extras) {
         return Some(Rest::Child(low.negate(id)));

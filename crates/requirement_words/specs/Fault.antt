@@ -12,7 +12,7 @@ use Rattle.pep440_specifier.specs.Specifier as specifiers
 use Rattle.pep440_specifier.specs.declared.error.VersionSpecifierError.{VersionSpecifierError}
 use Rattle.pep508_text.specs.Class.{is_comparison, is_separator}
 use Rattle.pep508_text.specs.Run.{after_run, after_space, run_of}
-use Rattle.pep508_text.specs.Suffix.{IsPiece}
+use Rattle.pep508_text.specs.Suffix.{IsPiece, IsSuffix}
 use Rattle.pep508_text.specs.declared.classes.Class.TheVariants.{NamePart, NotSpace}
 use Rattle.pep508_urls.specs.Extras.{SplitsExtras}
 use Rattle.requirement_words.specs.Archive.{IsArchive}
@@ -170,6 +170,11 @@ pub record IsBehindExtras (text behind : List ℕ) : Type 0 where
   pub named : IsNameAt (after_space (chars text)) after_name name
   pub extras_are : IsExtras (after_space after_name) after_extras extras
   pub behind_is : after_space after_extras ≡ behind
+
+-- the end of the text that follows a name, extras and white space
+pub record FollowsExtras (text behind : List ℕ) : Type 0 where
+  pub extras : IsBehindExtras text (chars behind)
+  pub inside : IsSuffix text behind
 
 -- the name and the extras are followed by a character with which nothing of a requirement begins
 pub record IsBroken (text : List ℕ) : Type 0 where

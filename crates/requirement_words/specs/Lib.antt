@@ -1,6 +1,7 @@
 pub mod Archive
 pub mod Extras
 pub mod Fault
+pub mod First
 pub mod Head
 pub mod Message
 pub mod Nameless

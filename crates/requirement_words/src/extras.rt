@@ -1,6 +1,6 @@
 //! The extras of a requirement.
 
-ghost use Rattle.std.specs.Prelude.{◌≡◌, ◌≢◌, ◌++◌, ◌∷◌, [], true, false, IfOk, IfErr, List, ℕ, encode_utf8};
+ghost use Rattle.std.specs.Prelude.{◌≡◌, ◌≢◌, ◌++◌, ◌∷◌, [], true, false, IfOk, IfErr, List, ℕ};
 ghost use Rattle.std.specs.Char.{is_ascii_alphanumeric};
 ghost use Rattle.std.specs.Str.{chars};
 ghost use Rattle.pep508_names.specs.Name.{IsName};
@@ -8,6 +8,7 @@ ghost use Rattle.pep508_text.specs.Run.{Run, after_space};
 ghost use Rattle.pep508_text.specs.Suffix.{IsSuffix};
 ghost use Rattle.pep508_text.specs.declared.classes.Class.TheVariants.{NamePart};
 ghost use Rattle.requirement_words.specs.Extras.{IsExtras};
+ghost use Rattle.requirement_words.specs.First.{BeginsWith};
 ghost use Rattle.requirement_words.specs.Fault.{begins_name, FindsInExtras, IsBehindExtra, IsFaultBy, Listed, may_follow_extra, RefusesExtras};
 
 use crate::fault::{Fault, FaultKind};
@@ -26,8 +27,7 @@ fn is_leading_comma(found: char, names: &[ExtraName]) -> bool
 
 // The fault where a name may follow these, and this character does.
 fn extra_fault<'a>(found: char, here: &'a str, after: &str, names: &[ExtraName]) -> Fault<'a>
-    requires first { here.now ≡ encode_utf8 found ++ after.now }
-    requires suffix { IsSuffix here.now after.now }
+    requires first { BeginsWith here.now found after.now }
     requires no_letter { is_ascii_alphanumeric found ≡ false }
     requires no_bracket { names.now ≡ [] → found ≢ 93 }
     ensures { (inside : List ℕ) → Listed inside names.now (chars here.now)
@@ -68,9 +68,7 @@ fn extra_end_fault<'a>(here: &'a str, run: &'a str, rest: &'a str) -> Fault<'a>
 fn separator_fault<'a>(found: char, rest: &'a str, behind: &'a str, after: &str) -> Fault<'a>
     requires skipped { chars behind.now ≡ after_space (chars rest.now) }
     requires behind { IsSuffix rest.now behind.now }
-    requires first { behind.now ≡ encode_utf8 found ++ after.now }
-    requires characters { chars behind.now ≡ found ∷ chars after.now }
-    requires suffix { IsSuffix behind.now after.now }
+    requires first { BeginsWith behind.now found after.now }
     requires comma { found ≢ 44 }
     requires bracket { found ≢ 93 }
     ensures { (inside : List ℕ) → IsBehindExtra inside (chars rest.now)

@@ -1,6 +1,6 @@
 //! A requirement up to its marker.
 
-ghost use Rattle.std.specs.Prelude.{IfOk, IfErr, List, ℕ, ⊤, ◌≡◌, ◌≢◌, ◌∷◌, ◌++◌, [], true, false, encode_utf8};
+ghost use Rattle.std.specs.Prelude.{IfOk, IfErr, List, ℕ, ⊤, ◌≡◌, ◌≢◌, ◌∷◌, [], true, false};
 ghost use Rattle.std.specs.Char.{is_ascii_alphanumeric};
 ghost use Rattle.std.specs.Str.{chars};
 ghost use Rattle.pep508_text.specs.Run.{after_space};
@@ -8,7 +8,8 @@ ghost use Rattle.pep508_text.specs.Suffix.{IsSuffix};
 ghost use Rattle.pep508_urls.specs.Variables.{value_of};
 ghost use Rattle.pep440_specifier.specs.Specifier.{Specifier as One};
 ghost use Rattle.requirement_words.specs.Extras.{IsNameAt};
-ghost use Rattle.requirement_words.specs.Fault.{IsBehindExtras, IsFault, IsRefused, may_follow_name, RefusesAsked, RefusesAskedIn, RefusesHead, RefusesName};
+ghost use Rattle.requirement_words.specs.Fault.{FollowsExtras, IsFault, IsRefused, may_follow_name, RefusesAsked, RefusesAskedIn, RefusesHead, RefusesName};
+ghost use Rattle.requirement_words.specs.First.{BeginsWith};
 ghost use Rattle.requirement_words.specs.Head.{asked_of, IsAsked, IsAskedIn, IsBare, IsHeadOf, IsPlaced, nothing, specifiers};
 
 use crate::extras::read_extras;
@@ -68,9 +69,7 @@ fn name_refusal<'a>(
 ) -> Refusal<Fault<'a>>
     requires start { chars start.now ≡ after_space (chars text.now) }
     requires suffix { IsSuffix text.now start.now }
-    requires first { start.now ≡ encode_utf8 found ++ after.now }
-    requires characters { chars start.now ≡ found ∷ chars after.now }
-    requires rest { IsSuffix start.now after.now }
+    requires first { BeginsWith start.now found after.now }
     requires no_name { is_ascii_alphanumeric found ≡ false }
     ensures { IsRefused (IsFault (value_of surroundings.now) text.now) ⊤ result }
 {
@@ -93,11 +92,8 @@ fn asked_refusal<'a>(
     after: &str,
     surroundings: &Surroundings<'_>,
 ) -> Refusal<Fault<'a>>
-    requires behind { IsBehindExtras text.now (chars behind.now) }
-    requires inside { IsSuffix text.now behind.now }
-    requires first { behind.now ≡ encode_utf8 found ++ after.now }
-    requires characters { chars behind.now ≡ found ∷ chars after.now }
-    requires rest { IsSuffix behind.now after.now }
+    requires behind { FollowsExtras text.now behind.now }
+    requires first { BeginsWith behind.now found after.now }
     requires no_body { may_follow_name found ≡ false }
     ensures { IsRefused (IsFault (value_of surroundings.now) text.now) ⊤ result }
 {
@@ -120,8 +116,7 @@ fn may_follow_name(c: char) -> bool
 
 // Parses the URL after an `@` and any white space.
 fn read_url<'a>(text: &'a str, behind: &'a str) -> Result<(Asked<'a>, &'a str), Refusal<Fault<'a>>>
-    requires at { chars text.now ≡ 64 ∷ chars behind.now }
-    requires suffix { IsSuffix text.now behind.now }
+    requires { BeginsWith text.now 64 behind.now }
     ensures found { IfOk result (λ x. IsAsked (chars text.now) (chars x.1.now) (asked_of x.0)) }
     ensures refused { IfErr result (RefusesAsked text.now) }
     ensures suffix { IfOk result (λ x. IsSuffix text.now x.1.now) }
@@ -143,9 +138,7 @@ fn read_enclosed<'a>(
     text: &'a str,
     behind: &'a str,
 ) -> Result<(Asked<'a>, &'a str), Refusal<Fault<'a>>>
-    requires at { chars text.now ≡ 40 ∷ chars behind.now }
-    requires bytes { text.now ≡ encode_utf8 40 ++ behind.now }
-    requires suffix { IsSuffix text.now behind.now }
+    requires { BeginsWith text.now 40 behind.now }
     ensures found { IfOk result (λ x. IsAsked (chars text.now) (chars x.1.now) (asked_of x.0)) }
     ensures refused { IfErr result (RefusesAsked text.now) }
     ensures suffix { IfOk result (λ x. IsSuffix text.now x.1.now) }
@@ -197,8 +190,7 @@ fn read_nothing<'a>(
     text: &'a str,
     behind: &'a str,
 ) -> Result<(Asked<'a>, &'a str), Refusal<Fault<'a>>>
-    requires behind { IsBehindExtras text.now (chars behind.now) }
-    requires inside { IsSuffix text.now behind.now }
+    requires behind { FollowsExtras text.now behind.now }
     requires bare { IsBare (chars behind.now) }
     ensures found { IfOk result (λ x.
         IsAskedIn (chars text.now) (chars behind.now) (chars x.1.now) (asked_of x.0)) }
@@ -222,8 +214,7 @@ fn read_asked<'a>(
     behind: &'a str,
     surroundings: &Surroundings<'_>,
 ) -> Result<(Asked<'a>, &'a str), Refusal<Fault<'a>>>
-    requires behind { IsBehindExtras text.now (chars behind.now) }
-    requires inside { IsSuffix text.now behind.now }
+    requires { FollowsExtras text.now behind.now }
     ensures found { IfOk result (λ x.
         IsAskedIn (chars text.now) (chars behind.now) (chars x.1.now) (asked_of x.0)) }
     ensures refused { IfErr result

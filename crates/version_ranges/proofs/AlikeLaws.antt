@@ -12,18 +12,10 @@ use Rattle.version_ranges.specs.Alike.{AreAlike, TiesWithNone}
 use Rattle.version_ranges.specs.Point.{Point, point_cmp, point_lt}
 use Rattle.version_ranges.proofs.PartLaws.{point_total}
 
-reversed : (r : Ordering) → r ≡ Less → ordering_reverse r ≡ Greater
-reversed r e = ap ordering_reverse e
-
 not_less : (r : Ordering) → is_gt r ≡ false → is_lt (ordering_reverse r) ≡ false
 not_less Less e = refl
 not_less Equal e = refl
 not_less Greater e = e
-
-lt_is : (r : Ordering) → is_lt r ≡ true → r ≡ Less
-lt_is Less e = refl
-lt_is Equal e = cc e
-lt_is Greater e = cc e
 
 module _ {P : Type 0} (cmp : P → P → Ordering) where
   abbrev pub NoneTies : P → List P → Type 0

@@ -1,5 +1,5 @@
 -- What a `Cuts` is as a function of points.
-use Rattle.std.specs.Prelude.{◌≡◌, ℕ, ◌+◌, Bool, true, false, List, Some, slice_get, String, string_bytes, vec_len}
+use Rattle.std.specs.Prelude.{◌≡◌, ◌≤◌, ℕ, ◌+◌, Bool, true, false, List, Some, slice_get, String, string_bytes, vec_len}
 use Rattle.std.specs.Cmp.Lexicographic.{slice_cmp}
 use Rattle.std.specs.Ordering.{nat_cmp}
 use Rattle.std.specs.declared.cmp.Ordering.{Ordering}
@@ -59,11 +59,17 @@ module _ {T V W : Type 0} {a : _} {b : _} {c : _} where
   abbrev pub piece_sum : Cuts T V a b c → Cuts T W a b c → ℕ
   piece_sum f g = piece_count f + piece_count g
 
-  -- what get reads of the values of one function are the values of another one
-  abbrev pub HasValuesBy :
-      (V → W) → (T → T → Ordering) → (W → W → Bool) → Cuts T V a b c → Cuts T W a b c → Type 0
-  HasValuesBy get cmp same f g =
-      (p : Point T) → same (get (value_of cmp f p)) (value_of cmp g p) ≡ true
+  -- the value of a function at each point is the pair of the values of two functions
+  pub record HasPairs (cmp : T → T → Ordering) (same : V → V → Bool) (same' : W → W → Bool)
+      (pairs : Cuts T (V × W) a b c) (f : Cuts T V a b c) (g : Cuts T W a b c) : Type 0 where
+    pub left : (p : Point T) → same (value_of cmp pairs p).0 (value_of cmp f p) ≡ true
+    pub right : (p : Point T) → same' (value_of cmp pairs p).1 (value_of cmp g p) ≡ true
+
+  -- of functions with so many pieces together, one was made with fewer pieces, by comparisons that
+  -- are fewer still
+  pub record IsMadeWithin (most : ℕ) (pairs : Cuts T (V × W) a b c) (compared : ℕ) : Type 0 where
+    pub pieces : piece_count pairs + 1 ≤ most
+    pub comparisons : compared + 2 ≤ most
 
   -- a function has these values at the points of the pieces of another one, in order
   abbrev pub HasValuesInOrder :

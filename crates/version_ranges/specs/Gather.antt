@@ -1,5 +1,5 @@
 -- The values of a function, each with the set of the points that have it.
-use Rattle.std.specs.Prelude.{◌≡◌, ℕ, Bool, true, not, List, [], ◌∷◌, ◌++◌, None, Some, map, filter, slice_get, eqb, if◌then◌else◌}
+use Rattle.std.specs.Prelude.{◌≡◌, ℕ, Bool, true, not, List, [], ◌∷◌, ◌++◌, None, Some, length, map, filter, slice_get, eqb, if◌then◌else◌}
 use mathlib.Core.Bool.{beq}
 use Rattle.std.specs.List.{list_any}
 use Rattle.std.specs.Borrow.{Bor}
@@ -81,11 +81,12 @@ module _ {T : Type 0} {a : _} {b : _} {c : _} (cmp : T → T → Ordering) where
         (new.cuts.rest.items ≡ (if turns then with_turn old d else old.cuts.rest.items))
 
   -- the sets at two places end or begin at a cut if the places differ, and all else stays
-  abbrev pub AreTurned : {V : Type 0} → ℕ → ℕ → Cut T
-      → List (Bor V × Ranges T a b c) → List (Bor V × Ranges T a b c) → Type 0
-  AreTurned {V = V} from to cut old new = (i : ℕ) (q r : Bor V × Ranges T a b c)
-      → slice_get old i ≡ Some q → slice_get new i ≡ Some r
-      → (r.0 ≡ q.0) × IsTurned (not (beq (eqb i from) (eqb i to))) cut q.1 r.1
+  pub record AreTurned {V : Type 0} (from to : ℕ) (cut : Cut T)
+      (old new : List (Bor V × Ranges T a b c)) : Type 0 where
+    pub len : length new ≡ length old
+    pub each : (i : ℕ) (q r : Bor V × Ranges T a b c)
+        → slice_get old i ≡ Some q → slice_get new i ≡ Some r
+        → (r.0 ≡ q.0) × IsTurned (not (beq (eqb i from) (eqb i to))) cut q.1 r.1
 
 -- each bound of these sets is one of theirs before, or at a clone of the value of a cut
 abbrev pub KeepsSets : {T V : Type 0} {a : _} {b : _} {c : _} → (T → T → Type 0) → Cut T

@@ -110,8 +110,7 @@ fn pass<T: Ord + Clone, V>(
     requires from { from < vec_len pairs.old }
     requires to { to < vec_len pairs.old }
     requires past { ArePast T.cmp pairs.old.items cut.now }
-    ensures len { OnOk result (vec_len pairs.new ≡ vec_len pairs.old) }
-    ensures each { OnOk result (AreTurned T.cmp from to cut.now pairs.old.items pairs.new.items) }
+    ensures turned { OnOk result (AreTurned T.cmp from to cut.now pairs.old.items pairs.new.items) }
     ensures bounds { OnOk result (KeepsSets T.is_clone cut.now pairs.old.items pairs.new.items) }
 {
     if from == to {

@@ -4,9 +4,9 @@ use crate::sweep::Sweep;
 use std::alloc::{AllocError, Global};
 
 impl<T: Ord + Clone, V: Eq + Clone> Cuts<T, V> {
-    ghost use Rattle.version_ranges.specs.Cuts.{piece_count, piece_sum, HasValuesBy};
+    ghost use Rattle.version_ranges.specs.Cuts.{piece_sum, HasPairs, IsMadeWithin};
     ghost use Rattle.std.specs.Set.{ClonesAreEqual};
-    ghost use Rattle.std.specs.Prelude.{◌+◌, ◌≤◌, IfOk};
+    ghost use Rattle.std.specs.Prelude.{IfOk};
     ghost use Rattle.version_ranges.specs.Bounds.{KeepsCutsOfBoth};
 
     /// Returns the function whose value at each point is the pair of the values of both functions,
@@ -20,10 +20,8 @@ impl<T: Ord + Clone, V: Eq + Clone> Cuts<T, V> {
         requires clones { ClonesAreEqual T.eq T.is_clone }
         requires left_clones { ClonesAreEqual V.eq V.is_clone }
         requires right_clones { ClonesAreEqual W.eq W.is_clone }
-        ensures left { IfOk result (λ r. HasValuesBy (λ v. v.0) T.cmp V.eq r.0 self.now) }
-        ensures right { IfOk result (λ r. HasValuesBy (λ v. v.1) T.cmp W.eq r.0 other.now) }
-        ensures pieces { IfOk result (λ r. piece_count r.0 + 1 ≤ piece_sum self.now other.now) }
-        ensures comparisons { IfOk result (λ r. r.1 + 2 ≤ piece_sum self.now other.now) }
+        ensures pairs { IfOk result (λ r. HasPairs T.cmp V.eq W.eq r.0 self.now other.now) }
+        ensures sizes { IfOk result (λ r. IsMadeWithin (piece_sum self.now other.now) r.0 r.1) }
         ensures bounds { IfOk result (λ r. KeepsCutsOfBoth T.is_clone self.now other.now r.0) }
     {
         let most = self

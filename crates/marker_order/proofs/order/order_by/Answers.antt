@@ -7,9 +7,6 @@ order_from-requires g c = (
   omega (arith, c.requires.size),
   (
     c.requires.rules,
-    (
-      c.requires.other_rules,
-      (c.requires.places, (agree_none c.args.table.now c.args.other_table.now, falsehoods_are_equal c.args.table.now c.args.other_table.now c.requires.rules c.requires.other_rules g.row.N)),
-    ),
+    (c.requires.places, record { agreed = agree_none c.args.table.now c.args.other_table.now; equal = falsehoods_are_equal c.args.table.now c.args.other_table.now c.requires.rules.left c.requires.rules.right g.row.N }),
   ),
 )

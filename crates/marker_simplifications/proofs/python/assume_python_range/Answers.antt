@@ -12,7 +12,7 @@ use Rattle.marker_simplifications.proofs.Assumptions.{later_first, children_late
 use Rattle.marker_simplifications.proofs.python.assume_python_range.Goals as goal
 
 pub assume_at_python-requires-clause-after : goal.assume_at_python-requires-clause-after
-assume_at_python-requires-clause-after c = λ n e. later_first n (c.in_default.ensures.other n e)
+assume_at_python-requires-clause-after c = (c.requires.held, λ n e. later_first n (c.in_default.ensures.other n e))
 
 pub assume_all-requires-clause-children : goal.assume_all-requires-clause-children
 assume_all-requires-clause-children c =
@@ -28,7 +28,7 @@ place-requires-clause-children c =
     made_children c.args.nodes.now c.requires.rules lower upper c.requires.point.0 c.requires.point.1 c.args.id c.requires.held c.in-Some.edges.now c.in-Some.ensures.found mid c.in_ok-children-2.ensures.kept
     (λ q. child_at made (piece_of version_cmp c.in_ok-edges.edges q))
     (made_at mid lower upper c.in-Some.edges.now c.in_ok-edges.edges c.in_ok-children.children.items made c.in_ok-edges.ensures.cases.1 (λ q. c.in_ok-children.ensures.value (at_version q))
-    (c.in_ok-children-2.ensures.count ∙ ap length c.deref.ensures) (subst (λ l. AreAssumed mid lower upper l made) c.deref.ensures c.in_ok-children-2.ensures.assumed))
+    (c.in_ok-children-2.ensures.assumed.count ∙ ap length c.deref.ensures) (subst (λ l. AreAssumed mid lower upper l made) c.deref.ensures c.in_ok-children-2.ensures.assumed.assumed))
 
 pub returns-clause-assumed : goal.returns-clause-assumed
 returns-clause-assumed c =
@@ -40,8 +40,8 @@ returns-clause-assumed c =
     (made_is c.args.nodes.now c.requires.rules lower upper c.requires.point.0 c.requires.point.1 c.args.id c.requires.held c.in-Some.edges.now c.in-Some.ensures.found mid c.in_ok-children-2.ensures.kept
     (λ q. child_at made (piece_of version_cmp c.in_ok-edges.edges q))
     (made_at mid lower upper c.in-Some.edges.now c.in_ok-edges.edges c.in_ok-children.children.items made c.in_ok-edges.ensures.cases.1 (λ q. c.in_ok-children.ensures.value (at_version q))
-    (c.in_ok-children-2.ensures.count ∙ ap length c.deref.ensures) (subst (λ l. AreAssumed mid lower upper l made) c.deref.ensures c.in_ok-children-2.ensures.assumed))
-    c.place.new.self c.in_ok-placed.ensures.kept c.in_ok-placed.placed c.in_ok-placed.ensures.id)
+    (c.in_ok-children-2.ensures.assumed.count ∙ ap length c.deref.ensures) (subst (λ l. AreAssumed mid lower upper l made) c.deref.ensures c.in_ok-children-2.ensures.assumed.assumed))
+    c.place.new.self c.in_ok-placed.ensures.kept.nodes c.in_ok-placed.placed c.in_ok-placed.ensures.id)
 
 pub place-requires-clause-trimmed : goal.place-requires-clause-trimmed
 place-requires-clause-trimmed c = c.in_ok-edges.ensures.cases.2 is_trimmed (clones-keep is_trimmed) c.in-Some.ensures.bounds

@@ -1,7 +1,7 @@
 use Rattle.std.proofs.Common.{sym, ap, ◌∙◌, arith}
 use Rattle.std.specs.Option.{option_copied}
 use Rattle.marker_subtrees.proofs.GrowthLaws.{grows}
-use Rattle.marker_subtrees.proofs.WalkLaws.{walks_first, walks_leaf, walks_node, walked, end_past}
+use Rattle.marker_subtrees.proofs.WalkLaws.{walks_first, walks_leaf, walks_node, walked, walked_past, end_past}
 use Rattle.marker_subtrees.proofs.walk.subtrees.Goals as goal
 use Rattle.marker_subtrees.proofs.walk.subtrees.Goals.{in-Some-node+in_ok-add_children, in_default-node}
 
@@ -10,8 +10,8 @@ loop-index-init c =
     walks_first c.args.table.now c.args.id c.new-found.result.keys c.insert.new.self.keys c.new-found.ensures.empty
     (grows c.new-found.result.keys c.insert.new.self.keys c.args.id c.in_ok-insert.ensures.keys)
 
-pub returns-in_default : goal.returns-in_default
-returns-in_default c =
+pub returns-in_default-clause-subtrees : goal.returns-in_default-clause-subtrees
+returns-in_default-clause-subtrees c =
     walked c.args.table.now c.args.id c.loop-index.index c.loop-index.found.keys
     (end_past c.loop-index.found.keys c.loop-index.index (sym (c.in_default.ensures ∙ c.get_index.ensures.key))) c.loop-index.invariant
 
@@ -26,5 +26,8 @@ loop-index-preserved c =
           (sym (c.in-Some.ensures ∙ c.get_index.ensures.key)) (sym c.node.ensures.node ∙ ap option_copied w.in_default-node.is) c.loop-index.invariant)
     ]
 
-pub returns-then-len-most : goal.returns-then-len-most
-returns-then-len-most c = walked c.args.table.now c.args.id c.loop-index.index c.loop-index.found.keys (omega (arith, c.len.ensures.len)) c.loop-index.invariant
+pub returns-then-len-most-clause-subtrees : goal.returns-then-len-most-clause-subtrees
+returns-then-len-most-clause-subtrees c = walked c.args.table.now c.args.id c.loop-index.index c.loop-index.found.keys (omega (arith, c.len.ensures.len)) c.loop-index.invariant
+
+pub returns-else-len-most-clause-more : goal.returns-else-len-most-clause-more
+returns-else-len-most-clause-more c = walked_past c.args.table.now c.args.id c.loop-index.index c.args.most c.loop-index.found.keys (omega (arith, c.len.ensures.len)) c.loop-index.invariant

@@ -1,9 +1,7 @@
 use Rattle.std.proofs.Common.{◌≤◌, ◌<◌, ◌+◌, ◌*◌, Bool}
-use Rattle.marker_diagrams.specs.Diagram.{IsHeld}
 use Rattle.marker_diagrams.specs.Id.{place_of}
 use Rattle.marker_nodes.specs.Pairs.{pairs_left}
-use Rattle.marker_walks.specs.Disjoint.{AreApart, AreDisjoint, TellsDisjoint}
-use Rattle.marker_walks.specs.Looks.{AreUnbounded}
+use Rattle.marker_walks.specs.Disjoint.{AreDisjoint, IsKept, HasBoth, TellsDisjoint}
 use Rattle.marker_walks.proofs.Disjoints.{WalksBut}
 use Rattle.marker_walks.proofs.disjoint.+apart.Given as goal
 
@@ -15,13 +13,10 @@ decreases-all_but_last g l = 3 * (place_of l.a + place_of l.b)
 
 abbrev pub invariant-are_apart-loop-left : goal.invariant-are_apart-loop-left
 invariant-are_apart-loop-left g l = record {
-  apart : AreApart l.nodes l.memory.apart;
-  left : IsHeld l.nodes l.pair.0;
-  right : IsHeld l.nodes l.pair.1;
-  left_node : 0 < place_of l.pair.0;
-  right_node : 0 < place_of l.pair.1;
+  memory : IsKept l.nodes l.fn.memory.looks l.memory.looks l.memory.apart;
+  ids : HasBoth l.nodes l.pair.0 l.pair.1;
+  nodes : (0 < place_of l.pair.0) × (0 < place_of l.pair.1);
   below : place_of l.pair.0 + place_of l.pair.1 ≤ place_of l.fn.a + place_of l.fn.b;
-  unbounded : AreUnbounded l.fn.memory.looks → AreUnbounded l.memory.looks;
   rest : (answer : Bool) → TellsDisjoint l.nodes l.pair.0 l.pair.1 answer → TellsDisjoint l.nodes l.fn.a l.fn.b answer;
 }
 
@@ -30,8 +25,7 @@ decreases-are_apart-loop-left g l = place_of l.pair.0 + place_of l.pair.1
 
 abbrev pub invariant-all_but_last-loop-left : goal.invariant-all_but_last-loop-left
 invariant-all_but_last-loop-left g l = record {
-  apart : AreApart l.nodes l.memory.apart;
-  unbounded : AreUnbounded l.fn.memory.looks → AreUnbounded l.memory.looks;
+  memory : IsKept l.nodes l.fn.memory.looks l.memory.looks l.memory.apart;
   walk : WalksBut l.nodes l.a l.b l.last (pairs_left l.left-iterator);
 }
 
@@ -40,12 +34,9 @@ decreases-remember_way g l = 3 * (place_of l.a + place_of l.b) + 1
 
 abbrev pub invariant-remember_way-loop-left : goal.invariant-remember_way-loop-left
 invariant-remember_way-loop-left g l = record {
-  apart : AreApart l.nodes l.memory.apart;
-  unbounded : AreUnbounded l.fn.memory.looks → AreUnbounded l.memory.looks;
-  left : IsHeld l.nodes l.pair.0;
-  right : IsHeld l.nodes l.pair.1;
-  left_node : 0 < place_of l.pair.0;
-  right_node : 0 < place_of l.pair.1;
+  memory : IsKept l.nodes l.fn.memory.looks l.memory.looks l.memory.apart;
+  ids : HasBoth l.nodes l.pair.0 l.pair.1;
+  nodes : (0 < place_of l.pair.0) × (0 < place_of l.pair.1);
   below : place_of l.pair.0 + place_of l.pair.1 ≤ place_of l.fn.a + place_of l.fn.b;
   disjoint : AreDisjoint l.nodes l.pair.0 l.pair.1;
 }

@@ -3,4 +3,4 @@ use Rattle.marker_walks.proofs.Disjoints.{nothing_apart}
 use Rattle.marker_walks.proofs.disjoint.walk.Goals as goal
 
 pub are_apart-requires : goal.are_apart-requires
-are_apart-requires g c = (omega (arith, c.requires.size), (c.requires.rules, (c.requires.a, (c.requires.b, (c.requires.places, nothing_apart c.args.nodes.now g.row.N)))))
+are_apart-requires g c = (omega (arith, c.requires.size), (c.requires.ids, record { places = c.requires.places; apart = nothing_apart c.args.nodes.now g.row.N }))

@@ -13,13 +13,13 @@ use Rattle.requirement_words.proofs.extras.extra_fault.Goals as goal
 pub returns-then-is_leading_comma : goal.returns-then-is_leading_comma
 returns-then-is_leading_comma c = λ inside listed.
     let comma = c.is_leading_comma.ensures.yes c.if-is_leading_comma.true in
-    fault_at_first (FindsInExtras (91 ∷ inside)) LeadingComma c.args.found (suffix_self _ c.utf8.here) c.requires.suffix c.requires.first
+    fault_at_first (FindsInExtras (91 ∷ inside)) LeadingComma c.args.found (suffix_self _ c.utf8.here) c.requires.first.suffix c.requires.first.bytes
     c.at.ensures.kind c.at.ensures.place c.before-then-is_leading_comma.ensures.piece c.before-then-is_leading_comma.ensures.left
     (λ e. leading_comma (ap chars (sym c.before-then-is_leading_comma.ensures.piece) ∙ listed_first listed comma.1) (e ∙ ap encode_utf8 comma.0 ∙ encode_ascii 44 (lit< tt)))
 
 pub returns : goal.returns
 returns c = λ inside listed.
-    fault_at_first (FindsInExtras (91 ∷ inside)) NoExtra c.args.found (suffix_self _ c.utf8.here) c.requires.suffix c.requires.first
+    fault_at_first (FindsInExtras (91 ∷ inside)) NoExtra c.args.found (suffix_self _ c.utf8.here) c.requires.first.suffix c.requires.first.bytes
     c.at-2.ensures.kind c.at-2.ensures.place c.before-2.ensures.piece c.before-2.ensures.left
     (λ e. no_extra listed (ap chars (sym c.before-2.ensures.piece)) (record {
       c = c.args.found;

@@ -13,16 +13,16 @@ returns-then-nameless c =
       fault_at_run (FindsInHead value c.args.text.now) UrlWithoutName c.skip_space-start.ensures.suffix c.split_run.ensures.suffix.utf8 c.split_run.ensures.joined
           c.at.ensures.kind c.at.ensures.place c.at_run.ensures.piece c.at_run.ensures.left
           (url_there value c.skip_space-start.ensures.rest c.split_run.ensures.joined c.split_run.ensures.bytes
-          (is_broken _ _ _ _ c.requires.behind c.requires.characters c.requires.no_body) (c.in-Ok.ensures.yes c.if-nameless.true)),
+          (is_broken _ _ _ _ c.requires.behind.extras c.requires.first.characters c.requires.no_body) (c.in-Ok.ensures.yes c.if-nameless.true)),
       tt,
     )
 
 pub returns : goal.returns
 returns c =
     let value = value_of c.args.surroundings.now in (
-      fault_at_first (FindsInHead value c.args.text.now) NoBody c.args.found c.requires.inside c.requires.rest c.requires.first
+      fault_at_first (FindsInHead value c.args.text.now) NoBody c.args.found c.requires.behind.inside c.requires.first.suffix c.requires.first.bytes
           c.at-2.ensures.kind c.at-2.ensures.place c.before-2.ensures.piece c.before-2.ensures.left
-          (no_body_there value c.skip_space-start.result.now c.args.found c.skip_space-start.ensures.rest c.split_run.ensures.bytes c.requires.behind c.before-2.ensures.piece c.requires.no_body
+          (no_body_there value c.skip_space-start.result.now c.args.found c.skip_space-start.ensures.rest c.split_run.ensures.bytes c.requires.behind.extras c.before-2.ensures.piece c.requires.no_body
           (λ n. true≢false (sym (c.in-Ok.ensures.no n) ∙ c.if-nameless.false))),
       tt,
     )

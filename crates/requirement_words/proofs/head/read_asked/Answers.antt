@@ -31,5 +31,5 @@ returns-in-Ok-clause-placed c = λ piece e. suffix_then c.requires.inside (c.in-
 
 pub returns-in-Err-clause-refused : goal.returns-in-Err-clause-refused
 returns-in-Err-clause-refused c =
-    refused_behind (FindsInAsked (chars c.args.behind.now)) (FindsInHead (value_of c.args.surroundings.now) c.args.text.now) _ _ _ _ _ c.requires.inside (λ k p b f. asked c.requires.behind f)
+    refused_behind (FindsInAsked (chars c.args.behind.now)) (FindsInHead (value_of c.args.surroundings.now) c.args.text.now) _ _ _ _ _ c.requires.inside (λ k p b f. asked c.requires.extras f)
     (not_in _ _) c.in-Err.ensures.refused

@@ -21,20 +21,19 @@ returns-in-Err-read_extras-clause-refused c =
     (subst (λ (x : List ℕ). (o : List ℕ) (ns : List (List ℕ)) → ¬ IsExtras x o ns) c.skip_space.ensures.rest h))
     c.in-Err-read_extras.ensures.refused
 
-pub read_asked-requires-clause-behind : goal.read_asked-requires-clause-behind
-read_asked-requires-clause-behind c = record {
-  after_name = chars c.in-Ok.read.1.now;
-  after_extras = chars c.in-Ok-read_extras.read.1.now;
-  name = c.in-Ok.read.0;
-  extras = c.in-Ok-read_extras.read.0.items;
-  named = c.in-Ok.ensures.found;
-  extras_are = subst (λ (x : List ℕ). IsExtras x (chars c.in-Ok-read_extras.read.1.now) c.in-Ok-read_extras.read.0.items) c.skip_space.ensures.rest c.in-Ok-read_extras.ensures.found;
-  behind_is = sym c.skip_space-2.ensures.rest;
+pub read_asked-requires : goal.read_asked-requires
+read_asked-requires c = record {
+  extras = record {
+    after_name = chars c.in-Ok.read.1.now;
+    after_extras = chars c.in-Ok-read_extras.read.1.now;
+    name = c.in-Ok.read.0;
+    extras = c.in-Ok-read_extras.read.0.items;
+    named = c.in-Ok.ensures.found;
+    extras_are = subst (λ (x : List ℕ). IsExtras x (chars c.in-Ok-read_extras.read.1.now) c.in-Ok-read_extras.read.0.items) c.skip_space.ensures.rest c.in-Ok-read_extras.ensures.found;
+    behind_is = sym c.skip_space-2.ensures.rest;
+  };
+  inside = suffix_then c.in-Ok.ensures.suffix (suffix_then c.skip_space.ensures.suffix (suffix_then c.in-Ok-read_extras.ensures.suffix c.skip_space-2.ensures.suffix));
 }
-
-pub read_asked-requires-clause-inside : goal.read_asked-requires-clause-inside
-read_asked-requires-clause-inside c =
-    suffix_then c.in-Ok.ensures.suffix (suffix_then c.skip_space.ensures.suffix (suffix_then c.in-Ok-read_extras.ensures.suffix c.skip_space-2.ensures.suffix))
 
 pub returns-in-Ok-read_asked-clause-found : goal.returns-in-Ok-read_asked-clause-found
 returns-in-Ok-read_asked-clause-found c = record {

@@ -12,7 +12,7 @@ returns-then-is_archive-clause-refused c = λ value.
     let is = c.is_archive.ensures.yes c.if-is_archive.true in (
       fault_at_run (FindsInHead value c.args.text.now) ArchiveWithoutName c.skip_space-start.ensures.suffix c.split_run.ensures.suffix.utf8 c.split_run.ensures.joined
           c.at.ensures.kind c.at.ensures.place c.at_run.ensures.piece c.at_run.ensures.left
-          (archive_there value c.skip_space-start.ensures.rest c.split_run.ensures.joined c.split_run.ensures.bytes c.requires.behind c.requires.bare is),
+          (archive_there value c.skip_space-start.ensures.rest c.split_run.ensures.joined c.split_run.ensures.bytes c.requires.behind.extras c.requires.bare is),
       not_asked _ _ c.requires.bare (subst IsArchive (written_is _ _ _ c.skip_space-start.ensures.rest c.split_run.ensures.bytes) is),
     )
 

@@ -10,7 +10,7 @@ use Rattle.requirement_words.proofs.head.read_url.Goals as goal
 
 pub returns-in-Some-clause-found : goal.returns-in-Some-clause-found
 returns-in-Some-clause-found c =
-    url_body _ _ _ _ _ _ _ c.requires.at c.skip_space-place.ensures.rest c.split_url.ensures.bytes c.in-Some.ensures.characters c.split_url.ensures.rest
+    url_body _ _ _ _ _ _ _ c.requires.characters c.skip_space-place.ensures.rest c.split_url.ensures.bytes c.in-Some.ensures.characters c.split_url.ensures.rest
 
 pub returns-in-Some-clause-suffix : goal.returns-in-Some-clause-suffix
 returns-in-Some-clause-suffix c = suffix_then c.requires.suffix (suffix_then c.skip_space-place.ensures.suffix c.split_url.ensures.suffix)
@@ -29,6 +29,6 @@ pub returns-in-None-clause-refused : goal.returns-in-None-clause-refused
 returns-in-None-clause-refused c = (
   fault_before (FindsInAsked (chars c.args.text.now)) NoUrl (suffix_then c.requires.suffix c.skip_space-place.ensures.suffix) c.skip_space-place.utf8
       c.at.ensures.kind c.at.ensures.place c.before-in-None.ensures.piece c.before-in-None.ensures.left
-      (no_url_there _ _ c.requires.at c.skip_space-place.ensures.rest c.before-in-None.ensures.piece (empty_url BehindName (chars c.skip_space-place.result.now) _ c.split_url.ensures.bytes c.in-None.ensures.bytes)),
-  no_url _ _ _ _ c.requires.at c.skip_space-place.ensures.rest c.split_url.ensures.bytes c.in-None.ensures.bytes,
+      (no_url_there _ _ c.requires.characters c.skip_space-place.ensures.rest c.before-in-None.ensures.piece (empty_url BehindName (chars c.skip_space-place.result.now) _ c.split_url.ensures.bytes c.in-None.ensures.bytes)),
+  no_url _ _ _ _ c.requires.characters c.skip_space-place.ensures.rest c.split_url.ensures.bytes c.in-None.ensures.bytes,
 )

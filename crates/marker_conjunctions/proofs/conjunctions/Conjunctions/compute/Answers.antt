@@ -12,7 +12,7 @@ use Rattle.marker_conjunctions.proofs.conjunctions.Conjunctions.compute.Goals as
 pub invariant_of-self-2 : goal.invariant_of-self-2
 invariant_of-self-2 c =
     let old = c.args.self.now.memo.entries in
-    let none = open_none old (c.args.a, c.args.b) c.requires.unsettled in
+    let none = open_none old (c.args.a, c.args.b) c.requires.due.unsettled in
     let pushed : c.push.new.self.items ≡ c.reserve.new.self.items ++ c.max-reach.result ∷ [] = chosen _ _ _ _ c.push.ensures.items (ap is_ok c.unwrap.ensures) in
     record {
       reached = pushed ∙ ap (λ (l : List ℕ). l ++ c.max-reach.result ∷ []) c.in_ok-reserve.ensures.items
@@ -21,28 +21,29 @@ invariant_of-self-2 c =
           c.known.ensures c.reach-before.ensures c.height.ensures c.height-2.ensures c.height-3.ensures c.max.ensures c.max-2.ensures c.max-reach.ensures);
     }
 
-pub returns-clause-rules : goal.returns-clause-rules
-returns-clause-rules c =
-    let kept = c.in_ok-id.ensures.kept in
-    let none = open_none c.args.self.now.memo.entries (c.args.a, c.args.b) c.requires.unsettled in
-    known_more (contents c.place.new.nodes c.args.self.now) c.args.a c.args.b c.in_ok-id.id _ _ c.in_ok-id.ensures.rules (held_kept c.args.nodes.now c.place.new.nodes c.args.a kept c.requires.a)
-    (held_kept c.args.nodes.now c.place.new.nodes c.args.b kept c.requires.b) c.in_ok-id.ensures.and (let u = c.in_ok-insert.ensures.updates in u.0)
-    (added_reach c.args.self.now.memo.entries c.insert.new.self.entries (c.args.a, c.args.b) c.in_ok-id.id none c.in_ok-insert.ensures.entries)
-
 pub returns-clause-kept : goal.returns-clause-kept
 returns-clause-kept c =
-    let none = open_none c.args.self.now.memo.entries (c.args.a, c.args.b) c.requires.unsettled in
-    record { nodes = c.in_ok-id.ensures.kept; memo = added_first c.args.self.now.memo.entries c.insert.new.self.entries (c.args.a, c.args.b) c.in_ok-id.id none c.in_ok-insert.ensures.entries }
+    let kept = c.in_ok-id.ensures.kept in
+    let none = open_none c.args.self.now.memo.entries (c.args.a, c.args.b) c.requires.due.unsettled in
+    record {
+      rules = known_more (contents c.place.new.nodes c.args.self.now) c.args.a c.args.b c.in_ok-id.id _ _ c.in_ok-id.ensures.rules (held_kept c.args.nodes.now c.place.new.nodes c.args.a kept c.requires.held.left)
+          (held_kept c.args.nodes.now c.place.new.nodes c.args.b kept c.requires.held.right) c.in_ok-id.ensures.and (let u = c.in_ok-insert.ensures.updates in u.0)
+          (added_reach c.args.self.now.memo.entries c.insert.new.self.entries (c.args.a, c.args.b) c.in_ok-id.id none c.in_ok-insert.ensures.entries);
+      kept = record { nodes = kept; memo = added_first c.args.self.now.memo.entries c.insert.new.self.entries (c.args.a, c.args.b) c.in_ok-id.id none c.in_ok-insert.ensures.entries };
+      remembers = remembered c.args.self.now.memo.entries c.insert.new.self.entries c.args.a c.args.b c.in_ok-id.id (let u = c.in_ok-insert.ensures.updates in u.0);
+    }
 
 pub returns-clause-spends : goal.returns-clause-spends
 returns-clause-spends c =
     let x = c.saturating_add-self.ensures in
     spends_more (contents c.args.nodes.now c.args.self.now) (contents c.place.new.nodes c.args.self.now) _ c.args.a c.args.b c.in_ok-id.id
     (spends_nothing (contents c.args.nodes.now c.args.self.now) c.place.new.nodes (place_of c.args.a + place_of c.args.b) c.args.a c.args.b)
-    (open_none c.args.self.now.memo.entries (c.args.a, c.args.b) c.requires.unsettled) (let u = c.in_ok-insert.ensures.updates in u.0) (omega (arith, x)) (omega (arith, x))
+    (open_none c.args.self.now.memo.entries (c.args.a, c.args.b) c.requires.due.unsettled) (let u = c.in_ok-insert.ensures.updates in u.0) (omega (arith, x)) (omega (arith, x))
 
 pub returns-clause-known : goal.returns-clause-known
-returns-clause-known c = entered c.args.self.now.memo.entries c.insert.new.self.entries c.args.a c.args.b c.in_ok-id.id (let u = c.in_ok-insert.ensures.updates in u.0)
-
-pub returns-clause-remembers : goal.returns-clause-remembers
-returns-clause-remembers c = remembered c.args.self.now.memo.entries c.insert.new.self.entries c.args.a c.args.b c.in_ok-id.id (let u = c.in_ok-insert.ensures.updates in u.0)
+returns-clause-known c =
+    let x = c.saturating_add-self.ensures in
+    record {
+      known = entered c.args.self.now.memo.entries c.insert.new.self.entries c.args.a c.args.b c.in_ok-id.id (let u = c.in_ok-insert.ensures.updates in u.0);
+      counted = λ below. omega (arith, x, below);
+    }

@@ -8,21 +8,21 @@ pub loop-left-init : goal.loop-left-init
 loop-left-init c =
     let s = c.side_by_side.result in
     rw (c.into_iter-left-iterator.ensures.into_iter_gives, c.new-children.ensures.items)
-    (walk_from c.args.nodes.now c.args.self.now.memo.entries c.args.a c.args.b (variable s) (pair_at s) (piece s) (count s) (λ v. signed_branches c.args.nodes.now _ c.args.a c.args.b _ _ c.negate-unsigned_a.ensures c.negate-unsigned_b.ensures v _ (c.side_by_side.ensures.children v)) c.args.pending.now.items _ c.requires.a c.requires.b
+    (walk_from c.args.nodes.now c.args.self.now.memo.entries c.args.a c.args.b (variable s) (pair_at s) (piece s) (count s) (λ v. signed_branches c.args.nodes.now _ c.args.a c.args.b _ _ c.negate-unsigned_a.ensures c.negate-unsigned_b.ensures v _ (c.side_by_side.ensures.children v)) c.args.pending.now.items _ c.requires.held.left c.requires.held.right
     c.pairs-left-items.ensures.count c.pairs-left-items.ensures.value c.pairs-left-items.ensures.inhabited)
 
 pub loop-left-preserved-in-Continue-1 : goal.loop-left-preserved-in-Continue-1
 loop-left-preserved-in-Continue-1 c =
     let s = c.side_by_side.result in
-    walk_known c.args.nodes.now c.args.self.now.memo.entries c.args.a c.args.b (variable s) (pair_at s) (piece s) (count s) (signed_first c.args.nodes.now _ c.args.a c.args.b _ _ c.negate-unsigned_a.ensures c.negate-unsigned_b.ensures c.side_by_side.ensures.first) c.requires.rules.nodes c.requires.a c.requires.b
+    walk_known c.args.nodes.now c.args.self.now.memo.entries c.args.a c.args.b (variable s) (pair_at s) (piece s) (count s) (signed_first c.args.nodes.now _ c.args.a c.args.b _ _ c.negate-unsigned_a.ensures c.negate-unsigned_b.ensures c.side_by_side.ensures.first) c.requires.held.rules.nodes c.requires.held.left c.requires.held.right
     c.args.pending.now.items c.loop-left.pending.items _ _ c.loop-left.next c.loop-left.children.items _ c.in-Some.ensures.steps c.loop-left.invariant
     c.negate-left.result c.negate-right.result c.negate-left.ensures c.negate-right.ensures
-    c.in-Some-look_up.child c.push.new.self.items c.in_ok-push-in-Some-look_up.ensures.ok (c.in-Some-look_up.ensures.and c.args.nodes.now c.requires.rules)
+    c.in-Some-look_up.child c.push.new.self.items c.in_ok-push-in-Some-look_up.ensures.ok (c.in-Some-look_up.ensures.and c.args.nodes.now c.requires.held.rules)
 
 pub loop-left-preserved : goal.loop-left-preserved
 loop-left-preserved c =
     let s = c.side_by_side.result in
-    walk_open c.args.nodes.now c.args.self.now.memo.entries c.args.a c.args.b (variable s) (pair_at s) (piece s) (count s) (signed_first c.args.nodes.now _ c.args.a c.args.b _ _ c.negate-unsigned_a.ensures c.negate-unsigned_b.ensures c.side_by_side.ensures.first) c.requires.rules.nodes c.requires.a c.requires.b
+    walk_open c.args.nodes.now c.args.self.now.memo.entries c.args.a c.args.b (variable s) (pair_at s) (piece s) (count s) (signed_first c.args.nodes.now _ c.args.a c.args.b _ _ c.negate-unsigned_a.ensures c.negate-unsigned_b.ensures c.side_by_side.ensures.first) c.requires.held.rules.nodes c.requires.held.left c.requires.held.right
     c.args.pending.now.items c.loop-left.pending.items _ _ c.loop-left.next c.loop-left.children.items _ c.in-Some.ensures.steps c.loop-left.invariant
     c.negate-left.result c.negate-right.result c.negate-left.ensures c.negate-right.ensures
     c.push-in-None-look_up.new.self.items c.in_ok-push-in-None-look_up.ensures.items c.in-None-look_up.ensures.unsettled

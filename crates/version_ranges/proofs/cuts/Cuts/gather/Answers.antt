@@ -1,4 +1,4 @@
-use Rattle.std.proofs.Common.{arith, ap, refl, rules, sym, ◌∙◌}
+use Rattle.std.proofs.Common.{arith, ap, refl, rules, ◌∙◌}
 use Rattle.std.specs.List.{list_all}
 use Rattle.std.proofs.lemmas.Option.{slice_get_within}
 use Rattle.version_ranges.specs.Bounds.{all_bounds}
@@ -39,7 +39,7 @@ loop-step-preserved g c = record {
       c.loop-step.step-index c.step-item.result c.loop-step-test.true c.step-item.is c.constant-in-loop-step.result c.constant-in-loop-step.ensures.first c.constant-in-loop-step.ensures.rest _ c.loop-step.places.keys
       c.loop-step.pairs.items c.place_of-in-loop-step.new.pairs.items c.loop-step.current c.loop-step.invariant.kept c.in_ok-place.ensures.pairs refl
       c.place_of-in-loop-step.new.places.keys c.pass.new.pairs.items c.in_ok-place.place c.in_ok-place.ensures.keys c.in_ok-place.ensures.found
-      (sym c.pass.new.pairs.ok.0 ∙ c.in_ok-pass.ensures.len ∙ c.place_of-in-loop-step.new.pairs.ok.0) c.in_ok-pass.ensures.each;
+      c.in_ok-pass.ensures.turned.len c.in_ok-pass.ensures.turned.each;
   bounds = λ test k h.
       let here = passes_at_place (λ s. test s.0.value) c.deref-step-items.result.now c.loop-step.step-index c.step-item.result c.loop-step-test.true c.step-item.is (ap (passes (λ d. test d.value)) c.deref-step-items.ensures.value ∙ h) in
       let joined = joined_passes (λ q. all_bounds test q.1) _ c.loop-step.pairs.items _ _ c.in_ok-place.ensures.pairs (c.loop-step.invariant.bounds test k h) (ap (passes (λ d. test d.value)) c.constant-in-loop-step.ensures.rest) in

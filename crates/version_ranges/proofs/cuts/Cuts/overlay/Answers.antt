@@ -39,21 +39,17 @@ invariant_of-result g c =
     let end = sides_end g.met.V.Eq.laws g.met.W.Eq.laws o _ _ _ c.loop-cut.invariant.alike c.in_default.ensures.end in
     record { ascending = sides_ascend g.met.V.Eq.laws g.met.W.Eq.laws o _ _ _ _ _ end c.args.self.now.ascending c.args.other.now.ascending }
 
-pub returns-clause-left : goal.returns-clause-left
-returns-clause-left g c =
+pub returns-clause-pairs : goal.returns-clause-pairs
+returns-clause-pairs g c =
     let f = c.args.self.now in
     let h = c.args.other.now in
     let end = sides_end g.met.V.Eq.laws g.met.W.Eq.laws (cut_total g.met.T.Ord.total) _ _ _ c.loop-cut.invariant.alike c.in_default.ensures.end in
-    point_left g.met.T.Ord.total g.met.V.Eq.laws g.met.W.Eq.laws f.first h.first (c.in_ok-clone.field-0, c.in_ok-clone-2.field-0) f.rest.items h.rest.items c.loop-cut.rest.items
-    (c.requires.left_clones _ _ c.in_ok-clone.ensures.cases) (c.requires.right_clones _ _ c.in_ok-clone-2.ensures.cases) end
-
-pub returns-clause-right : goal.returns-clause-right
-returns-clause-right g c =
-    let f = c.args.self.now in
-    let h = c.args.other.now in
-    let end = sides_end g.met.V.Eq.laws g.met.W.Eq.laws (cut_total g.met.T.Ord.total) _ _ _ c.loop-cut.invariant.alike c.in_default.ensures.end in
-    point_right g.met.T.Ord.total g.met.V.Eq.laws g.met.W.Eq.laws f.first h.first (c.in_ok-clone.field-0, c.in_ok-clone-2.field-0) f.rest.items h.rest.items c.loop-cut.rest.items
-    (c.requires.left_clones _ _ c.in_ok-clone.ensures.cases) (c.requires.right_clones _ _ c.in_ok-clone-2.ensures.cases) end
+    let left = c.requires.left_clones _ _ c.in_ok-clone.ensures.cases in
+    let right = c.requires.right_clones _ _ c.in_ok-clone-2.ensures.cases in
+    record {
+      left = point_left g.met.T.Ord.total g.met.V.Eq.laws g.met.W.Eq.laws f.first h.first (c.in_ok-clone.field-0, c.in_ok-clone-2.field-0) f.rest.items h.rest.items c.loop-cut.rest.items left right end;
+      right = point_right g.met.T.Ord.total g.met.V.Eq.laws g.met.W.Eq.laws f.first h.first (c.in_ok-clone.field-0, c.in_ok-clone-2.field-0) f.rest.items h.rest.items c.loop-cut.rest.items left right end;
+    }
 
 pub returns-clause-bounds : goal.returns-clause-bounds
 returns-clause-bounds g c = λ test k h m. (c.loop-cut.invariant.bounds test k h m).0

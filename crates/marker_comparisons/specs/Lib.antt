@@ -1,3 +1,0 @@
-pub mod Expression
-pub mod Found
-pub mod ValueSet
