@@ -1,7 +1,8 @@
 //! Sources of bytes.
 
-ghost use Rattle.std.specs.Prelude.{◌≡◌, ◌<◌, ◌≤◌, ◌-◌, ◌^◌, ℕ, List, Option, Bool, false, IsTrue, IfOk, OnErr, OnOk, length};
+ghost use Rattle.std.specs.Prelude.{◌≡◌, ◌≤◌, ◌-◌, ◌^◌, ℕ, List, Option, Bool, false, IsTrue, IfOk, OnErr, OnOk, length};
 ghost use Rattle.std.specs.Io.KnownBytes.{ReadConsumes};
+ghost use Rattle.line_server.specs.Ports.{TakesRead};
 
 use std::io::Read;
 
@@ -28,9 +29,7 @@ pub trait Source {
         ensures count { IfOk result (λ n. n ≤ length buffer.new) }
         ensures bytes { ReadConsumes (remaining self.old) (remaining self.new) result buffer.new }
 
-        ensures fewer { reads_left self.new ≡ reads_left self.old - 1 }
-        ensures allowed { OnOk result (0 < reads_left self.old) }
-        ensures bounded { OnOk result (reads_left self.old < 2 ^ 64) }
+        ensures reads { TakesRead (reads_left self.old) (reads_left self.new) result }
 
         ensures sound { OnOk result (has_failed self.new ≡ has_failed self.old) }
         ensures failed { OnErr result (IsTrue (has_failed self.new)) };

@@ -7,7 +7,7 @@ use Rattle.marker_environment.specs.Valuation.{Valuation}
 use Rattle.marker_simplifications.specs.Extras.{grant}
 use Rattle.marker_simplifications.specs.Python.{Assumes, require}
 use Rattle.marker_walks.specs.Possible.{is_listed}
-use Rattle.marker_readable.specs.Text.{IsTextOf}
+use Rattle.marker_view.specs.Text.{IsTextOf}
 use Rattle.marker_answers.specs.declared.simplifying.Granted.{Granted}
 use Rattle.marker_answers.specs.declared.simplifying.MarkerAnswer.{MarkerAnswer}
 use Rattle.marker_answers.specs.declared.simplifying.MarkerAnswer.TheVariants.{Always, Never, Text}

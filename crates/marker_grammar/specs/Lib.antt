@@ -9,3 +9,5 @@ pub mod Flat
 pub mod HasTest
 pub mod Refused
 pub mod Valid
+pub mod Text
+pub mod Meaning

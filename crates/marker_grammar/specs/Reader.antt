@@ -11,7 +11,7 @@ use Rattle.marker_grammar.specs.declared.reader.Wanted.{Wanted}
 use Rattle.marker_grammar.specs.declared.reader.Wanted.TheVariants as wanted
 use Rattle.marker_grammar.specs.Formula.{Formula}
 use Rattle.marker_grammar.specs.Reading.{Level, Before, After}
-use Rattle.marker_grammar.specs.Postfix.{stack_of, top_of, IsPostfix}
+use Rattle.marker_grammar.specs.Postfix.{stack_of, top_of, IsPostfix, IsWhole}
 use Rattle.marker_grammar.specs.Valid.{IsValid}
 use Rattle.marker_grammar.specs.Refused.{OpensMarker, IsTextFault}
 use Rattle.marker_grammar.specs.Stack.{top_if, below, count}
@@ -75,18 +75,26 @@ MayRead wanted.Rest r = After (outer_in r) (ors_in r) (ands_in r) (chars r.rest.
 abbrev pub LeavesReadings : Wanted → Reader → Wanted → Reader → Type 0
 LeavesReadings v r w s = (f : Option Formula) (k : Kinds) → MayRead v r f k ↔ MayRead w s f k
 
--- the same of what follows an atom, unless the text ends there
-abbrev pub LeavesReadingsOn : Reader → Reader → Option Wanted → Type 0
-LeavesReadingsOn r s next = IfSome next (λ w. LeavesReadings wanted.Rest r w s)
+-- less of the same text is left
+pub record Advances (r s : Reader) : Type 0 where
+  pub text : s.text.now ≡ r.text.now
+  pub shorter : length s.rest.now < length r.rest.now
 
--- less of the text is left behind what follows an atom
-abbrev pub ShortensOn : Reader → Reader → Option Wanted → Type 0
-ShortensOn r s next = IfSome next (λ _. length s.rest.now < length r.rest.now)
+-- the same of what follows an atom, unless the text ends there
+abbrev pub AdvancesOn : Reader → Reader → Option Wanted → Type 0
+AdvancesOn r s next = IfSome next (λ _. Advances r s)
 
 -- one reading is left: the formula and the kinds that a reader has at the end of the text
 abbrev pub LeavesOne : Reader → Reader → Type 0
 LeavesOne r s = (f : Option Formula) (k : Kinds) →
     MayRead wanted.Rest r f k ↔ ((formula_in s ≡ f) × (s.kinds.items ≡ k))
+
+-- the same text has ended: one reading is left, and the tokens are a whole and valid formula
+pub record HasEnded (r s : Reader) : Type 0 where
+  pub text : s.text.now ≡ r.text.now
+  pub one : LeavesOne r s
+  pub whole : IsWhole s.tokens.items
+  pub valid : IsValid s.tokens.items
 
 -- the rest of a text may end it, with these lists open
 abbrev pub EndsAtom : Option Formula → Option Formula → List ℕ → Kinds → List Level → Type 0
@@ -113,13 +121,14 @@ AllOpen May (g ∷ groups) stack =
 abbrev pub IsOpened : Wanted → Reader → Type 0
 IsOpened w r = AllOpen (MayEnd w r) (reverse r.groups.items) (under r.has_or r.has_and (stack_in r))
 
--- a step keeps each parenthesis open
-abbrev pub KeepsOpened : Wanted → Reader → Wanted → Reader → Type 0
-KeepsOpened v r w s = IsOpened v r → IsOpened w s
+-- a step leaves the same readings, and keeps each parenthesis open
+pub record Continues (v : Wanted) (r : Reader) (w : Wanted) (s : Reader) : Type 0 where
+  pub readings : LeavesReadings v r w s
+  pub opened : IsOpened v r → IsOpened w s
 
 -- the same of what follows an atom, unless the text ends there
-abbrev pub KeepsOpenedOn : Reader → Reader → Option Wanted → Type 0
-KeepsOpenedOn r s next = IfSome next (λ w. KeepsOpened wanted.Rest r w s)
+abbrev pub ContinuesOn : Reader → Reader → Option Wanted → Type 0
+ContinuesOn r s next = IfSome next (λ w. Continues wanted.Rest r w s)
 
 -- why the reader stopped: memory ran out, or there is a fault of the text, and then no reading is
 -- left

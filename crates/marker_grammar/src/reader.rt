@@ -1,7 +1,7 @@
 //! The parser of marker texts. It keeps open parentheses, and what their `or` and `and` have so
 //! far, in a list of its own, and is not recursive.
 
-ghost use Rattle.std.specs.Prelude.{◌≡◌, ◌≢◌, ◌<◌, ◌++◌, ◌∷◌, [], Some, slice_get, IfOk, IfSome, IfNone, IfErr, OnOk, length};
+ghost use Rattle.std.specs.Prelude.{◌≡◌, ◌≢◌, ◌++◌, ◌∷◌, [], Some, slice_get, IfOk, IfSome, IfNone, IfErr, OnOk};
 ghost use Rattle.std.specs.Str.{chars};
 ghost use Rattle.marker_words.specs.Fault.{HasNoSpace};
 ghost use Rattle.marker_words.specs.Keyword.{NoKeyword};
@@ -81,19 +81,15 @@ fn open<'a>(groups: &mut Vec<Group<'a>>, group: Group<'a>) -> Result<(), AllocEr
 }
 
 impl<'a> Reader<'a> {
-    ghost use Rattle.marker_grammar.specs.Postfix.{IsWhole};
-    ghost use Rattle.marker_grammar.specs.Valid.{IsValid};
     ghost use Rattle.marker_grammar.specs.Reader as half;
-    ghost use Rattle.marker_grammar.specs.Reader.{IsSound, KeepsOpened, KeepsOpenedOn, LeavesReadings, LeavesReadingsOn, LeavesOne, ShortensOn};
+    ghost use Rattle.marker_grammar.specs.Reader.{Advances, AdvancesOn, Continues, ContinuesOn, HasEnded, IsSound};
 
     // Parses an open parenthesis or a comparison.
     fn atom(&mut self, alloc: Global) -> Result<Wanted, ComparisonError<'a>>
         requires { IsSound self.old }
         ensures sound { OnOk result (IsSound self.new) }
-        ensures text { OnOk result (self.new.text.now ≡ self.old.text.now) }
-        ensures same { IfOk result (λ next. LeavesReadings Wanted.Atom self.old next self.new) }
-        ensures opened { IfOk result (λ next. KeepsOpened Wanted.Atom self.old next self.new) }
-        ensures shorter { OnOk result (length self.new.rest.now < length self.old.rest.now) }
+        ensures advances { OnOk result (Advances self.old self.new) }
+        ensures same { IfOk result (λ next. Continues Wanted.Atom self.old next self.new) }
         ensures err { IfErr result (half.IsRefusal Wanted.Atom self.old) }
     {
         let text = skip_space(self.rest);
@@ -120,13 +116,9 @@ impl<'a> Reader<'a> {
     fn follow(&mut self) -> Result<Option<Wanted>, ComparisonError<'a>>
         requires { IsSound self.old }
         ensures sound { IfOk result (λ next. IfSome next (λ _. IsSound self.new)) }
-        ensures text { OnOk result (self.new.text.now ≡ self.old.text.now) }
-        ensures same { IfOk result (LeavesReadingsOn self.old self.new) }
-        ensures opened { IfOk result (KeepsOpenedOn self.old self.new) }
-        ensures shorter { IfOk result (ShortensOn self.old self.new) }
-        ensures ended { IfOk result (λ next. IfNone next (LeavesOne self.old self.new)) }
-        ensures whole { IfOk result (λ next. IfNone next (IsWhole self.new.tokens.items)) }
-        ensures valid { IfOk result (λ next. IfNone next (IsValid self.new.tokens.items)) }
+        ensures advances { IfOk result (AdvancesOn self.old self.new) }
+        ensures same { IfOk result (ContinuesOn self.old self.new) }
+        ensures ended { IfOk result (λ next. IfNone next (HasEnded self.old self.new)) }
         ensures err { IfErr result (half.IsRefusal Wanted.Rest self.old) }
     {
         let text = skip_space(self.rest);

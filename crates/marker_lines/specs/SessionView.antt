@@ -1,9 +1,11 @@
 -- The state of a session of lines, and what it appends to the replies.
-use Rattle.std.specs.Prelude.{ℕ, List, Option, MatchOption, Vec}
+use Rattle.std.specs.Prelude.{◌≡◌, ◌≢◌, ℕ, Bool, List, Err, IsTrue, Option, MatchOption, Result, Vec}
 use Rattle.std.specs.Borrow.{Bor}
 use Rattle.std.specs.declared.alloc.Global.{Global}
 use Rattle.std.specs.declared.ops.Bound.{Bound}
 use Rattle.line_server.specs.Serving.{ServesAll, ServesWhole}
+use Rattle.line_server.specs.declared.fault.ServeFault.{ServeFault}
+use Rattle.line_server.specs.declared.fault.ServeFault.TheVariants.{Input, Output, Usage}
 use Rattle.pep440_version.specs.Parts.{Parts}
 use Rattle.marker_environment.specs.Environment.{values_of}
 use Rattle.marker_environment.specs.Written.{Says, written}
@@ -54,3 +56,13 @@ module _ {R W : Type 0} (remaining : R → Option (List ℕ)) (contents : W → 
   abbrev pub AnswersWhole : R → R → W → W → Type 0
   AnswersWhole from to had has =
       (end : State) × ServesWhole LineStep remaining contents start end from to had has
+
+-- the fault is of the side that failed, and the other has failed only if it had before
+module _ {R W A : Type 0} (read_failed : R → Bool) (write_failed : W → Bool) where
+  pub record NamesFailedSide (result : Result A ServeFault) (from to : R) (had has : W)
+      : Type 0 where
+    pub input_failed : result ≡ Err Input → IsTrue (read_failed to)
+    pub input_sound : result ≢ Err Input → read_failed to ≡ read_failed from
+    pub output_failed : result ≡ Err Output → IsTrue (write_failed has)
+    pub output_sound : result ≢ Err Output → write_failed has ≡ write_failed had
+    pub no_usage : result ≢ Err Usage

@@ -1,14 +1,14 @@
 //! A session with commands and replies as lines.
 
-ghost use Rattle.std.specs.Prelude.{◌≡◌, ◌≢◌, IsTrue, Err, IfOk, OnOk, OnErr};
+ghost use Rattle.std.specs.Prelude.{◌≡◌, Err, IfOk, OnOk, OnErr};
 ghost use Rattle.std.specs.Io.KnownBytes.{IsAtEnd};
 ghost use Rattle.line_server.specs.Serving.{ServesFirst};
-ghost use Rattle.line_server.specs.declared.fault.ServeFault.TheVariants.{Input, Output, Usage};
+ghost use Rattle.line_server.specs.declared.fault.ServeFault.TheVariants.{Input};
 ghost use Rattle.marker_environment.specs.Environment.{values_of};
 ghost use Rattle.marker_lines.specs.Line.{with_names};
 ghost use Rattle.marker_lines.specs.LineStep.{start, LineStep};
 ghost use Rattle.marker_lines.specs.LineView.{range_in, texts_of};
-ghost use Rattle.marker_lines.specs.SessionView.{state_of, AnswersAll, AnswersWhole, Obeys, ReadsBound, ReadsNames, ReadsVersion, Replies, Sets};
+ghost use Rattle.marker_lines.specs.SessionView.{state_of, AnswersAll, AnswersWhole, NamesFailedSide, Obeys, ReadsBound, ReadsNames, ReadsVersion, Replies, Sets};
 
 use crate::key::EnvironmentKey;
 use crate::line::{LineCommand, LineFault};
@@ -268,13 +268,8 @@ pub fn serve<R: Source, W: Sink>(
         AnswersWhole R.remaining W.contents reader.old reader.new writer.old writer.new }
     ensures err { OnErr result (ServesFirst LineStep R.remaining W.contents start
         reader.old reader.new writer.old writer.new) }
-
-    // Which fault it is.
-    ensures input_failed { result ≡ Err Input → IsTrue (R.has_failed reader.new) }
-    ensures input_sound { result ≢ Err Input → R.has_failed reader.new ≡ R.has_failed reader.old }
-    ensures output_failed { result ≡ Err Output → IsTrue (W.has_failed writer.new) }
-    ensures output_sound { result ≢ Err Output → W.has_failed writer.new ≡ W.has_failed writer.old }
-    ensures no_usage { result ≢ Err Usage }
+    ensures fault { NamesFailedSide R.has_failed W.has_failed result
+        reader.old reader.new writer.old writer.new }
 {
     let Ok(mut session) = LineSession::with_key_and_room(alloc, key, pieces) else {
         return Err(ServeFault::Memory);

@@ -8,7 +8,7 @@ use Rattle.marker_diagrams.specs.Diagram.{IsStore}
 use Rattle.marker_diagrams.specs.declared.node_id.NodeId.{NodeId}
 use Rattle.marker_nodes.specs.Node.{Node, markers}
 use Rattle.marker_graph.specs.Contents.{Contents, truth}
-use Rattle.marker_readable.specs.Text.{TellsText}
+use Rattle.marker_view.specs.Text.{TellsText}
 use Rattle.marker_order.specs.Order.{diagram_cmp}
 use Rattle.marker_order.proofs.OrderLaws.{diagrams_total}
 use Rattle.marker_view.specs.declared.view.MarkerTreeView.{MarkerTreeView}

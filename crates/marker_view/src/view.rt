@@ -4,11 +4,11 @@ ghost use Rattle.std.specs.Prelude.{◌≡◌, ◌↔◌, IfOk, IsTrue, None, So
 ghost use Rattle.std.specs.Option.{option_map};
 ghost use Rattle.std.specs.Fmt.{DisplaysOnOk, DisplaysStyledOnOk};
 ghost use Rattle.marker_graph.specs.Contents.{IsHeld, truth};
-ghost use Rattle.marker_readable.specs.Text.{TellsText};
+ghost use Rattle.marker_view.specs.Text.{TellsText};
 
+use crate::text::try_to_string;
 use marker_graph::{Interner, MarkerTree};
 use marker_order::diagram_order;
-use marker_readable::try_to_string;
 use std::cmp::Ordering;
 use std::fmt;
 use std::fmt::Display;

@@ -3,8 +3,8 @@ use Rattle.std.proofs.Common.{◌≡◌, ℕ, List, ◌++◌, Bool, take, drop, 
 use Rattle.std.specs.Prelude.{Option, None, IfOk, IfSome}
 use Rattle.std.proofs.lemmas.List.{take-append-drop}
 use Rattle.marker_environment.specs.Valuation.{Valuation}
-use Rattle.marker_comparisons.specs.declared.value_set.ValueSet.{ValueSet}
-use Rattle.marker_comparisons.specs.ValueSet.{contains}
+use Rattle.marker_simplifications.specs.declared.value_set.ValueSet.{ValueSet}
+use Rattle.marker_simplifications.specs.ValueSet.{contains}
 use Rattle.marker_graph.specs.declared.tree.MarkerTree.{MarkerTree}
 use Rattle.marker_graph.specs.Contents.{Contents}
 use Rattle.pep508_markers.specs.declared.run.Connective.{Connective}

@@ -13,8 +13,8 @@ use Rattle.marker_graph.specs.declared.tree.MarkerTree.{MarkerTree}
 use Rattle.marker_graph.specs.declared.tree.TheConstants.MarkerTree.{TRUE}
 use Rattle.marker_graph.specs.Contents.{Contents, truth}
 use Rattle.marker_grammar.specs.Refused.{IsMarker, IsNoMarker}
-use Rattle.marker_readable.specs.Text.{TellsText}
-use Rattle.pep508_markers.specs.Text.{IsTreeOf, TextOverflows}
+use Rattle.marker_view.specs.Text.{TellsText}
+use Rattle.pep508_markers.specs.Text.{HoldsTreeOf, TextOverflows}
 
 -- the JSON is a string with this text
 abbrev pub IsStringOf : List ℕ → List ℕ → Type 0
@@ -48,7 +48,7 @@ IsJsonOfTree c t json = IsJsonOf (truth c t) (string_bytes json)
 abbrev pub IsTreeOfJson : Contents → List ℕ → MarkerTree → Type 0
 IsTreeOfJson c json t =
     (text : List ℕ) × (kinds : List MarkerWarningKind) × IsStringOf json text
-    × IsTreeOf c text t kinds
+    × HoldsTreeOf c text t kinds
 
 -- the length of the span of the fault: 1 for empty JSON
 abbrev pub span_of : List ℕ → ℕ

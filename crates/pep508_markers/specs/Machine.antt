@@ -17,7 +17,7 @@ use Rattle.marker_grammar.specs.Formula as formulas
 use Rattle.marker_grammar.specs.Grammar.{Reads}
 use Rattle.marker_grammar.specs.Refused.{IsMarker, IsNoMarker}
 use Rattle.marker_grammar.specs.HasTest.{Says}
-use Rattle.marker_readable.specs.Text.{TellsText}
+use Rattle.marker_view.specs.Text.{TellsText}
 use Rattle.pep508_markers.specs.Text.{TextOverflows}
 
 abbrev pub Truth : Type 0

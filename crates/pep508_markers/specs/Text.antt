@@ -1,5 +1,5 @@
 -- The tree of a marker text, and why a text has none. (PEP 508.)
-use Rattle.std.specs.Prelude.{⊤, ℕ, List, Option, Result, String, Vec, IfErr, option_map, string_bytes}
+use Rattle.std.specs.Prelude.{◌≡◌, ◌≤◌, ⊤, ℕ, List, Option, Result, String, Vec, IfErr, OnErr, option_map, string_bytes}
 use Rattle.refusal.specs.declared.Refusal.{Refusal}
 use Rattle.refusal.specs.declared.Refusal.TheVariants.{OutOfMemory, SegmentAtEnd, Fault}
 use Rattle.pep508_errors.specs.declared.error.Pep508Error.{Pep508Error}
@@ -12,14 +12,14 @@ use Rattle.marker_parts.specs.Reporting.{HasBegun}
 use Rattle.marker_parts.specs.declared.expression.MarkerExpression.{MarkerExpression}
 use Rattle.marker_terms.specs.Clauses.{clauses_of}
 use Rattle.marker_graph.specs.declared.tree.MarkerTree.{MarkerTree}
-use Rattle.marker_graph.specs.Contents.{Contents, truth}
+use Rattle.marker_graph.specs.Contents.{Contents, HoldsTheSame, IsHeld, IsKept, truth}
 pub use Rattle.marker_graph.specs.Texts.{IsTreeOf}
 use Rattle.marker_grammar.specs.Formula.{Formula}
 use Rattle.marker_grammar.specs.Grammar.{Reads}
 use Rattle.marker_grammar.specs.Refused.{IsMarker, IsNoMarker}
 use Rattle.marker_grammar.specs.HasTest.{Says}
-use Rattle.marker_clauses.specs.Dnf.{AreClausesOf, TellsExtra}
-use Rattle.marker_readable.specs.Text.{TellsText}
+use Rattle.marker_view.specs.Dnf.{AreClausesOf, TellsExtra}
+use Rattle.marker_view.specs.Text.{TellsText}
 
 -- the text is a marker, and a bound of a comparison in it would be above 2^64 - 1
 abbrev pub TextOverflows : List ℕ → Type 0
@@ -48,28 +48,48 @@ module _ {T E : Type 0} where
 abbrev pub OnFault : {A E : Type 0} → Result A (Refusal E) → Type 0 → Type 0
 OnFault result P = IfErr result (λ refusal. IfFault refusal (λ _. P))
 
+-- an interner keeps what it holds, and its count of conjunctions does not fall
+pub record OnlyGrows (old new : Contents) : Type 0 where
+  pub kept : IsKept old new
+  pub counts : old.expansions ≤ new.expansions
+
+module _ {A E : Type 0} where
+  -- so it does; after a refusal it holds no more than before, and after a fault it is as it was
+  pub record KeepsInterner (result : Result A (Refusal E)) (old new : Contents) : Type 0 where
+    pub grows : OnlyGrows old new
+    pub untouched : OnFault result (new ≡ old)
+    pub released : OnErr result (HoldsTheSame old new)
+
 -- the kinds of a reporter
 abbrev pub Kinds : Type 0
 Kinds = Option (List MarkerWarningKind)
 
--- the tree means what the text says, and the kinds of its warnings have been reported
+-- over whether a reporter can report and which kinds it has, and the reporter before and after
+module _ {R A T E : Type 0} (can_report : R → Type 0) (reported : R → Kinds) (old new : R) where
+  -- A text that is refused for what it is has no warning reported, and another refused one at most
+  -- the first of its warnings. The reporter can report again.
+  pub record TellsReporter {Read : Type 0}
+      (ReadsAs : List ℕ → Read → List MarkerWarningKind → Type 0) (text : List ℕ)
+      (result : Result A (Refusal (Pep508Error T E))) : Type 0 where
+    pub unreported : IfErr result
+        (λ refusal. OnRefusedText refusal (Keeps (reported old) (reported new)))
+    pub begun : IfErr result (λ _. HasBegun ReadsAs text (reported old) (reported new))
+    pub again : can_report new
+
+-- the interner has the tree, and it means what the text says, with warnings of these kinds
+pub record HoldsTreeOf (c : Contents) (text : List ℕ) (t : MarkerTree)
+    (kinds : List MarkerWarningKind) : Type 0 where
+  pub held : IsHeld c t
+  pub means : IsTreeOf c text t kinds
+
+-- the tree is that of the text, and the kinds of its warnings have been reported
 abbrev pub IsReportedTree : Contents → List ℕ → Kinds → Kinds → MarkerTree → Type 0
 IsReportedTree c text before after t =
-    (kinds : List MarkerWarningKind) × IsTreeOf c text t kinds × Adds before after kinds
+    (kinds : List MarkerWarningKind) × HoldsTreeOf c text t kinds × Adds before after kinds
 
--- a text that is refused for what it is has no warning reported
-abbrev pub ReportsNothing : {A T E : Type 0} → Result A (Refusal (Pep508Error T E))
-    → Kinds → Kinds → Type 0
-ReportsNothing result before after =
-    IfErr result (λ refusal. OnRefusedText refusal (Keeps before after))
-
--- a text that is refused has at most the first of its warnings reported
-abbrev pub BeginsReport : {A E : Type 0} → Result A E → List ℕ → Kinds → Kinds → Type 0
-BeginsReport result text before after = IfErr result (λ _. HasBegun Reads text before after)
-
--- the tree means what the text says
+-- the tree is that of the text, with some warnings
 abbrev pub SaysText : Contents → List ℕ → MarkerTree → Type 0
-SaysText c text t = (kinds : List MarkerWarningKind) × IsTreeOf c text t kinds
+SaysText c text t = (kinds : List MarkerWarningKind) × HoldsTreeOf c text t kinds
 
 -- the text, or nothing, is that of the tree
 abbrev pub TellsTree : {A : Type 0} → Contents → MarkerTree → Option (String A) → Type 0

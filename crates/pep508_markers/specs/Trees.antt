@@ -1,8 +1,8 @@
 -- Trees of the formulas on a stack, while a tree is made of a formula.
 use Rattle.std.specs.Prelude.{◌≡◌, ◌⊎◌, ⊤, Bool, true, false, ◌&&◌, ◌||◌, IfSome, List, [], ◌∷◌, ◌++◌, Option, Vec, reverse}
 use Rattle.marker_environment.specs.Valuation.{Valuation}
-use Rattle.marker_comparisons.specs.declared.value_set.ValueSet.{ValueSet}
-use Rattle.marker_comparisons.specs.ValueSet.{contains}
+use Rattle.marker_simplifications.specs.declared.value_set.ValueSet.{ValueSet}
+use Rattle.marker_simplifications.specs.ValueSet.{contains}
 use Rattle.marker_graph.specs.declared.tree.MarkerTree.{MarkerTree}
 use Rattle.marker_graph.specs.Contents.{Contents, IsHeld, truth}
 use Rattle.marker_grammar.specs.Formula.{Formula, truth_of}

@@ -1,14 +1,15 @@
 //! The tree of a formula.
 
-ghost use Rattle.std.specs.Prelude.{◌≡◌, ◌≤◌, true, IfOk, IfErr, OnErr, OnOk};
+ghost use Rattle.std.specs.Prelude.{◌≡◌, true, IfOk, IfErr, OnErr, OnOk};
 ghost use Rattle.marker_parts.specs.Expression.{Overflows, holds, test_of};
-ghost use Rattle.marker_graph.specs.Contents.{HoldsTheSame, IsHeld, IsKept};
+ghost use Rattle.marker_graph.specs.Contents.{HoldsTheSame, IsHeld};
 ghost use Rattle.marker_graph.specs.Meaning.{IsTrueWhere};
 ghost use Rattle.marker_grammar.specs.Flat.{formula_of};
 ghost use Rattle.marker_grammar.specs.Postfix.{symbol_of};
 ghost use Rattle.marker_grammar.specs.Valid.{is_valid, is_valid_symbol};
 ghost use Rattle.pep508_markers.specs.FormulaTree.{IsRefusal, Means};
 ghost use Rattle.marker_grammar.specs.HasTest.{IsSymbol, Says};
+ghost use Rattle.pep508_markers.specs.Text.{OnlyGrows};
 ghost use Rattle.pep508_markers.specs.Trees.{Applies, AreRuns};
 
 use crate::run::{Connective, Run, connect, join_all, run_of};
@@ -29,8 +30,7 @@ pub fn tree_of(
     interner: &mut Interner,
     formula: FlatFormula,
 ) -> Result<MarkerTree, Refusal<Infallible>>
-    ensures kept { IsKept interner.old interner.new }
-    ensures counts { interner.old.expansions ≤ interner.new.expansions }
+    ensures kept { OnlyGrows interner.old interner.new }
     ensures held { IfOk result (IsHeld interner.new) }
     ensures means { IfOk result (Means interner.new (formula_of formula)) }
 
@@ -54,8 +54,7 @@ fn join_tokens(
     interner: &mut Interner,
     formula: FlatFormula,
 ) -> Result<MarkerTree, Refusal<Infallible>>
-    ensures kept { IsKept interner.old interner.new }
-    ensures counts { interner.old.expansions ≤ interner.new.expansions }
+    ensures kept { OnlyGrows interner.old interner.new }
     ensures held { IfOk result (IsHeld interner.new) }
     ensures means { IfOk result (Means interner.new (formula_of formula)) }
     ensures no_overflow { OnOk result (¬ Says Overflows (formula_of formula)) }
@@ -85,8 +84,7 @@ fn apply(
 ) -> Result<(), Refusal<Infallible>>
     requires runs { AreRuns interner.old runs.old.items }
     requires valid { is_valid_symbol (symbol_of token) ≡ true }
-    ensures kept { IsKept interner.old interner.new }
-    ensures counts { interner.old.expansions ≤ interner.new.expansions }
+    ensures kept { OnlyGrows interner.old interner.new }
     ensures runs { OnOk result (Applies token interner.old runs.old interner.new runs.new) }
     ensures no_overflow { OnOk result (¬ IsSymbol Overflows (symbol_of token)) }
     ensures err { IfErr result (IsRefusal (IsSymbol Overflows (symbol_of token))) }
@@ -109,8 +107,7 @@ fn tree_of_valid(
     expression: MarkerExpression,
 ) -> Result<MarkerTree, Refusal<Infallible>>
     requires { is_valid (test_of expression) ≡ true }
-    ensures kept { IsKept interner.old interner.new }
-    ensures counts { interner.old.expansions ≤ interner.new.expansions }
+    ensures kept { OnlyGrows interner.old interner.new }
     ensures held { IfOk result (IsHeld interner.new) }
     ensures means { IfOk result (IsTrueWhere interner.new (holds (test_of expression))) }
     ensures no_overflow { OnOk result (¬ Overflows (test_of expression)) }

@@ -1,24 +1,24 @@
 //! Markers and their texts.
 
-ghost use Rattle.std.specs.Prelude.{◌≡◌, ◌≤◌, List, IfOk, IfErr, OnErr};
+ghost use Rattle.std.specs.Prelude.{◌≡◌, List, IfOk, IfErr};
 ghost use Rattle.pep508_text.specs.Suffix.{IsSuffix};
 ghost use Rattle.marker_parts.specs.declared.expression.MarkerExpression.{MarkerExpression as Term};
 ghost use Rattle.marker_terms.specs.Clauses.{clauses_of};
 ghost use Rattle.marker_graph.specs.declared.tree.MarkerTree.{MarkerTree as Tree};
-ghost use Rattle.marker_graph.specs.Contents.{Contents, HoldsTheSame, IsHeld, IsKept};
+ghost use Rattle.marker_graph.specs.Contents.{Contents, IsHeld};
 ghost use Rattle.marker_view.specs.View.{contents_of};
-ghost use Rattle.marker_clauses.specs.Dnf.{AreClausesOf};
+ghost use Rattle.marker_grammar.specs.Grammar.{Reads};
+ghost use Rattle.marker_view.specs.Dnf.{AreClausesOf};
 ghost use Rattle.pep508_markers.specs.Json.{IsJsonRefusal, IsTreeOfJson};
-ghost use Rattle.pep508_markers.specs.Text.{BeginsReport, HasClauses, IsTreeOf, IsReportedTree, IsRefusal, IsRefusalIn, OnFault, ReportsNothing, SaysText, TellsExtraOf, TellsTree};
+ghost use Rattle.pep508_markers.specs.Text.{HasClauses, HoldsTreeOf, IsReportedTree, IsRefusal, IsRefusalIn, KeepsInterner, SaysText, TellsExtraOf, TellsReporter, TellsTree};
 
 use crate::json::{no_string, read_string};
 use crate::text_tree::tree_of_reading;
-use marker_clauses::top_level_extra;
 use marker_grammar::read;
 use marker_graph::{Interner, MarkerTree};
 use marker_parts::MarkerExpression;
 use marker_parts::internal::report_kinds;
-use marker_view::MarkerTreeView;
+use marker_view::{MarkerTreeView, top_level_extra};
 use pep508_errors::{MarkerWarningKind, Pep508Error, Pep508Url, Reporter};
 use refusal::Refusal;
 use std::alloc::AllocError;
@@ -57,13 +57,9 @@ pub trait MarkerText: Sized {
         text: &str,
         interner: &mut Interner,
     ) -> Result<Self, Refusal<Pep508Error<T>>>
-        ensures kept { IsKept interner.old interner.new }
-        ensures counts { interner.old.expansions ≤ interner.new.expansions }
-        ensures held { IfOk result (λ t. IsHeld interner.new (tree t)) }
+        ensures kept { KeepsInterner result interner.old interner.new }
         ensures means { IfOk result (λ t. SaysText interner.new text.now (tree t)) }
-        ensures refused { IfErr result (IsRefusal text.now) }
-        ensures untouched { OnFault result (interner.new ≡ interner.old) }
-        ensures released { OnErr result (HoldsTheSame interner.old interner.new) };
+        ensures refused { IfErr result (IsRefusal text.now) };
 
     /// Parses a marker text as [`MarkerText::parse_str`] does, and reports its warnings in order.
     ///
@@ -76,17 +72,12 @@ pub trait MarkerText: Sized {
         interner: &mut Interner,
     ) -> Result<Self, Refusal<Pep508Error<T>>>
         requires { R.can_report reporter.old }
-        ensures kept { IsKept interner.old interner.new }
-        ensures counts { interner.old.expansions ≤ interner.new.expansions }
-        ensures held { IfOk result (λ t. IsHeld interner.new (tree t)) }
+        ensures kept { KeepsInterner result interner.old interner.new }
         ensures means { IfOk result (λ t. IsReportedTree interner.new text.now
             (R.kinds reporter.old) (R.kinds reporter.new) (tree t)) }
         ensures refused { IfErr result (IsRefusal text.now) }
-        ensures untouched { OnFault result (interner.new ≡ interner.old) }
-        ensures released { OnErr result (HoldsTheSame interner.old interner.new) }
-        ensures unreported { ReportsNothing result (R.kinds reporter.old) (R.kinds reporter.new) }
-        ensures begun { BeginsReport result text.now (R.kinds reporter.old) (R.kinds reporter.new) }
-        ensures again { R.can_report reporter.new };
+        ensures reported { TellsReporter R.can_report R.kinds reporter.old reporter.new
+            Reads text.now result };
 
     /// Parses a marker from a JSON string, as [`MarkerText::parse_str`] parses the string's text.
     ///
@@ -98,13 +89,9 @@ pub trait MarkerText: Sized {
         json: &str,
         interner: &mut Interner,
     ) -> Result<Self, Refusal<Pep508Error<T>>>
-        ensures kept { IsKept interner.old interner.new }
-        ensures counts { interner.old.expansions ≤ interner.new.expansions }
-        ensures held { IfOk result (λ t. IsHeld interner.new (tree t)) }
+        ensures kept { KeepsInterner result interner.old interner.new }
         ensures means { IfOk result (λ t. IsTreeOfJson interner.new json.now (tree t)) }
-        ensures refused { IfErr result (IsJsonRefusal json.now) }
-        ensures untouched { OnFault result (interner.new ≡ interner.old) }
-        ensures released { OnErr result (HoldsTheSame interner.old interner.new) };
+        ensures refused { IfErr result (IsJsonRefusal json.now) };
 
     /// Returns the marker as a disjunction of conjunctions: a list of clauses, each a list of
     /// comparisons. The list is empty for `TRUE` and for `FALSE`.
@@ -174,11 +161,11 @@ impl MarkerText for MarkerTree {
     }
 
     fn to_dnf(self, interner: &Interner) -> Result<Vec<Vec<MarkerExpression>>, AllocError> {
-        marker_clauses::to_dnf(interner, self)
+        marker_view::to_dnf(interner, self)
     }
 
     fn try_to_string(self, interner: &Interner) -> Result<Option<String>, AllocError> {
-        marker_readable::try_to_string(interner, self)
+        marker_view::try_to_string(interner, self)
     }
 }
 
@@ -192,13 +179,9 @@ pub fn read_behind<T: Pep508Url>(
     interner: &mut Interner,
 ) -> Result<(MarkerTree, Vec<MarkerWarningKind>), Refusal<Pep508Error<T>>>
     requires { IsSuffix text.now marker.now }
-    ensures kept { IsKept interner.old interner.new }
-    ensures counts { interner.old.expansions ≤ interner.new.expansions }
-    ensures held { IfOk result (λ r. IsHeld interner.new r.0) }
-    ensures means { IfOk result (λ r. IsTreeOf interner.new marker.now r.0 r.1.items) }
+    ensures kept { KeepsInterner result interner.old interner.new }
+    ensures means { IfOk result (λ r. HoldsTreeOf interner.new marker.now r.0 r.1.items) }
     ensures refused { IfErr result (IsRefusalIn text.now marker.now) }
-    ensures untouched { OnFault result (interner.new ≡ interner.old) }
-    ensures released { OnErr result (HoldsTheSame interner.old interner.new) }
 {
     let alloc = interner.allocator();
     if let Some(tree) = interner.known_text(marker) {
@@ -225,17 +208,12 @@ pub fn parse_behind<T: Pep508Url, R: Reporter>(
 ) -> Result<MarkerTree, Refusal<Pep508Error<T>>>
     requires can_report { R.can_report reporter.old }
     requires suffix { IsSuffix text.now marker.now }
-    ensures kept { IsKept interner.old interner.new }
-    ensures counts { interner.old.expansions ≤ interner.new.expansions }
-    ensures held { IfOk result (IsHeld interner.new) }
+    ensures kept { KeepsInterner result interner.old interner.new }
     ensures means { IfOk result (IsReportedTree interner.new marker.now
         (R.kinds reporter.old) (R.kinds reporter.new)) }
     ensures refused { IfErr result (IsRefusalIn text.now marker.now) }
-    ensures untouched { OnFault result (interner.new ≡ interner.old) }
-    ensures released { OnErr result (HoldsTheSame interner.old interner.new) }
-    ensures unreported { ReportsNothing result (R.kinds reporter.old) (R.kinds reporter.new) }
-    ensures begun { BeginsReport result marker.now (R.kinds reporter.old) (R.kinds reporter.new) }
-    ensures again { R.can_report reporter.new }
+    ensures reported { TellsReporter R.can_report R.kinds reporter.old reporter.new
+        Reads marker.now result }
 {
     let mark = interner.mark();
     let (tree, kinds) = match read_behind(text, marker, interner) {

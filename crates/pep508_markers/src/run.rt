@@ -2,7 +2,8 @@
 
 ghost use Rattle.std.specs.Prelude.{◌≡◌, ◌++◌, ◌∷◌, [], length, IfNone, IfOk, IfSome, OnOk, ◌≤◌};
 ghost use Rattle.std.specs.List.Sorted.{IsPermutation};
-ghost use Rattle.marker_graph.specs.Contents.{IsHeld, IsKept};
+ghost use Rattle.marker_graph.specs.Contents.{IsHeld};
+ghost use Rattle.pep508_markers.specs.Text.{OnlyGrows};
 ghost use Rattle.pep508_markers.specs.Trees.{trees_of, truth_under, AreHeld, AreLastTwo, AreRuns, Connects, HasTreesOfBoth, JoinsAll, JoinsRun, JoinsTwo, SaysTheSameUnder, SaysUnder};
 
 use crate::sets::joined_set_of;
@@ -37,8 +38,7 @@ fn join_two(
 ) -> Result<MarkerTree, AllocError>
     requires left { IsHeld interner.old left }
     requires right { IsHeld interner.old right }
-    ensures kept { IsKept interner.old interner.new }
-    ensures counts { interner.old.expansions ≤ interner.new.expansions }
+    ensures kept { OnlyGrows interner.old interner.new }
     ensures held { IfOk result (IsHeld interner.new) }
     ensures means { IfOk result (JoinsTwo interner.new connective left right) }
 {
@@ -70,8 +70,7 @@ fn join_by_halves(
     others: VecDeque<MarkerTree>,
 ) -> Result<MarkerTree, AllocError>
     requires { AreHeld interner.old (first ∷ others.items) }
-    ensures kept { IsKept interner.old interner.new }
-    ensures counts { interner.old.expansions ≤ interner.new.expansions }
+    ensures kept { OnlyGrows interner.old interner.new }
     ensures held { IfOk result (IsHeld interner.new) }
     ensures means { IfOk result (JoinsAll interner.old interner.new connective first others.items) }
 {
@@ -155,8 +154,7 @@ fn join_others(
     others: VecDeque<MarkerTree>,
 ) -> Result<MarkerTree, AllocError>
     requires { AreHeld interner.old (first ∷ others.items) }
-    ensures kept { IsKept interner.old interner.new }
-    ensures counts { interner.old.expansions ≤ interner.new.expansions }
+    ensures kept { OnlyGrows interner.old interner.new }
     ensures held { IfOk result (IsHeld interner.new) }
     ensures means { IfOk result (JoinsAll interner.old interner.new connective first others.items) }
 {
@@ -183,8 +181,7 @@ fn join_alike(
     trees: &mut VecDeque<MarkerTree>,
 ) -> Result<MarkerTree, AllocError>
     requires { AreHeld interner.old (first ∷ trees.old.items) }
-    ensures kept { IsKept interner.old interner.new }
-    ensures counts { interner.old.expansions ≤ interner.new.expansions }
+    ensures kept { OnlyGrows interner.old interner.new }
     ensures held { IfOk result (λ t. AreHeld interner.new (t ∷ trees.new.items)) }
     ensures means { IfOk result (λ t. SaysUnder interner.old connective (first ∷ trees.old.items)
         (truth_under interner.new connective (t ∷ trees.new.items))) }
@@ -203,8 +200,7 @@ const FEW: usize = 8;
 // it is, so n extras make n nodes.
 pub(crate) fn join_all(interner: &mut Interner, run: Run) -> Result<MarkerTree, AllocError>
     requires { AreHeld interner.old (trees_of run) }
-    ensures kept { IsKept interner.old interner.new }
-    ensures counts { interner.old.expansions ≤ interner.new.expansions }
+    ensures kept { OnlyGrows interner.old interner.new }
     ensures held { IfOk result (IsHeld interner.new) }
     ensures means { IfOk result (JoinsRun interner.old interner.new run) }
 {
@@ -242,8 +238,7 @@ pub(crate) fn run_of(alloc: Global, connective: Connective, tree: MarkerTree) ->
 // one tree of it.
 fn run_under(interner: &mut Interner, connective: Connective, run: Run) -> Result<Run, AllocError>
     requires { AreHeld interner.old (trees_of run) }
-    ensures kept { IsKept interner.old interner.new }
-    ensures counts { interner.old.expansions ≤ interner.new.expansions }
+    ensures kept { OnlyGrows interner.old interner.new }
     ensures connective { IfOk result (λ r. r.connective ≡ connective) }
     ensures held { IfOk result (λ r. AreHeld interner.new (trees_of r)) }
     ensures means { IfOk result (SaysTheSameUnder interner.old interner.new connective run) }
@@ -292,8 +287,7 @@ pub(crate) fn connect(
     connective: Connective,
 ) -> Result<(), AllocError>
     requires { AreRuns interner.old runs.old.items }
-    ensures kept { IsKept interner.old interner.new }
-    ensures counts { interner.old.expansions ≤ interner.new.expansions }
+    ensures kept { OnlyGrows interner.old interner.new }
     ensures runs { OnOk result (Connects connective interner.old runs.old interner.new runs.new) }
 {
     let Some((left, right)) = pop_two(runs) else {

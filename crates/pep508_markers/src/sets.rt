@@ -4,8 +4,8 @@ ghost use Rattle.std.specs.Prelude.{◌∷◌, IfOk};
 ghost use Rattle.pep508_markers.specs.Trees.{AreHeld, FindsSetOfTwo, FindsSetUnder};
 
 use crate::run::Connective;
-use marker_comparisons::ValueSet;
 use marker_graph::{Interner, MarkerTree};
+use marker_simplifications::ValueSet;
 use std::alloc::{AllocError, Global};
 
 // The set of two sets under a connective, or `None` for sets of two variables.

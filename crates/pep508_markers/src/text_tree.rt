@@ -1,13 +1,13 @@
 //! The tree of a text that was parsed.
 
-ghost use Rattle.std.specs.Prelude.{◌≤◌, IfOk, IfErr, OnErr};
+ghost use Rattle.std.specs.Prelude.{IfOk, IfErr, OnErr};
 ghost use Rattle.marker_parts.specs.Expression.{Overflows};
-ghost use Rattle.marker_graph.specs.Contents.{HoldsTheSame, IsHeld, IsKept};
+ghost use Rattle.marker_graph.specs.Contents.{HoldsTheSame};
 ghost use Rattle.marker_grammar.specs.Flat.{formula_of};
 ghost use Rattle.marker_grammar.specs.Grammar.{Reads};
 ghost use Rattle.marker_grammar.specs.HasTest.{Says};
 ghost use Rattle.pep508_markers.specs.FormulaTree.{IsRefusal};
-ghost use Rattle.pep508_markers.specs.Text.{IsTreeOf};
+ghost use Rattle.pep508_markers.specs.Text.{HoldsTreeOf, OnlyGrows};
 
 use crate::formula_tree::tree_of;
 use marker_grammar::Reading;
@@ -25,10 +25,8 @@ pub(crate) fn tree_of_reading(
     reading: Reading,
 ) -> Result<(MarkerTree, Vec<MarkerWarningKind>), Refusal<Infallible>>
     requires { Reads text.now (formula_of reading.formula) reading.kinds.items }
-    ensures kept { IsKept interner.old interner.new }
-    ensures counts { interner.old.expansions ≤ interner.new.expansions }
-    ensures held { IfOk result (λ r. IsHeld interner.new r.0) }
-    ensures means { IfOk result (λ r. IsTreeOf interner.new text.now r.0 r.1.items) }
+    ensures kept { OnlyGrows interner.old interner.new }
+    ensures means { IfOk result (λ r. HoldsTreeOf interner.new text.now r.0 r.1.items) }
     ensures err { IfErr result (IsRefusal (Says Overflows (formula_of reading.formula))) }
     ensures released { OnErr result (HoldsTheSame interner.old interner.new) }
 {

@@ -1,5 +1,5 @@
 -- The end of a requirement: nothing, or the marker that the text ends with.
-use Rattle.std.proofs.Common.{ℕ, List, [], ◌++◌, Option, Some, None, Result, Ok, Err, refl, sym, subst, IsUtf8}
+use Rattle.std.proofs.Common.{ℕ, List, [], ◌++◌, Option, Some, None, Result, Ok, Err, refl, sym, subst, arith, IsUtf8}
 use Rattle.std.specs.Prelude.{IfErr}
 use Rattle.std.specs.Str.{chars}
 use Rattle.std.proofs.lemmas.Str.{encodes-chars}
@@ -13,7 +13,7 @@ use Rattle.marker_graph.specs.declared.tree.TheConstants.MarkerTree.{TRUE}
 use Rattle.marker_graph.specs.Contents.{Contents}
 use Rattle.marker_grammar.specs.Formula.{Formula}
 use Rattle.marker_grammar.specs.Grammar.{Reads}
-use Rattle.pep508_markers.specs.Text.{IsTreeOf, IsRefusalIn}
+use Rattle.pep508_markers.specs.Text.{HoldsTreeOf, IsRefusalIn}
 use Rattle.pep508_text.specs.Suffix.{IsSuffix}
 use Rattle.requirement_words.specs.Fault.{FindsInTail, IsFaultBy, IsTailFault}
 use Rattle.requirement_words.specs.Tail.{HasNoTail, IsTail}
@@ -32,6 +32,7 @@ no_end_there rest none f kinds e = none e.marker e.tail
 
 pub unmarked_end : (c : Contents) (rest : List ℕ) → IsTail rest None → IsTreeOfEnd c rest TRUE []
 unmarked_end c rest tail = record {
+  held = omega arith;
   formula = None;
   end = record { marker = None; tail = tail; says = (refl, refl) };
   no_overflow = λ h. h;
@@ -51,8 +52,8 @@ module _ (rest marker : List ℕ) (utf8 : IsUtf8 marker) (tail : IsTail rest (So
       let says : ReadsMarker (Some (chars marker)) f kinds = subst (λ (m : Option (List ℕ)). ReadsMarker m f kinds) (tail_same rest e.marker (Some (chars marker)) e.tail tail) e.says in
       subst (λ (x : List ℕ). Reads x f kinds) (encodes-chars marker utf8) says
 
-  pub marked_end : (c : Contents) (t : MarkerTree) (kinds : Kinds) → IsTreeOf c marker t kinds → IsTreeOfEnd c rest t kinds
-  marked_end c t kinds h = record { formula = h.formula; end = ends_with h.reads; no_overflow = h.no_overflow; means = h.means }
+  pub marked_end : (c : Contents) (t : MarkerTree) (kinds : Kinds) → HoldsTreeOf c marker t kinds → IsTreeOfEnd c rest t kinds
+  marked_end c t kinds h = record { held = h.held; formula = h.means.formula; end = ends_with h.means.reads; no_overflow = h.means.no_overflow; means = h.means.means }
 
 module _ {T E : Type 0} (text front rest : List ℕ) where
   -- no end of a requirement is left

@@ -13,8 +13,8 @@ use Rattle.marker_graph.specs.declared.tree.MarkerTree.{MarkerTree}
 use Rattle.marker_graph.specs.Contents.{Contents, truth}
 use Rattle.marker_grammar.specs.Formula.{Formula}
 use Rattle.marker_grammar.specs.Grammar.{Reads}
-use Rattle.marker_readable.specs.Text.{TellsText}
-use Rattle.marker_readable.specs.Text.{ReadsBack as MarkerReadsBack}
+use Rattle.marker_view.specs.Text.{TellsText}
+use Rattle.marker_view.specs.Text.{ReadsBack as MarkerReadsBack}
 use Rattle.requirement_words.specs.Head.{Asked, nothing, specifiers, IsHead}
 use Rattle.requirement_words.specs.Tail.{unmarked, marked}
 use Rattle.requirement_words.proofs.PlainText.{ascii-cons}

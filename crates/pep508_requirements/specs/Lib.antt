@@ -3,6 +3,7 @@ pub mod Requirement
 pub mod Text
 pub mod Refused
 pub mod Changed
+pub mod View
 pub mod Wanted
 pub mod Unnamed
 pub mod Whole

@@ -1,13 +1,11 @@
 -- What a reporter was told while a requirement was parsed.
-use Rattle.std.specs.Prelude.{ℕ, List, Option}
+use Rattle.std.specs.Prelude.{ℕ, List, Option, Result}
 use Rattle.refusal.specs.declared.Refusal.{Refusal}
 use Rattle.pep508_errors.specs.declared.error.Pep508Error.{Pep508Error}
 use Rattle.pep508_errors.specs.declared.surroundings.Surroundings.{Surroundings}
 use Rattle.pep508_errors.specs.declared.warning.MarkerWarningKind.{MarkerWarningKind}
-use Rattle.pep508_errors.specs.Kinds.{Keeps}
-use Rattle.marker_parts.specs.Reporting.{HasBegun}
 use Rattle.marker_graph.specs.Contents.{Contents}
-use Rattle.pep508_markers.specs.Text.{OnRefusedText}
+use Rattle.pep508_markers.specs.Text.{TellsReporter}
 use Rattle.pep508_requirements.specs.Requirement.{IsMarkedBy, urls_in}
 use Rattle.pep508_requirements.specs.Unnamed.{IsUnnamedMarkedBy}
 use Rattle.pep508_requirements.specs.Whole.{IsParsedUnnamed, ReadAs, WithAdded}
@@ -31,19 +29,17 @@ module _ {R T E : Type 0} (reported : R → Option Kinds) (old new : R) where
   ReportsUnnamed names surroundings given_text c text r = WithAdded (reported old) (reported new)
       (IsParsedUnnamed names surroundings given_text c text r)
 
-  -- a text that is refused reports nothing, unless memory ran out
-  abbrev pub RefusesUnreported : Refusal (Pep508Error T E) → Type 0
-  RefusesUnreported refusal = OnRefusedText refusal (Keeps (reported old) (reported new))
+-- over whether a reporter can report
+module _ {R T E A : Type 0} (can_report : R → Type 0) (reported : R → Option Kinds) (old new : R)
+  where
+    -- what a reporter was told if the text was refused as a requirement
+    abbrev pub TellsOfRead : (List ℕ → Surroundings → T → Type 0) → Surroundings → List ℕ
+        → Result A (Refusal (Pep508Error T E)) → Type 0
+    TellsOfRead names surroundings =
+        TellsReporter can_report reported old new (IsMarkedBy E (urls_in names surroundings))
 
-module _ {R T : Type 0} (reported : R → Option Kinds) (old new : R) where
-  -- at most a beginning of the kinds of a requirement was reported
-  abbrev pub HasBegunRead : (E : Type 0) → (List ℕ → Surroundings → T → Type 0) → Surroundings
-      → List ℕ → Type 0
-  HasBegunRead E names surroundings text =
-      HasBegun (IsMarkedBy E (urls_in names surroundings)) text (reported old) (reported new)
-
-  -- the same of a requirement without a name
-  abbrev pub HasBegunUnnamed : (List ℕ → Surroundings → T → Type 0) → Surroundings → List ℕ
-      → Type 0
-  HasBegunUnnamed names surroundings text =
-      HasBegun (IsUnnamedMarkedBy (urls_in names surroundings)) text (reported old) (reported new)
+    -- the same of a requirement without a name
+    abbrev pub TellsOfUnnamed : (List ℕ → Surroundings → T → Type 0) → Surroundings → List ℕ
+        → Result A (Refusal (Pep508Error T E)) → Type 0
+    TellsOfUnnamed names surroundings =
+        TellsReporter can_report reported old new (IsUnnamedMarkedBy (urls_in names surroundings))

@@ -7,7 +7,7 @@ use Rattle.pep508_errors.specs.declared.warning.MarkerWarningKind.{MarkerWarning
 use Rattle.marker_environment.specs.Valuation.{Valuation}
 use Rattle.marker_parts.specs.Expression.{Overflows}
 use Rattle.marker_graph.specs.declared.tree.MarkerTree.{MarkerTree}
-use Rattle.marker_graph.specs.Contents.{Contents, truth}
+use Rattle.marker_graph.specs.Contents.{Contents, IsHeld, truth}
 use Rattle.marker_grammar.specs.Formula.{Formula}
 use Rattle.marker_grammar.specs.Formula as formulas
 use Rattle.marker_grammar.specs.Grammar.{Reads}
@@ -90,9 +90,10 @@ module _ {T : Type 0} (E : Type 0) (names : List ℕ → T → Type 0) where
     pub wanted : Option (VersionOrUrl T E)
     pub requirement : IsRequirement names text name extras wanted f kinds
 
--- the tree means the marker at the end of a requirement
+-- the interner has the tree, which means the marker at the end of a requirement
 pub record IsTreeOfEnd (c : Contents) (rest : List ℕ) (t : MarkerTree) (kinds : Kinds)
     : Type 0 where
+  pub held : IsHeld c t
   pub formula : Option Formula
   pub end : EndsWith rest formula kinds
   pub no_overflow : ¬ Says Overflows formula

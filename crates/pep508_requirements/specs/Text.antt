@@ -7,8 +7,8 @@ use Rattle.pep508_errors.specs.declared.warning.MarkerWarningKind.{MarkerWarning
 use Rattle.marker_environment.specs.Valuation.{Valuation}
 use Rattle.marker_graph.specs.declared.tree.MarkerTree.{MarkerTree}
 use Rattle.marker_graph.specs.Contents.{Contents}
-use Rattle.marker_readable.specs.Readable.{IsReadableTruth}
-use Rattle.marker_readable.specs.Text.{TellsText}
+use Rattle.marker_view.specs.Readable.{IsReadableTruth}
+use Rattle.marker_view.specs.Text.{TellsText}
 use Rattle.pep508_markers.specs.Json.{string_of, IsStringOf}
 use Rattle.requirement_words.specs.Text.{extras_text, joined_text}
 use Rattle.pep508_requirements.specs.Requirement.{IsReadAs}

@@ -1,9 +1,10 @@
 -- Requirements as whole values: the texts that they are parsed from, and their own.
-use Rattle.std.specs.Prelude.{ℕ, List, Option}
+use Rattle.std.specs.Prelude.{◌≡◌, ℕ, List, Option, None}
 use Rattle.pep508_errors.specs.declared.surroundings.Surroundings.{Surroundings}
 use Rattle.pep508_errors.specs.declared.warning.MarkerWarningKind.{MarkerWarningKind}
-use Rattle.marker_graph.specs.Contents.{Contents, truth}
+use Rattle.marker_graph.specs.Contents.{Contents, IsHeld, truth}
 use Rattle.pep508_errors.specs.Kinds.{Adds}
+use Rattle.pep508_markers.specs.Json.{IsStringOf}
 use Rattle.pep508_requirements.specs.Requirement.{IsReadAs, urls_in}
 use Rattle.pep508_requirements.specs.Text.{IsPlainlyAsked, IsPrintedTruth, IsTextOf, ReadsBack, WithText, requirement_text, unnamed_text}
 use Rattle.pep508_requirements.specs.Unnamed.{IsUnnamedReadAs}
@@ -13,17 +14,27 @@ use Rattle.pep508_requirements.specs.declared.unnamed_view.UnnamedRequirementVie
 use Rattle.pep508_requirements.specs.declared.view.RequirementView.{RequirementView}
 
 module _ {T E : Type 0} where
-  -- the text is parsed as the requirement, with warnings of these kinds
-  abbrev pub ReadAs : (List ℕ → Surroundings → T → Type 0) → Surroundings → Contents → List ℕ
-      → Requirement T E → List MarkerWarningKind → Type 0
-  ReadAs names surroundings c text r kinds = IsReadAs (urls_in names surroundings) c text r.name
-      r.extras.items r.version_or_url r.marker kinds
+  -- The text is parsed as the requirement, with warnings of these kinds. The interner has its
+  -- marker, and where it comes from is not known.
+  pub record ReadAs (names : List ℕ → Surroundings → T → Type 0) (surroundings : Surroundings)
+      (c : Contents) (text : List ℕ) (r : Requirement T E) (kinds : List MarkerWarningKind)
+      : Type 0 where
+    pub read : IsReadAs (urls_in names surroundings) c text r.name r.extras.items
+        r.version_or_url r.marker kinds
+    pub held : IsHeld c r.marker
+    pub unknown : r.origin ≡ None
 
   -- the same with some warnings
   abbrev pub IsParsed : (List ℕ → Surroundings → T → Type 0) → Surroundings → Contents → List ℕ
       → Requirement T E → Type 0
   IsParsed names surroundings c text r =
       (kinds : List MarkerWarningKind) × ReadAs names surroundings c text r kinds
+
+  -- the text of a JSON string is parsed as the requirement
+  abbrev pub IsParsedJson : (List ℕ → Surroundings → T → Type 0) → Surroundings → Contents
+      → List ℕ → Requirement T E → Type 0
+  IsParsedJson names surroundings c json r =
+      (text : List ℕ) × IsStringOf json text × IsParsed names surroundings c text r
 
   -- the text is one of the requirement; `url_text` is what URLs print
   abbrev pub Prints : (T → Option (List ℕ)) → Contents → Requirement T E → List ℕ → Type 0
@@ -48,12 +59,15 @@ module _ {T E : Type 0} where
       (requirement_text url_text view.name.now view.extras.now view.version_or_url.now) P
 
 module _ {U E : Type 0} where
-  -- the text is parsed as the requirement without a name, with warnings of these kinds
-  abbrev pub IsParsedUnnamed : (List ℕ → Surroundings → U → Type 0) → Surroundings
-      → (U → Option (List ℕ)) → Contents → List ℕ → UnnamedRequirement U E
-      → List MarkerWarningKind → Type 0
-  IsParsedUnnamed names surroundings given_text c text r kinds = IsUnnamedReadAs
-      (urls_in names surroundings) given_text c text r.url r.extras.items r.marker kinds
+  -- the same of a requirement without a name
+  pub record IsParsedUnnamed (names : List ℕ → Surroundings → U → Type 0)
+      (surroundings : Surroundings) (given_text : U → Option (List ℕ)) (c : Contents)
+      (text : List ℕ) (r : UnnamedRequirement U E) (kinds : List MarkerWarningKind)
+      : Type 0 where
+    pub read : IsUnnamedReadAs (urls_in names surroundings) given_text c text r.url
+        r.extras.items r.marker kinds
+    pub held : IsHeld c r.marker
+    pub unknown : r.origin ≡ None
 
   -- the text is one of the requirement without a name
   abbrev pub PrintsUnnamed : (U → Option (List ℕ)) → Contents → UnnamedRequirement U E → List ℕ

@@ -1,11 +1,10 @@
 //! The end of a requirement: its marker as a tree.
 
-ghost use Rattle.std.specs.Prelude.{◌≡◌, ◌≤◌, ◌++◌, IfErr, IfOk, OnErr, Some};
+ghost use Rattle.std.specs.Prelude.{◌++◌, IfErr, IfOk, Some};
 ghost use Rattle.std.specs.Str.{chars};
 ghost use Rattle.pep508_text.specs.Suffix.{IsSuffix};
-ghost use Rattle.marker_graph.specs.Contents.{HoldsTheSame, IsHeld, IsKept};
 ghost use Rattle.requirement_words.specs.Tail.{IsTail};
-ghost use Rattle.pep508_markers.specs.Text.{IsRefusalIn, OnFault};
+ghost use Rattle.pep508_markers.specs.Text.{IsRefusalIn, KeepsInterner};
 ghost use Rattle.pep508_requirements.specs.Requirement.{IsTreeOfEnd};
 ghost use Rattle.pep508_requirements.specs.Refused.{IsEndRefusal};
 
@@ -25,13 +24,9 @@ fn read_marker<T: Pep508Url>(
 ) -> Result<(MarkerTree, Vec<MarkerWarningKind>), Refusal<Pep508Error<T>>>
     requires suffix { IsSuffix text.now marker.now }
     requires tail { IsTail (chars rest.now) (Some (chars marker.now)) }
-    ensures kept { IsKept interner.old interner.new }
-    ensures counts { interner.old.expansions ≤ interner.new.expansions }
-    ensures held { IfOk result (λ r. IsHeld interner.new r.0) }
+    ensures kept { KeepsInterner result interner.old interner.new }
     ensures means { IfOk result (λ r. IsTreeOfEnd interner.new (chars rest.now) r.0 r.1.items) }
     ensures refused { IfErr result (IsRefusalIn text.now marker.now) }
-    ensures untouched { OnFault result (interner.new ≡ interner.old) }
-    ensures released { OnErr result (HoldsTheSame interner.old interner.new) }
 {
     match read_behind(text, marker, interner) {
         Ok((tree, kinds)) => Ok((tree, kinds)),
@@ -50,13 +45,9 @@ pub(crate) fn read_end<T: Pep508Url>(
 ) -> Result<(MarkerTree, Vec<MarkerWarningKind>), Refusal<Pep508Error<T>>>
     requires suffix { IsSuffix text.now rest.now }
     requires placed { IsSuffix text.now (url.now ++ rest.now) }
-    ensures kept { IsKept interner.old interner.new }
-    ensures counts { interner.old.expansions ≤ interner.new.expansions }
-    ensures held { IfOk result (λ r. IsHeld interner.new r.0) }
+    ensures kept { KeepsInterner result interner.old interner.new }
     ensures means { IfOk result (λ r. IsTreeOfEnd interner.new (chars rest.now) r.0 r.1.items) }
     ensures refused { IfErr result (IsEndRefusal text.now url.now rest.now) }
-    ensures untouched { OnFault result (interner.new ≡ interner.old) }
-    ensures released { OnErr result (HoldsTheSame interner.old interner.new) }
 {
     match read_tail(url, rest) {
         Ok(Some(marker)) => read_marker(text, rest, marker, interner),

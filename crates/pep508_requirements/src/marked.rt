@@ -1,11 +1,11 @@
 //! Evaluating the markers of requirements, and changing requirements.
 
-ghost use Rattle.std.specs.Prelude.{◌≡◌, ◌≤◌, ◌&&◌, All, false, true, IfOk, OnErr, OnOk, Some};
-ghost use Rattle.marker_environment.specs.Environment.{valuation_of, values_of};
+ghost use Rattle.std.specs.Prelude.{◌≡◌, ◌&&◌, false, true, IfOk, OnErr, OnOk, Some};
 ghost use Rattle.marker_environment.specs.Valuation.{Valuation};
-ghost use Rattle.marker_graph.specs.Contents.{IsHeld, IsKept, truth};
-ghost use Rattle.pep508_errors.specs.declared.warning.MarkerWarningKind.TheVariants.{LexicographicComparison};
+ghost use Rattle.marker_graph.specs.Contents.{IsHeld, truth};
+ghost use Rattle.marker_graph.specs.Evaluation.{AreComparisons, Evaluates};
 ghost use Rattle.marker_walks.specs.Possible.{IsImpossibleAt, IsPossibleAt};
+ghost use Rattle.pep508_markers.specs.Text.{OnlyGrows};
 ghost use Rattle.pep508_requirements.specs.Changed.{without_url};
 
 use crate::origin::RequirementOrigin;
@@ -47,8 +47,7 @@ impl<T: Pep508Url> Requirement<T> {
         extra: &ExtraName,
     ) -> Result<(), AllocError>
         requires { IsHeld interner.old self.old.marker }
-        ensures kept { IsKept interner.old interner.new }
-        ensures counts { interner.old.expansions ≤ interner.new.expansions }
+        ensures kept { OnlyGrows interner.old interner.new }
         ensures held { IsHeld interner.new self.new.marker }
         ensures means { OnOk result ((v : Valuation) → truth interner.new self.new.marker v
             ≡ (truth interner.old self.old.marker v && v.extra extra.now)) }
@@ -68,8 +67,7 @@ impl<T: Pep508Url> Requirement<T> {
         extras: &[ExtraName],
     ) -> bool
         requires { IsHeld interner.now self.now.marker }
-        ensures { result ≡ truth interner.now self.now.marker
-            (valuation_of (values_of environment.now) extras.now) }
+        ensures { Evaluates interner.now self.now.marker environment.now extras.now result }
     {
         self.marker.evaluate(interner, environment, extras)
     }
@@ -103,10 +101,9 @@ impl<T: Pep508Url> Requirement<T> {
         extras: &[ExtraName],
     ) -> Result<(bool, Vec<(MarkerWarningKind, String)>), AllocError>
         requires { IsHeld interner.now self.now.marker }
-        ensures answer { IfOk result (λ r. r.0 ≡ truth interner.now self.now.marker
-            (valuation_of (values_of environment.now) extras.now)) }
-        ensures warnings { IfOk result (λ r. All
-            (λ warning. warning.0 ≡ LexicographicComparison) r.1.items) }
+        ensures answer { IfOk result (λ r.
+            Evaluates interner.now self.now.marker environment.now extras.now r.0) }
+        ensures warnings { IfOk result (λ r. AreComparisons r.1.items) }
     {
         self.marker
             .evaluate_collect_warnings(interner, environment, extras)

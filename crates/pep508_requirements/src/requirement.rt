@@ -1,13 +1,11 @@
 //! Requirements with a name.
 
-ghost use Rattle.std.specs.Prelude.{◌≡◌, ◌≤◌, ℕ, IfErr, IfOk, List, None, OnErr};
+ghost use Rattle.std.specs.Prelude.{IfErr, IfOk};
 ghost use Rattle.pep508_errors.specs.declared.warning.MarkerWarningKind.{MarkerWarningKind};
-ghost use Rattle.marker_graph.specs.Contents.{HoldsTheSame, IsHeld, IsKept};
-ghost use Rattle.pep508_markers.specs.Json.{IsStringOf};
-ghost use Rattle.pep508_markers.specs.Text.{OnFault};
+ghost use Rattle.pep508_markers.specs.Text.{KeepsInterner};
 ghost use Rattle.pep508_requirements.specs.Refused.{IsJsonRefusalIn, IsRefusalIn};
-ghost use Rattle.pep508_requirements.specs.Whole.{IsParsed, ReadAs};
-ghost use Rattle.pep508_requirements.specs.Reporting.{HasBegunRead, RefusesUnreported, ReportsRead};
+ghost use Rattle.pep508_requirements.specs.Whole.{IsParsed, IsParsedJson, ReadAs};
+ghost use Rattle.pep508_requirements.specs.Reporting.{ReportsRead, TellsOfRead};
 
 use crate::end::read_end;
 use crate::head::{read_named, read_version_or_url, written_url};
@@ -55,16 +53,11 @@ fn read<T: Pep508Url>(
     surroundings: &Surroundings<'_>,
     interner: &mut Interner,
 ) -> Result<(Requirement<T>, Vec<MarkerWarningKind>), Refusal<Pep508Error<T>>>
-    ensures kept { IsKept interner.old interner.new }
-    ensures counts { interner.old.expansions ≤ interner.new.expansions }
-    ensures held { IfOk result (λ r. IsHeld interner.new r.0.marker) }
+    ensures kept { KeepsInterner result interner.old interner.new }
     ensures means { IfOk result (λ r.
         ReadAs T.names surroundings.now interner.new text.now r.0 r.1.items) }
-    ensures unknown { IfOk result (λ r. r.0.origin ≡ None) }
     ensures refused { IfErr result (IsRefusalIn
         T.names T.tells_size T.may_overflow surroundings.now text.now) }
-    ensures untouched { OnFault result (interner.new ≡ interner.old) }
-    ensures released { OnErr result (HoldsTheSame interner.old interner.new) }
 {
     let alloc = interner.allocator();
     let (
@@ -106,16 +99,11 @@ impl<T: Pep508Url> Requirement<T> {
         surroundings: &Surroundings<'_>,
         interner: &mut Interner,
     ) -> Result<Requirement<T>, Refusal<Pep508Error<T>>>
-        ensures kept { IsKept interner.old interner.new }
-        ensures counts { interner.old.expansions ≤ interner.new.expansions }
-        ensures held { IfOk result (λ r. IsHeld interner.new r.marker) }
+        ensures kept { KeepsInterner result interner.old interner.new }
         ensures means { IfOk result
             (IsParsed T.names surroundings.now interner.new text.now) }
-        ensures unknown { IfOk result (λ r. r.origin ≡ None) }
         ensures refused { IfErr result (IsRefusalIn
             T.names T.tells_size T.may_overflow surroundings.now text.now) }
-        ensures untouched { OnFault result (interner.new ≡ interner.old) }
-        ensures released { OnErr result (HoldsTheSame interner.old interner.new) }
     {
         match read(text, surroundings, interner) {
             Ok((requirement, _)) => Ok(requirement),
@@ -138,20 +126,13 @@ impl<T: Pep508Url> Requirement<T> {
         interner: &mut Interner,
     ) -> Result<Requirement<T>, Refusal<Pep508Error<T>>>
         requires { R.can_report reporter.old }
-        ensures kept { IsKept interner.old interner.new }
-        ensures counts { interner.old.expansions ≤ interner.new.expansions }
-        ensures held { IfOk result (λ r. IsHeld interner.new r.marker) }
+        ensures kept { KeepsInterner result interner.old interner.new }
         ensures means { IfOk result (ReportsRead R.kinds reporter.old reporter.new
             T.names surroundings.now interner.new text.now) }
-        ensures unknown { IfOk result (λ r. r.origin ≡ None) }
         ensures refused { IfErr result (IsRefusalIn
             T.names T.tells_size T.may_overflow surroundings.now text.now) }
-        ensures untouched { OnFault result (interner.new ≡ interner.old) }
-        ensures released { OnErr result (HoldsTheSame interner.old interner.new) }
-        ensures unreported { IfErr result (RefusesUnreported R.kinds reporter.old reporter.new) }
-        ensures begun { IfErr result (λ _. HasBegunRead R.kinds reporter.old reporter.new
-            T.Err T.names surroundings.now text.now) }
-        ensures again { R.can_report reporter.new }
+        ensures reported { TellsOfRead R.can_report R.kinds reporter.old reporter.new
+            T.names surroundings.now text.now result }
     {
         let mark = interner.mark();
         let (requirement, kinds) = match read(text, surroundings, interner) {
@@ -178,16 +159,11 @@ impl<T: Pep508Url> Requirement<T> {
         surroundings: &Surroundings<'_>,
         interner: &mut Interner,
     ) -> Result<Requirement<T>, Refusal<Pep508Error<T>>>
-        ensures kept { IsKept interner.old interner.new }
-        ensures counts { interner.old.expansions ≤ interner.new.expansions }
-        ensures held { IfOk result (λ r. IsHeld interner.new r.marker) }
-        ensures means { IfOk result (λ r. (text : List ℕ) × IsStringOf json.now text
-            × IsParsed T.names surroundings.now interner.new text r) }
-        ensures unknown { IfOk result (λ r. r.origin ≡ None) }
+        ensures kept { KeepsInterner result interner.old interner.new }
+        ensures means { IfOk result
+            (IsParsedJson T.names surroundings.now interner.new json.now) }
         ensures refused { IfErr result (IsJsonRefusalIn
             T.names T.tells_size T.may_overflow surroundings.now json.now) }
-        ensures untouched { OnFault result (interner.new ≡ interner.old) }
-        ensures released { OnErr result (HoldsTheSame interner.old interner.new) }
     {
         let alloc = interner.allocator();
         match read_string(alloc, json)? {

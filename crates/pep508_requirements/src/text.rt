@@ -100,8 +100,7 @@ impl<T: Pep508Url> Requirement<T> {
     /// or readable and not `FALSE`.
     pub fn try_to_string(&self, interner: &Interner) -> Result<String, AllocError>
         requires { IsHeld interner.now self.now.marker }
-        ensures text { IfOk result (λ text.
-            Prints T.output interner.now self.now (string_bytes text)) }
+        ensures text { IfOk result (λ s. Prints T.output interner.now self.now (string_bytes s)) }
         ensures read_back { IfOk result (λ text. IfReadable interner.now self.now
             (ParsesBack T.names interner.now self.now (string_bytes text))) }
     {

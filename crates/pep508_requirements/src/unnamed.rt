@@ -1,14 +1,13 @@
 //! Requirements without a name.
 
-ghost use Rattle.std.specs.Prelude.{◌≡◌, ◌≤◌, IfErr, IfOk, None, OnErr, Some, false, true};
+ghost use Rattle.std.specs.Prelude.{◌≡◌, IfErr, IfOk, Some};
 ghost use Rattle.pep508_errors.specs.declared.warning.MarkerWarningKind.{MarkerWarningKind};
-ghost use Rattle.marker_environment.specs.Environment.{valuation_of, values_of};
-ghost use Rattle.marker_walks.specs.Possible.{IsImpossible, IsPossible};
-ghost use Rattle.marker_graph.specs.Contents.{HoldsTheSame, IsHeld, IsKept, truth};
-ghost use Rattle.pep508_markers.specs.Text.{OnFault};
+ghost use Rattle.marker_graph.specs.Contents.{IsHeld};
+ghost use Rattle.marker_graph.specs.Evaluation.{Admits, Evaluates, EvaluatesIn, Excludes};
+ghost use Rattle.pep508_markers.specs.Text.{KeepsInterner};
 ghost use Rattle.pep508_requirements.specs.Unnamed.{IsUnnamedRefusalIn};
 ghost use Rattle.pep508_requirements.specs.Whole.{IsParsedUnnamed};
-ghost use Rattle.pep508_requirements.specs.Reporting.{HasBegunUnnamed, RefusesUnreported, ReportsUnnamed};
+ghost use Rattle.pep508_requirements.specs.Reporting.{ReportsUnnamed, TellsOfUnnamed};
 
 use crate::end::read_end;
 use crate::origin::RequirementOrigin;
@@ -54,16 +53,11 @@ fn read<Url: UnnamedRequirementUrl>(
     surroundings: &Surroundings<'_>,
     interner: &mut Interner,
 ) -> Result<(UnnamedRequirement<Url>, Vec<MarkerWarningKind>), Refusal<Pep508Error<Url>>>
-    ensures kept { IsKept interner.old interner.new }
-    ensures counts { interner.old.expansions ≤ interner.new.expansions }
-    ensures held { IfOk result (λ r. IsHeld interner.new r.0.marker) }
+    ensures kept { KeepsInterner result interner.old interner.new }
     ensures means { IfOk result (λ r. IsParsedUnnamed Url.names surroundings.now Url.given_text
         interner.new text.now r.0 r.1.items) }
-    ensures unknown { IfOk result (λ r. r.0.origin ≡ None) }
     ensures refused { IfErr result (IsUnnamedRefusalIn
         Url.names Url.tells_size Url.may_overflow surroundings.now text.now) }
-    ensures untouched { OnFault result (interner.new ≡ interner.old) }
-    ensures released { OnErr result (HoldsTheSame interner.old interner.new) }
 {
     let alloc = interner.allocator();
     let (head, rest) = match read_unnamed(alloc, text) {
@@ -110,20 +104,13 @@ impl<Url: UnnamedRequirementUrl> UnnamedRequirement<Url> {
         interner: &mut Interner,
     ) -> Result<UnnamedRequirement<Url>, Refusal<Pep508Error<Url>>>
         requires { R.can_report reporter.old }
-        ensures kept { IsKept interner.old interner.new }
-        ensures counts { interner.old.expansions ≤ interner.new.expansions }
-        ensures held { IfOk result (λ r. IsHeld interner.new r.marker) }
+        ensures kept { KeepsInterner result interner.old interner.new }
         ensures means { IfOk result (ReportsUnnamed R.kinds reporter.old reporter.new
             Url.names surroundings.now Url.given_text interner.new text.now) }
-        ensures unknown { IfOk result (λ r. r.origin ≡ None) }
         ensures refused { IfErr result (IsUnnamedRefusalIn
             Url.names Url.tells_size Url.may_overflow surroundings.now text.now) }
-        ensures untouched { OnFault result (interner.new ≡ interner.old) }
-        ensures released { OnErr result (HoldsTheSame interner.old interner.new) }
-        ensures unreported { IfErr result (RefusesUnreported R.kinds reporter.old reporter.new) }
-        ensures begun { IfErr result (λ _. HasBegunUnnamed R.kinds reporter.old reporter.new
-            Url.names surroundings.now text.now) }
-        ensures again { R.can_report reporter.new }
+        ensures reported { TellsOfUnnamed R.can_report R.kinds reporter.old reporter.new
+            Url.names surroundings.now text.now result }
     {
         let mark = interner.mark();
         let (requirement, kinds) = match read(text, surroundings, interner) {
@@ -147,8 +134,7 @@ impl<Url: UnnamedRequirementUrl> UnnamedRequirement<Url> {
         extras: &[ExtraName],
     ) -> bool
         requires { IsHeld interner.now self.now.marker }
-        ensures { result ≡ truth interner.now self.now.marker
-            (valuation_of (values_of environment.now) extras.now) }
+        ensures { Evaluates interner.now self.now.marker environment.now extras.now result }
     {
         self.marker.evaluate(interner, environment, extras)
     }
@@ -163,13 +149,11 @@ impl<Url: UnnamedRequirementUrl> UnnamedRequirement<Url> {
         extras: &[ExtraName],
     ) -> bool
         requires { IsHeld interner.now self.now.marker }
-        ensures evaluated { (e : _) → environment.entry ≡ Some e
-            → result ≡ truth interner.now self.now.marker
-            (valuation_of (values_of e.now) extras.now) }
-        ensures possible { environment.entry ≡ None → result ≡ true
-            → IsPossible extras.now (truth interner.now self.now.marker) }
-        ensures impossible { environment.entry ≡ None → result ≡ false
-            → IsImpossible extras.now (truth interner.now self.now.marker) }
+        ensures evaluated { EvaluatesIn interner.now self.now.marker
+            environment.entry extras.now result }
+        ensures possible { Admits interner.now self.now.marker environment.entry extras.now result }
+        ensures impossible { Excludes interner.now self.now.marker
+            environment.entry extras.now result }
     {
         self.marker
             .evaluate_optional_environment(interner, environment, extras)

@@ -3,6 +3,7 @@
 ghost use Rattle.std.specs.Prelude.{◌≡◌, IfOk, None};
 ghost use Rattle.std.specs.Fmt.{DisplaysOnOk, DisplaysStyledOnOk};
 ghost use Rattle.marker_graph.specs.Contents.{IsHeld};
+ghost use Rattle.pep508_requirements.specs.View.{Shows};
 ghost use Rattle.pep508_requirements.specs.Whole.{WithUnnamedText};
 
 use crate::origin::RequirementOrigin;
@@ -47,8 +48,7 @@ impl<Url: UnnamedRequirementUrl> UnnamedRequirement<Url> {
         requires { IsHeld interner.now self.now.marker }
         ensures url { result.url.now ≡ self.now.url }
         ensures extras { result.extras.now ≡ self.now.extras.items }
-        ensures marker { result.marker.tree ≡ self.now.marker }
-        ensures interner { result.marker.interner.now ≡ interner.now }
+        ensures marker { Shows interner.now self.now.marker result.marker }
         ensures origin { result.origin.now ≡ self.now.origin }
     {
         UnnamedRequirementView {

@@ -1,10 +1,10 @@
 //! Requirements with a name, with the interners of their markers.
 
-ghost use Rattle.std.specs.Prelude.{◌≡◌, IfOk, None, string_bytes};
+ghost use Rattle.std.specs.Prelude.{◌≡◌, IfOk, None};
 ghost use Rattle.std.specs.Fmt.{DisplaysOnOk, DisplaysStyledOnOk};
-ghost use Rattle.std.specs.Option.{option_map};
-ghost use Rattle.marker_graph.specs.Contents.{IsHeld, truth};
-ghost use Rattle.marker_readable.specs.Text.{TellsText};
+ghost use Rattle.marker_graph.specs.Contents.{IsHeld};
+ghost use Rattle.pep508_markers.specs.Text.{TellsTree};
+ghost use Rattle.pep508_requirements.specs.View.{Shows};
 ghost use Rattle.pep508_requirements.specs.Whole.{WithRequirementText};
 
 use crate::origin::RequirementOrigin;
@@ -51,8 +51,7 @@ impl<T: Pep508Url> Requirement<T> {
         ensures name { result.name.now ≡ self.now.name }
         ensures extras { result.extras.now ≡ self.now.extras.items }
         ensures wanted { result.version_or_url.now ≡ self.now.version_or_url }
-        ensures marker { result.marker.tree ≡ self.now.marker }
-        ensures interner { result.marker.interner.now ≡ interner.now }
+        ensures marker { Shows interner.now self.now.marker result.marker }
         ensures origin { result.origin.now ≡ self.now.origin }
     {
         RequirementView {
@@ -67,8 +66,7 @@ impl<T: Pep508Url> Requirement<T> {
 
 // The text of a marker, or an error when memory runs out.
 pub(crate) fn marker_text(marker: &MarkerTreeView<'_>) -> Result<Option<String>, fmt::Error>
-    ensures { IfOk result (λ text. TellsText
-        (truth marker.now.interner.now marker.now.tree) (option_map string_bytes text)) }
+    ensures { IfOk result (TellsTree marker.now.interner.now marker.now.tree) }
 {
     match marker.tree().try_to_string(marker.interner()) {
         Ok(text) => Ok(text),

@@ -23,7 +23,7 @@ loop-fact-preserved c =
     let kept = kept_both c.loop-fact.interner c.expression.new.interner c.and.new.interner c.expression.ensures.kept c.and.ensures.kept in
     record {
       kept = kept_both c.args.interner.now c.loop-fact.interner c.and.new.interner c.loop-fact.invariant.kept kept;
-      held = c.and.ensures.held;
+      held = c.and.ensures.stays.held;
       means = λ v.
           joined_one (truth c.loop-fact.interner c.loop-fact.given v) (holds (test_of c.in-Some.fact) v) (truth c.and.new.interner c.and.new.self v)
           (all_hold (map test_of (into_iter_items c.next.new.self)) v) (all_hold (map test_of c.args.facts.items) v)

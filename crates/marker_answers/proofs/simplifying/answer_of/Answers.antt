@@ -4,7 +4,7 @@ use Rattle.std.specs.Global.{Global}
 use Rattle.marker_graph.specs.Contents.{truth}
 use Rattle.marker_graph.specs.declared.tree.TheConstants.MarkerTree.{FALSE}
 use Rattle.marker_graph.proofs.Firsts.{true_is}
-use Rattle.marker_readable.specs.Text.{TellsText}
+use Rattle.marker_view.specs.Text.{TellsText}
 use Rattle.marker_answers.proofs.GrantLaws.{other_is_true}
 use Rattle.marker_answers.proofs.simplifying.answer_of.Goals as goal
 

@@ -19,10 +19,10 @@ returns-in_err-wanted-in-Atom-clause-err c =
 
 pub loop-wanted-preserved-in-Atom : goal.loop-wanted-preserved-in-Atom
 loop-wanted-preserved-in-Atom c = record {
-  text = c.loop-wanted.invariant.text ∙ sym c.in_ok-wanted-in-Atom.ensures.text;
+  text = c.loop-wanted.invariant.text ∙ sym c.in_ok-wanted-in-Atom.ensures.advances.text;
   sound = c.in_ok-wanted-in-Atom.ensures.sound;
-  follows = follows_step _ c.loop-wanted.reader c.atom.new.self wanted.Atom _ (follows_at _ c.loop-wanted.reader _ wanted.Atom c.in-Atom.is c.loop-wanted.invariant.follows) c.in_ok-wanted-in-Atom.ensures.same;
-  opened = c.in_ok-wanted-in-Atom.ensures.opened (opened_at c.loop-wanted.reader _ wanted.Atom c.in-Atom.is c.loop-wanted.invariant.opened);
+  follows = follows_step _ c.loop-wanted.reader c.atom.new.self wanted.Atom _ (follows_at _ c.loop-wanted.reader _ wanted.Atom c.in-Atom.is c.loop-wanted.invariant.follows) c.in_ok-wanted-in-Atom.ensures.same.readings;
+  opened = c.in_ok-wanted-in-Atom.ensures.same.opened (opened_at c.loop-wanted.reader _ wanted.Atom c.in-Atom.is c.loop-wanted.invariant.opened);
 }
 
 pub returns-in_err-next-in-Rest-clause-err : goal.returns-in_err-next-in-Rest-clause-err
@@ -34,20 +34,20 @@ pub loop-wanted-preserved : goal.loop-wanted-preserved
 loop-wanted-preserved c =
     let same = rw c.in-Some.is at c.in_ok-next-in-Rest.ensures.same in
     let sound = rw c.in-Some.is at c.in_ok-next-in-Rest.ensures.sound in
-    let opened = rw c.in-Some.is at c.in_ok-next-in-Rest.ensures.opened in
+    let advances = rw c.in-Some.is at c.in_ok-next-in-Rest.ensures.advances in
     record {
-      text = c.loop-wanted.invariant.text ∙ sym c.in_ok-next-in-Rest.ensures.text;
+      text = c.loop-wanted.invariant.text ∙ sym advances.text;
       sound = sound;
-      follows = follows_step _ c.loop-wanted.reader c.follow.new.self wanted.Rest _ (follows_at _ c.loop-wanted.reader _ wanted.Rest c.in-Rest.is c.loop-wanted.invariant.follows) same;
-      opened = opened (opened_at c.loop-wanted.reader _ wanted.Rest c.in-Rest.is c.loop-wanted.invariant.opened);
+      follows = follows_step _ c.loop-wanted.reader c.follow.new.self wanted.Rest _ (follows_at _ c.loop-wanted.reader _ wanted.Rest c.in-Rest.is c.loop-wanted.invariant.follows) same.readings;
+      opened = same.opened (opened_at c.loop-wanted.reader _ wanted.Rest c.in-Rest.is c.loop-wanted.invariant.opened);
     }
 
 pub returns-clause-only : goal.returns-clause-only
 returns-clause-only c f k x =
     let ended = rw c.in-None.is at c.in_ok-next-in-Rest.ensures.ended in
-    (ended f k).0 ((follows_at _ c.loop-wanted.reader _ wanted.Rest c.in-Rest.is c.loop-wanted.invariant.follows f k).0 x)
+    (ended.one f k).0 ((follows_at _ c.loop-wanted.reader _ wanted.Rest c.in-Rest.is c.loop-wanted.invariant.follows f k).0 x)
 
 pub returns-clause-found : goal.returns-clause-found
 returns-clause-found c =
     let ended = rw c.in-None.is at c.in_ok-next-in-Rest.ensures.ended in
-    (follows_at _ c.loop-wanted.reader _ wanted.Rest c.in-Rest.is c.loop-wanted.invariant.follows _ _).1 ((ended _ _).1 (refl, refl))
+    (follows_at _ c.loop-wanted.reader _ wanted.Rest c.in-Rest.is c.loop-wanted.invariant.follows _ _).1 ((ended.one _ _).1 (refl, refl))

@@ -13,8 +13,8 @@ apply-requires-clause-valid c = next_is_valid c.args.formula.tokens.items (into_
 
 pub loop-token-preserved : goal.loop-token-preserved
 loop-token-preserved c = record {
-  kept = kept_on c.args.interner.now c.loop-token.interner c.apply.new.interner c.loop-token.invariant.kept c.apply.ensures.kept;
-  counts = omega (arith, c.loop-token.invariant.counts, c.apply.ensures.counts);
+  kept = kept_on c.args.interner.now c.loop-token.interner c.apply.new.interner c.loop-token.invariant.kept c.apply.ensures.kept.kept;
+  counts = omega (arith, c.loop-token.invariant.counts, c.apply.ensures.kept.counts);
   done = one_done c.args.formula.tokens.items (into_iter_items c.loop-token.tokens) (into_iter_items c.next.new.self) c.in-Some.token c.loop-token.interner c.apply.new.interner c.loop-token.runs.items c.apply.new.runs.items
       c.in-Some.ensures.items c.loop-token.invariant.done c.in_ok-apply.ensures.no_overflow c.in_ok-apply.ensures.runs;
 }

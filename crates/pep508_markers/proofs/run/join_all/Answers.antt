@@ -17,8 +17,8 @@ join_alike-requires c =
 
 pub loop-next-init : goal.loop-next-init
 loop-next-init c = record {
-  kept = c.join_alike.ensures.kept;
-  counts = c.join_alike.ensures.counts;
+  kept = c.join_alike.ensures.kept.kept;
+  counts = c.join_alike.ensures.kept.counts;
   held = c.in_ok-joined.ensures.held;
   means = λ v.
       c.in_ok-joined.ensures.means v
@@ -31,14 +31,14 @@ pub loop-next-preserved : goal.loop-next-preserved
 loop-next-preserved c =
     let alike = c.join_alike-in-Some-pop_front in
     record {
-      kept = kept_on c.args.interner.now alike.new.interner c.join_two.new.interner (kept_on c.args.interner.now c.loop-next.interner alike.new.interner c.loop-next.invariant.kept alike.ensures.kept) c.join_two.ensures.kept;
-      counts = omega (arith, c.loop-next.invariant.counts, alike.ensures.counts, c.join_two.ensures.counts);
+      kept = kept_on c.args.interner.now alike.new.interner c.join_two.new.interner (kept_on c.args.interner.now c.loop-next.interner alike.new.interner c.loop-next.invariant.kept alike.ensures.kept.kept) c.join_two.ensures.kept.kept;
+      counts = omega (arith, c.loop-next.invariant.counts, alike.ensures.kept.counts, c.join_two.ensures.kept.counts);
       held = both_held c.args.run.connective c.loop-next.interner alike.new.interner c.join_two.new.interner c.loop-next.joined c.in-Some-pop_front.next c.in_ok-tree.tree c.in_ok-joined-2.joined
-          c.loop-next.trees.items c.pop_front-in-loop-next.new.self.items alike.new.trees.items c.in-Some-pop_front.ensures.items alike.ensures.kept c.join_two.ensures.kept c.loop-next.invariant.held
+          c.loop-next.trees.items c.pop_front-in-loop-next.new.self.items alike.new.trees.items c.in-Some-pop_front.ensures.items alike.ensures.kept.kept c.join_two.ensures.kept.kept c.loop-next.invariant.held
           c.in_ok-tree.ensures.held c.in_ok-joined-2.ensures.held;
       means = λ v.
           both_mean c.args.run.connective c.loop-next.interner alike.new.interner c.join_two.new.interner c.loop-next.joined c.in-Some-pop_front.next c.in_ok-tree.tree c.in_ok-joined-2.joined
-          c.loop-next.trees.items c.pop_front-in-loop-next.new.self.items alike.new.trees.items c.in-Some-pop_front.ensures.items alike.ensures.kept c.join_two.ensures.kept c.loop-next.invariant.held
+          c.loop-next.trees.items c.pop_front-in-loop-next.new.self.items alike.new.trees.items c.in-Some-pop_front.ensures.items alike.ensures.kept.kept c.join_two.ensures.kept.kept c.loop-next.invariant.held
           c.in_ok-tree.ensures.held c.in_ok-tree.ensures.means c.in_ok-joined-2.ensures.means v
           ∙ c.loop-next.invariant.means v;
     }

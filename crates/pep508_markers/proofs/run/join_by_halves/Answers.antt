@@ -7,12 +7,12 @@ use Rattle.pep508_markers.proofs.run.join_by_halves.Goals as goal
 
 pub loop-right-preserved : goal.loop-right-preserved
 loop-right-preserved c = record {
-  kept = kept_on c.args.interner.now c.loop-right.interner c.join_two.new.interner c.loop-right.invariant.kept c.join_two.ensures.kept;
-  counts = omega (arith, c.loop-right.invariant.counts, c.join_two.ensures.counts);
+  kept = kept_on c.args.interner.now c.loop-right.interner c.join_two.new.interner c.loop-right.invariant.kept c.join_two.ensures.kept.kept;
+  counts = omega (arith, c.loop-right.invariant.counts, c.join_two.ensures.kept.counts);
   held = queue_held c.loop-right.interner c.join_two.new.interner c.args.connective (c.loop-right.left ∷ c.loop-right.trees.items) c.loop-right.trees.items c.pop_front.new.self.items (c.in_ok-left.left ∷ c.rotate.new.trees.items)
-      c.loop-right.left c.in-Some.right c.in_ok-tree.tree c.join_two.ensures.kept refl c.in-Some.ensures.items c.in_ok-left.ensures c.loop-right.invariant.held c.in_ok-tree.ensures.held;
+      c.loop-right.left c.in-Some.right c.in_ok-tree.tree c.join_two.ensures.kept.kept refl c.in-Some.ensures.items c.in_ok-left.ensures c.loop-right.invariant.held c.in_ok-tree.ensures.held;
   means = λ v. queue_joined c.loop-right.interner c.join_two.new.interner c.args.connective (c.loop-right.left ∷ c.loop-right.trees.items) c.loop-right.trees.items c.pop_front.new.self.items (c.in_ok-left.left ∷ c.rotate.new.trees.items)
-      c.loop-right.left c.in-Some.right c.in_ok-tree.tree c.join_two.ensures.kept refl c.in-Some.ensures.items c.in_ok-left.ensures c.loop-right.invariant.held c.in_ok-tree.ensures.means v ∙ c.loop-right.invariant.means v;
+      c.loop-right.left c.in-Some.right c.in_ok-tree.tree c.join_two.ensures.kept.kept refl c.in-Some.ensures.items c.in_ok-left.ensures c.loop-right.invariant.held c.in_ok-tree.ensures.means v ∙ c.loop-right.invariant.means v;
 }
 
 pub returns-clause-means : goal.returns-clause-means

@@ -1,5 +1,5 @@
 use Rattle.std.proofs.Common.{arith}
-use Rattle.marker_comparisons.specs.ValueSet.{contains}
+use Rattle.marker_simplifications.specs.ValueSet.{contains}
 use Rattle.pep508_markers.specs.Trees.{joins, truth_under}
 use Rattle.pep508_markers.proofs.SetLaws.{found_same, halves_held, halves_truth}
 use Rattle.pep508_markers.proofs.sets.+joined_set.Goals as goal

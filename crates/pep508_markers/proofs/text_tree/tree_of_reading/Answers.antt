@@ -3,12 +3,12 @@ use Rattle.std.proofs.lemmas.Bool.{eqb-true}
 use Rattle.marker_graph.specs.Contents.{Contents, IsKept}
 use Rattle.marker_graph.proofs.KeptLaws.{kept_same}
 use Rattle.marker_grammar.specs.Flat.{formula_of}
-use Rattle.pep508_markers.specs.Text.{IsTreeOf}
+use Rattle.pep508_markers.specs.Text.{HoldsTreeOf}
 use Rattle.pep508_markers.proofs.TextLaws.{marker_of_text, tree_of_text}
 use Rattle.pep508_markers.proofs.text_tree.tree_of_reading.Goals as goal
 
 pub returns-then-not-is_empty-clause-means : goal.returns-then-not-is_empty-clause-means
-returns-then-not-is_empty-clause-means c = tree_of_text c.tree_of.new.interner c.args.text.now c.in_ok-tree.tree (formula_of c.args.reading.formula) c.args.reading.kinds.items c.requires c.in_ok-tree.ensures.no_overflow c.in_ok-tree.ensures.means
+returns-then-not-is_empty-clause-means c = record { held = c.in_ok-tree.ensures.held; means = tree_of_text c.tree_of.new.interner c.args.text.now c.in_ok-tree.tree (formula_of c.args.reading.formula) c.args.reading.kinds.items c.requires c.in_ok-tree.ensures.no_overflow c.in_ok-tree.ensures.means }
 
 pub remember_text-requires : goal.remember_text-requires
 remember_text-requires c =
@@ -17,17 +17,17 @@ remember_text-requires c =
 
 pub returns-in-Ok-clause-means : goal.returns-in-Ok-clause-means
 returns-in-Ok-clause-means c =
-    subst (λ (x : Contents). IsTreeOf x c.args.text.now c.in_ok-tree.tree c.args.reading.kinds.items) (sym c.remember_text.ensures)
-    (tree_of_text c.tree_of.new.interner c.args.text.now c.in_ok-tree.tree (formula_of c.args.reading.formula) c.args.reading.kinds.items c.requires c.in_ok-tree.ensures.no_overflow c.in_ok-tree.ensures.means)
+    subst (λ (x : Contents). HoldsTreeOf x c.args.text.now c.in_ok-tree.tree c.args.reading.kinds.items) (sym c.remember_text.ensures)
+    (record { held = c.in_ok-tree.ensures.held; means = tree_of_text c.tree_of.new.interner c.args.text.now c.in_ok-tree.tree (formula_of c.args.reading.formula) c.args.reading.kinds.items c.requires c.in_ok-tree.ensures.no_overflow c.in_ok-tree.ensures.means })
 
 pub returns-in-Err-clause-released : goal.returns-in-Err-clause-released
-returns-in-Err-clause-released c = c.release.ensures.undone c.args.interner.now c.mark-mark.ensures (subst (IsKept c.args.interner.now) (sym c.remember_text.ensures) c.in_ok-tree.ensures.kept)
+returns-in-Err-clause-released c = c.release.ensures.undone c.args.interner.now c.mark-mark.ensures (subst (IsKept c.args.interner.now) (sym c.remember_text.ensures) c.in_ok-tree.ensures.kept.kept)
 
 pub returns-in-Err-clause-kept : goal.returns-in-Err-clause-kept
-returns-in-Err-clause-kept c = kept_same c.args.interner.now c.release.new.self (c.release.ensures.undone c.args.interner.now c.mark-mark.ensures (subst (IsKept c.args.interner.now) (sym c.remember_text.ensures) c.in_ok-tree.ensures.kept))
-
-pub returns-in-Err-clause-counts : goal.returns-in-Err-clause-counts
-returns-in-Err-clause-counts c =
+returns-in-Err-clause-kept c =
     let same : c.release.new.self.expansions ≡ c.remember_text.new.self.expansions = ap (λ x. x.expansions) c.release.ensures.released in
     let before : c.remember_text.new.self.expansions ≡ c.tree_of.new.interner.expansions = ap (λ x. x.expansions) c.remember_text.ensures in
-    omega (arith, same, before, c.in_ok-tree.ensures.counts)
+    record {
+      kept = kept_same c.args.interner.now c.release.new.self (c.release.ensures.undone c.args.interner.now c.mark-mark.ensures (subst (IsKept c.args.interner.now) (sym c.remember_text.ensures) c.in_ok-tree.ensures.kept.kept));
+      counts = omega (arith, same, before, c.in_ok-tree.ensures.kept.counts);
+    }

@@ -23,10 +23,10 @@ returns-in-Some-clause-sound c =
     }
 
 pub returns-in-Some-clause-same : goal.returns-in-Some-clause-same
-returns-in-Some-clause-same c = open_same _ _ _ c.in_ok-open.ensures c.skip_space-text.ensures.rest c.in-Some.ensures.found
-
-pub returns-in-Some-clause-opened : goal.returns-in-Some-clause-opened
-returns-in-Some-clause-opened c = opened_group _ _ _ _ _ _ _ _ c.in_ok-open.ensures c.skip_space-text.ensures.rest c.in-Some.ensures.found c.in-Some.ensures.bytes
+returns-in-Some-clause-same c = record {
+  readings = open_same _ _ _ c.in_ok-open.ensures c.skip_space-text.ensures.rest c.in-Some.ensures.found;
+  opened = opened_group _ _ _ _ _ _ _ _ c.in_ok-open.ensures c.skip_space-text.ensures.rest c.in-Some.ensures.found c.in-Some.ensures.bytes;
+}
 
 pub returns-in_err-expression-clause-err : goal.returns-in_err-expression-clause-err
 returns-in_err-expression-clause-err c =
@@ -46,9 +46,7 @@ returns-clause-sound c =
 pub returns-clause-same : goal.returns-clause-same
 returns-clause-same c =
     let read = c.in_ok-expression.ensures.found in
-    compare_same c.args.self.now.groups.items c.args.self.now.has_or (compared_behind c.skip_space-text.ensures.rest read.compared) c.in_ok-self.ensures.stack (ap of_test read.test) read.kinds
-
-pub returns-clause-opened : goal.returns-clause-opened
-returns-clause-opened c =
-    let read = c.in_ok-expression.ensures.found in
-    opened_compare _ c.args.self.now.has_or _ _ (compared_behind c.skip_space-text.ensures.rest read.compared) c.in_ok-self.ensures.stack (ap of_test read.test) read.kinds
+    record {
+      readings = compare_same c.args.self.now.groups.items c.args.self.now.has_or (compared_behind c.skip_space-text.ensures.rest read.compared) c.in_ok-self.ensures.stack (ap of_test read.test) read.kinds;
+      opened = opened_compare _ c.args.self.now.has_or _ _ (compared_behind c.skip_space-text.ensures.rest read.compared) c.in_ok-self.ensures.stack (ap of_test read.test) read.kinds;
+    }

@@ -1,4 +1,4 @@
-use Rattle.std.proofs.Common.{◌≡◌, [], ◌++◌, ◌-◌, take, sym, ap, ◌∙◌, subst}
+use Rattle.std.proofs.Common.{◌≡◌, [], ◌++◌, ◌-◌, take, refl, sym, ap, ◌∙◌, subst}
 use Rattle.std.specs.Str.{chars}
 use Rattle.pep508_text.specs.Run.{after_space}
 use Rattle.pep508_text.proofs.RunLaws.{trimmed_after_space}
@@ -17,9 +17,12 @@ returns-in-And-clause-sound c =
     record { full = c.requires.full; postfix = c.requires.postfix; valid = c.requires.valid; rest = suffix_then c.requires.rest (suffix_then c.skip_space-text.ensures.suffix c.keyword-word.ensures.suffix); groups = c.requires.groups }
 
 pub returns-in-And-clause-same : goal.returns-in-And-clause-same
-returns-in-And-clause-same c f k =
+returns-in-And-clause-same c =
     let word = subst (λ w. IsKeyword w (chars c.skip_space-text.result.now) (chars c.keyword-word.result.1.now)) c.in-And.is c.keyword-word.ensures.which in
-    (λ x. and_on c.skip_space-text.ensures.rest word x, λ y. and_back c.skip_space-text.ensures.rest word y)
+    record {
+      readings = λ f k. (λ x. and_on c.skip_space-text.ensures.rest word x, λ y. and_back c.skip_space-text.ensures.rest word y);
+      opened = opened_and _ _ _ _ _ _ c.skip_space-text.ensures.rest word;
+    }
 
 pub returns-in-Or-clause-sound : goal.returns-in-Or-clause-sound
 returns-in-Or-clause-sound c =
@@ -30,7 +33,10 @@ pub returns-in-Or-clause-same : goal.returns-in-Or-clause-same
 returns-in-Or-clause-same c =
     let joined = ored c.args.self.now c.requires _ _ c.in_ok-whole.ensures.tokens c.in_ok-whole.ensures.any in
     let word = subst (λ w. IsKeyword w (chars c.skip_space-text.result.now) (chars c.keyword-word.result.1.now)) c.in-Or.is c.keyword-word.ensures.which in
-    or_same c.args.self.now.groups.items joined c.skip_space-text.ensures.rest word
+    record {
+      readings = or_same c.args.self.now.groups.items joined c.skip_space-text.ensures.rest word;
+      opened = opened_or _ _ _ joined c.skip_space-text.ensures.rest word;
+    }
 
 pub returns-in-Some-first-clause-err : goal.returns-in-Some-first-clause-err
 returns-in-Some-first-clause-err c =
@@ -46,14 +52,12 @@ returns-in_default-pop-clause-ended c =
     let joined = ored c.args.self.now c.requires _ _ c.in_ok-whole.ensures.tokens c.in_ok-whole.ensures.any in
     let items = c.args.self.now.groups.items in
     let none : items ≡ [] = c.in_default-pop.ensures.items ∙ ap (λ x. x ++ []) (c.in_default-pop.ensures.rest ∙ ap (λ n. take (n - 1) items) c.in_default-pop.ensures.cases.0) in
-    end_same items none joined c.requires.full c.skip_space-text.ensures.rest c.in_default-first.ensures.characters
-
-pub returns-in_default-pop-clause-whole : goal.returns-in_default-pop-clause-whole
-returns-in_default-pop-clause-whole c =
-    let joined = ored c.args.self.now c.requires _ _ c.in_ok-whole.ensures.tokens c.in_ok-whole.ensures.any in
-    let items = c.args.self.now.groups.items in
-    let none : items ≡ [] = c.in_default-pop.ensures.items ∙ ap (λ x. x ++ []) (c.in_default-pop.ensures.rest ∙ ap (λ n. take (n - 1) items) c.in_default-pop.ensures.cases.0) in
-    (ored_postfix c.args.self.now c.requires _ c.in_ok-whole.ensures.tokens, one_left c.args.self.now c.requires _ _ none joined)
+    record {
+      text = refl;
+      one = end_same items none joined c.requires.full c.skip_space-text.ensures.rest c.in_default-first.ensures.characters;
+      whole = (ored_postfix c.args.self.now c.requires _ c.in_ok-whole.ensures.tokens, one_left c.args.self.now c.requires _ _ none joined);
+      valid = ored_valid c.args.self.now c.requires _ c.in_ok-whole.ensures.tokens;
+    }
 
 pub returns-in_default-strip-clause-err : goal.returns-in_default-strip-clause-err
 returns-in_default-strip-clause-err c =
@@ -81,25 +85,7 @@ returns-clause-same c =
     let popped = c.in-Some.ensures.items in
     let or_joined = ored c.args.self.now c.requires _ _ c.in_ok-whole.ensures.tokens c.in_ok-whole.ensures.any in
     let and_joined = anded c.args.self.now c.requires _ c.in-Some.group popped _ _ _ _ or_joined c.in_ok-self.ensures.tokens c.in_ok-self.ensures.any in
-    close_same _ c.in-Some.group popped or_joined and_joined c.skip_space-text.ensures.rest c.in-Some-strip.ensures.found
-
-pub returns-in-And-clause-opened : goal.returns-in-And-clause-opened
-returns-in-And-clause-opened c =
-    let word = subst (λ w. IsKeyword w (chars c.skip_space-text.result.now) (chars c.keyword-word.result.1.now)) c.in-And.is c.keyword-word.ensures.which in
-    opened_and _ _ _ _ _ _ c.skip_space-text.ensures.rest word
-
-pub returns-in-Or-clause-opened : goal.returns-in-Or-clause-opened
-returns-in-Or-clause-opened c =
-    let joined = ored c.args.self.now c.requires _ _ c.in_ok-whole.ensures.tokens c.in_ok-whole.ensures.any in
-    let word = subst (λ w. IsKeyword w (chars c.skip_space-text.result.now) (chars c.keyword-word.result.1.now)) c.in-Or.is c.keyword-word.ensures.which in
-    opened_or _ _ _ joined c.skip_space-text.ensures.rest word
-
-pub returns-in_default-pop-clause-valid : goal.returns-in_default-pop-clause-valid
-returns-in_default-pop-clause-valid c = ored_valid c.args.self.now c.requires _ c.in_ok-whole.ensures.tokens
-
-pub returns-clause-opened : goal.returns-clause-opened
-returns-clause-opened c =
-    let popped = c.in-Some.ensures.items in
-    let or_joined = ored c.args.self.now c.requires _ _ c.in_ok-whole.ensures.tokens c.in_ok-whole.ensures.any in
-    let and_joined = anded c.args.self.now c.requires _ c.in-Some.group popped _ _ _ _ or_joined c.in_ok-self.ensures.tokens c.in_ok-self.ensures.any in
-    opened_close _ c.in-Some.group _ popped _ _ _ _ or_joined and_joined c.skip_space-text.ensures.rest c.in-Some-strip.ensures.found
+    record {
+      readings = close_same _ c.in-Some.group popped or_joined and_joined c.skip_space-text.ensures.rest c.in-Some-strip.ensures.found;
+      opened = opened_close _ c.in-Some.group _ popped _ _ _ _ or_joined and_joined c.skip_space-text.ensures.rest c.in-Some-strip.ensures.found;
+    }

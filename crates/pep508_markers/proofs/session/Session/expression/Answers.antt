@@ -15,7 +15,7 @@ returns-in-Ok-expression-clause-answers c =
     let trees = c.args.self.now.cells.items in
     let making = Machine.expression (test_of c.args.expression.now) in
     let means = makes_test c.expression.new.interner (truths_of c.expression.new.interner trees) (test_of c.in-Ok.expression) (test_of c.args.expression.now) c.in-Ok-expression.tree c.new.result.items c.in-Ok.ensures.cases
-    c.in-Ok-expression.ensures.no_overflow c.in-Ok-expression.ensures.not_invalid c.in-Ok-expression.ensures.means c.new.ensures.items in
+    c.in-Ok-expression.ensures.made.no_overflow c.in-Ok-expression.ensures.made.not_invalid c.in-Ok-expression.ensures.means c.new.ensures.items in
     subst (λ (x : Cells). Step x (make making) (answer_of c.add.result) (cells_of c.add.new.self)) (truths_kept c.args.self.now.interner c.expression.new.interner trees c.expression.ensures.kept c.args.self.now.held) (c.add.ensures.answers making means)
 
 pub returns-in-Err-OutOfMemory-clause-answers : goal.returns-in-Err-OutOfMemory-clause-answers

@@ -22,13 +22,13 @@ returns-in-Ok-tree_of_reading-clause-answers c =
     let trees = c.args.self.now.cells.items in
     let making = Machine.parse c.args.text.now in
     let now = c.tree_of_reading.new.interner in
-    let means = makes_text now (truths_of now trees) c.args.text.now c.in-Ok-tree_of_reading.tree c.in-Ok-tree_of_reading.kinds.items c.in-Ok-tree_of_reading.ensures.means in
-    subst (λ (x : Cells). Step x (make making) (answer_of c.add-in-Ok-tree_of_reading.result) (cells_of c.add-in-Ok-tree_of_reading.new.self)) (truths_kept c.args.self.now.interner now trees c.tree_of_reading.ensures.kept c.args.self.now.held) (c.add-in-Ok-tree_of_reading.ensures.answers making means)
+    let means = makes_text now (truths_of now trees) c.args.text.now c.in-Ok-tree_of_reading.tree c.in-Ok-tree_of_reading.kinds.items c.in-Ok-tree_of_reading.ensures.means.means in
+    subst (λ (x : Cells). Step x (make making) (answer_of c.add-in-Ok-tree_of_reading.result) (cells_of c.add-in-Ok-tree_of_reading.new.self)) (truths_kept c.args.self.now.interner now trees c.tree_of_reading.ensures.kept.kept c.args.self.now.held) (c.add-in-Ok-tree_of_reading.ensures.answers making means)
 
 pub returns-in-Err-OutOfMemory-clause-answers : goal.returns-in-Err-OutOfMemory-clause-answers
-returns-in-Err-OutOfMemory-clause-answers c = refuses (starved (λ h. h)) (truths_kept c.args.self.now.interner c.tree_of_reading.new.interner c.args.self.now.cells.items c.tree_of_reading.ensures.kept c.args.self.now.held)
+returns-in-Err-OutOfMemory-clause-answers c = refuses (starved (λ h. h)) (truths_kept c.args.self.now.interner c.tree_of_reading.new.interner c.args.self.now.cells.items c.tree_of_reading.ensures.kept.kept c.args.self.now.held)
 
 pub returns-in-Err-SegmentAtEnd-clause-answers : goal.returns-in-Err-SegmentAtEnd-clause-answers
 returns-in-Err-SegmentAtEnd-clause-answers c =
     let overflows = formula_overflows c.in-Err-SegmentAtEnd.field-0 (formula_of c.in-Ok.reading.formula) c.in-Err-SegmentAtEnd.field-0-is c.in-Err-SegmentAtEnd.ensures.err in
-    refuses (text_overflows (formula_of c.in-Ok.reading.formula, (c.in-Ok.reading.kinds.items, c.in-Ok.ensures.found), overflows)) (truths_kept c.args.self.now.interner c.tree_of_reading.new.interner c.args.self.now.cells.items c.tree_of_reading.ensures.kept c.args.self.now.held)
+    refuses (text_overflows (formula_of c.in-Ok.reading.formula, (c.in-Ok.reading.kinds.items, c.in-Ok.ensures.found), overflows)) (truths_kept c.args.self.now.interner c.tree_of_reading.new.interner c.args.self.now.cells.items c.tree_of_reading.ensures.kept.kept c.args.self.now.held)

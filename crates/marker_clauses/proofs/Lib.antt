@@ -1,5 +1,0 @@
-pub mod JoinLaws
-pub mod BranchLaws
-pub mod EdgeLaws
-pub mod WalkLaws
-pub mod DnfLaws

@@ -1,5 +1,0 @@
-use Rattle.marker_print.proofs.ClauseLaws.{read_back}
-use Rattle.marker_print.proofs.laws.clauses_read_back.Goals as goal
-
-pub returns : goal.returns
-returns c = read_back

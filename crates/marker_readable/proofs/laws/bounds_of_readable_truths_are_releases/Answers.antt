@@ -1,5 +1,0 @@
-use Rattle.marker_readable.proofs.ReadableLaws.{readable_bounds}
-use Rattle.marker_readable.proofs.laws.bounds_of_readable_truths_are_releases.Goals as goal
-
-pub returns : goal.returns
-returns c = readable_bounds
