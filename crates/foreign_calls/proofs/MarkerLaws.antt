@@ -18,7 +18,7 @@ use Rattle.marker_environment.specs.Written as written_texts
 use Rattle.pep508_names.specs.Name.{NormalizesTo}
 use Rattle.marker_graph.specs.declared.tree.MarkerTree.{MarkerTree}
 use Rattle.marker_graph.specs.Contents.{Contents, IsHeld, truth}
-use Rattle.marker_readable.specs.Text.{TellsText}
+use Rattle.marker_view.specs.Text.{TellsText}
 use Rattle.pep508_markers.specs.Text.{IsTreeOf, IsRefusal}
 use Rattle.foreign_calls.specs.declared.answer.Answer.{Answer}
 use Rattle.foreign_calls.specs.declared.answer.Answer.TheVariants as answers

@@ -10,7 +10,7 @@ use Rattle.marker_grammar.specs.Formula.{Formula}
 use Rattle.marker_grammar.specs.Formula as formulas
 use Rattle.marker_grammar.specs.Grammar.{Reads}
 use Rattle.marker_grammar.specs.HasTest as tests
-use Rattle.marker_readable.specs.Text.{TellsText}
+use Rattle.marker_view.specs.Text.{TellsText}
 use Rattle.foreign_calls.specs.declared.environment.Environment.{Environment}
 use Rattle.foreign_calls.specs.Environment.{AreGiven, Names}
 

@@ -4,7 +4,7 @@ use mathlib.Core.Bool.{Bool, true, false}
 use lib.Dec.{T}
 use seplogic.Ra.Ura.{Ura}
 use mir.Raw.{raw as bare}
-use mir.Val.{Val, vptr, vbool, vnull, vstruct, vcons, vnil, of_list}
+use mir.Val.{Val, vptr, vbool, vstruct, vcons, vnil, of_list}
 use base.Logic.{never, fst∗}
 use types.Logic.{Logic, sem}
 use types.Kit.{Item, Goal, Seq, Step, step, ‵, ◌$◌, drop, fsplit, fjoin, fpick, fpack, feq_i, feq_l}
@@ -45,12 +45,13 @@ module _ {M : Type 1} {𝓤 : Ura M} {𝓛 : Logic 𝓤} {K : Type 0} {Γ : List
       feq_i t (List Val) (vbool true ∷ []) (vbool true ∷ []) refl $ fjoin t $ feq_i t (List Val) (v ∷ []) (v ∷ []) refl $ fjoin t $
       fpack t (Valss (bool ∷ RawPtr ∷ [])) (within (shape handle.the_type) (true, (block_ptr b o, tt)) (v ∷ [])) (vbool true ∷ [], (vptr b o ∷ [], tt)) $ fjoin t $ s)
 
-  pub shut_in : K → Step K 𝓛 (‵ (S.own_val (record { is_open = false; at = null_ptr; value = None }) (two (vbool false) vnull ∷ [])) ∷ Γ) G Γ G
-  shut_in t = step (λ s. let v : Val = two (vbool false) vnull in
+  -- a shut handle, whatever its pointer
+  pub shut_in : K → (p : Ptr) → Step K 𝓛 (‵ (S.own_val (record { is_open = false; at = p; value = None }) (two (vbool false) (ptr_val p) ∷ [])) ∷ Γ) G Γ G
+  shut_in t p = step (λ s. let v : Val = two (vbool false) (ptr_val p) in
       feq_i t (Option R.Denot) None None refl $
-      nothing t $ feq_i t (List Val) (vnull ∷ []) (vnull ∷ []) refl $ fjoin t $
+      nothing t $ feq_i t (List Val) (ptr_val p ∷ []) (ptr_val p ∷ []) refl $ fjoin t $
       feq_i t (List Val) (vbool false ∷ []) (vbool false ∷ []) refl $ fjoin t $ feq_i t (List Val) (v ∷ []) (v ∷ []) refl $ fjoin t $
-      fpack t (Valss (bool ∷ RawPtr ∷ [])) (within (shape handle.the_type) (false, (null_ptr, tt)) (v ∷ [])) (vbool false ∷ [], (vnull ∷ [], tt)) $ fjoin t $ s)
+      fpack t (Valss (bool ∷ RawPtr ∷ [])) (within (shape handle.the_type) (false, (p, tt)) (v ∷ [])) (vbool false ∷ [], (ptr_val p ∷ [], tt)) $ fjoin t $ s)
 
 pub shut_good : (p : Ptr) → Good (layout S) (two (vbool false) (ptr_val p))
 shut_good (block_ptr b o) = (tt, (tt, (tt, tt)))
@@ -61,10 +62,18 @@ ptr_good (block_ptr b o) = (tt, tt)
 ptr_good null_ptr = (tt, record { fits = lit< tt })
 
 module _ {M : Type 1} {𝓤 : Ura M} {𝓛 : Logic 𝓤} {K : Type 0} {Γ : List (Item 𝓤)} {G : Goal 𝓤 𝓛.H} where
+  -- a handle is open with a box, or shut
+  pub handle_opens : K → (d : S.Denot) (vs : List Val)
+      → ((b o : ℕ) (y : R.Denot) → d.is_open ≡ true → d.at ≡ block_ptr b o → d.value ≡ Some y → vs ≡ two (vbool true) (vptr b o) ∷ []
+      → Seq K 𝓛 (‵ (box_owns chunk R (block_ptr b o) y) ∷ Γ) G)
+      → (d.is_open ≡ false → d.value ≡ None → vs ≡ two (vbool false) (ptr_val d.at) ∷ [] → Seq K 𝓛 Γ G) → Seq K 𝓛 (‵ (S.own_val d vs) ∷ Γ) G
+  handle_opens t d vs opened shut = fsplit t $ fpick t (λ vss. fsplit t $ feq_l t (λ ev. fsplit t $ feq_l t (λ eb. fsplit t $ feq_l t (λ ep. drop t $
+      pick_case t d.is_open d.at d.value
+      (λ b o y e₁ e₂ e₃. opened b o y e₁ e₂ e₃ (ev ∙ (λ i. vstruct (of_list (eb i ++ (ep i ++ []))) ∷ []) ∙ (λ i. two (vbool (e₁ i)) (ptr_val (e₂ i)) ∷ [])))
+      (λ e₁ e₃. shut e₁ e₃ (ev ∙ (λ i. vstruct (of_list (eb i ++ (ep i ++ []))) ∷ []) ∙ (λ i. two (vbool (e₁ i)) (ptr_val d.at) ∷ [])))))))
+
+  -- the same without the handle's fields
   pub handle_out : K → (d : S.Denot) (vs : List Val)
       → ((b o : ℕ) (y : R.Denot) → d.value ≡ Some y → vs ≡ two (vbool true) (vptr b o) ∷ [] → Seq K 𝓛 (‵ (box_owns chunk R (block_ptr b o) y) ∷ Γ) G)
       → (d.value ≡ None → vs ≡ two (vbool false) (ptr_val d.at) ∷ [] → Seq K 𝓛 Γ G) → Seq K 𝓛 (‵ (S.own_val d vs) ∷ Γ) G
-  handle_out t d vs opened shut = fsplit t $ fpick t (λ vss. fsplit t $ feq_l t (λ ev. fsplit t $ feq_l t (λ eb. fsplit t $ feq_l t (λ ep. drop t $
-      pick_case t d.is_open d.at d.value
-      (λ b o y e₁ e₂ e₃. opened b o y e₃ (ev ∙ (λ i. vstruct (of_list (eb i ++ (ep i ++ []))) ∷ []) ∙ (λ i. two (vbool (e₁ i)) (ptr_val (e₂ i)) ∷ [])))
-      (λ e₁ e₃. shut e₃ (ev ∙ (λ i. vstruct (of_list (eb i ++ (ep i ++ []))) ∷ []) ∙ (λ i. two (vbool (e₁ i)) (ptr_val d.at) ∷ [])))))))
+  handle_out t d vs opened shut = handle_opens t d vs (λ b o y e₁ e₂ e₃ ws. opened b o y e₃ ws) (λ e₁ e₃ ws. shut e₃ ws)

@@ -45,32 +45,30 @@ impl Handle {
 
     /// Writes how many markers have a number.
     #[tactic(auto, using(crate::proofs::HandleLaws::laws))]
-    pub fn mark(&mut self, alloc: Global, count: &mut usize) -> Answer
+    pub fn mark(&mut self, count: &mut usize) -> Answer
         ensures done { result ≡ Done → HasCount count.new self.old }
         ensures same { state self.new.value ≡ state self.old.value }
         ensures kept { result ≢ Done → count.new ≡ count.old }
         ensures refused { result ≢ Done → (result ≡ Shut) × (self.old.value ≡ None) }
     {
-        let Some(markers) = self.take(alloc) else {
+        let Some(markers) = self.markers() else {
             return Answer::Shut;
         };
         *count = markers.count();
-        self.put(alloc, Handle::of(markers));
         Answer::Done
     }
 
     /// Removes the markers from this number on, with their nodes.
     #[tactic(auto, using(crate::proofs::HandleLaws::laws))]
-    pub fn release(&mut self, alloc: Global, count: usize) -> Answer
+    pub fn release(&mut self, count: usize) -> Answer
         ensures done { result ≡ Done → HasFirst count self.old self.new }
         ensures kept { result ≢ Done → self.new.value ≡ None }
         ensures refused { result ≢ Done → (result ≡ Shut) × (self.old.value ≡ None) }
     {
-        let Some(mut markers) = self.take(alloc) else {
+        let Some(markers) = self.markers() else {
             return Answer::Shut;
         };
         markers.release(count);
-        self.put(alloc, Handle::of(markers));
         Answer::Done
     }
 }
@@ -90,12 +88,10 @@ impl Handle {
         ensures kept { result ≢ Done → state self.new.value ≡ state self.old.value }
         ensures refused { result ≢ Done → Refuses TakesArguments [] self.old result }
     {
-        let Some(mut markers) = self.take(alloc) else {
+        let Some(markers) = self.markers() else {
             return Answer::Shut;
         };
-        let found = markers.set_environment(alloc, environment, extras);
-        self.put(alloc, Handle::of(markers));
-        match found {
+        match markers.set_environment(alloc, environment, extras) {
             Ok(()) => Answer::Done,
             Err(answer) => answer,
         }
@@ -103,7 +99,7 @@ impl Handle {
 
     /// Parses a marker, and writes its number.
     #[tactic(auto, using(crate::proofs::HandleLaws::laws))]
-    pub fn parse(&mut self, alloc: Global, text: &[u8], number: &mut usize) -> Answer
+    pub fn parse(&mut self, text: &[u8], number: &mut usize) -> Answer
         ensures done { result ≡ Done → HasMarkerOf text.now number.new self.old self.new }
         ensures kept { result ≢ Done → state self.new.value ≡ state self.old.value }
         ensures number { result ≢ Done → number.new ≡ number.old }
@@ -111,12 +107,10 @@ impl Handle {
         ensures too_large { result ≡ NumberTooLarge → TextOverflows text.now }
         ensures shut { self.old.value ≡ None → result ≡ Shut }
     {
-        let Some(mut markers) = self.take(alloc) else {
+        let Some(markers) = self.markers() else {
             return Answer::Shut;
         };
-        let found = markers.parse(text);
-        self.put(alloc, Handle::of(markers));
-        match found {
+        match markers.parse(text) {
             Ok(parsed) => {
                 *number = parsed;
                 Answer::Done
@@ -127,18 +121,16 @@ impl Handle {
 
     /// Writes the number of a new marker that is true where both are.
     #[tactic(auto, using(crate::proofs::HandleLaws::laws))]
-    pub fn and(&mut self, alloc: Global, a: usize, b: usize, number: &mut usize) -> Answer
+    pub fn and(&mut self, a: usize, b: usize, number: &mut usize) -> Answer
         ensures done { result ≡ Done → HasOneMore (conjunction a b) number.new self.old self.new }
         ensures kept { result ≢ Done → state self.new.value ≡ state self.old.value }
         ensures number { result ≢ Done → number.new ≡ number.old }
         ensures refused { result ≢ Done → Refuses TakesMemory (a ∷ b ∷ []) self.old result }
     {
-        let Some(mut markers) = self.take(alloc) else {
+        let Some(markers) = self.markers() else {
             return Answer::Shut;
         };
-        let found = markers.and(a, b);
-        self.put(alloc, Handle::of(markers));
-        match found {
+        match markers.and(a, b) {
             Ok(both) => {
                 *number = both;
                 Answer::Done
@@ -149,18 +141,16 @@ impl Handle {
 
     /// Writes the number of a new marker that is true where one of two is.
     #[tactic(auto, using(crate::proofs::HandleLaws::laws))]
-    pub fn or(&mut self, alloc: Global, a: usize, b: usize, number: &mut usize) -> Answer
+    pub fn or(&mut self, a: usize, b: usize, number: &mut usize) -> Answer
         ensures done { result ≡ Done → HasOneMore (disjunction a b) number.new self.old self.new }
         ensures kept { result ≢ Done → state self.new.value ≡ state self.old.value }
         ensures number { result ≢ Done → number.new ≡ number.old }
         ensures refused { result ≢ Done → Refuses TakesMemory (a ∷ b ∷ []) self.old result }
     {
-        let Some(mut markers) = self.take(alloc) else {
+        let Some(markers) = self.markers() else {
             return Answer::Shut;
         };
-        let found = markers.or(a, b);
-        self.put(alloc, Handle::of(markers));
-        match found {
+        match markers.or(a, b) {
             Ok(either) => {
                 *number = either;
                 Answer::Done
@@ -171,18 +161,16 @@ impl Handle {
 
     /// Writes the number of a new marker that is true where the given one is not.
     #[tactic(auto, using(crate::proofs::HandleLaws::laws))]
-    pub fn not(&mut self, alloc: Global, a: usize, number: &mut usize) -> Answer
+    pub fn not(&mut self, a: usize, number: &mut usize) -> Answer
         ensures done { result ≡ Done → HasOneMore (negation a) number.new self.old self.new }
         ensures kept { result ≢ Done → state self.new.value ≡ state self.old.value }
         ensures number { result ≢ Done → number.new ≡ number.old }
         ensures refused { result ≢ Done → Refuses TakesMemory (a ∷ []) self.old result }
     {
-        let Some(mut markers) = self.take(alloc) else {
+        let Some(markers) = self.markers() else {
             return Answer::Shut;
         };
-        let found = markers.not(a);
-        self.put(alloc, Handle::of(markers));
-        match found {
+        match markers.not(a) {
             Ok(negation) => {
                 *number = negation;
                 Answer::Done
@@ -196,18 +184,16 @@ impl Handle {
 impl Handle {
     /// Writes whether two markers are true in the same environments.
     #[tactic(auto, using(crate::proofs::HandleLaws::laws))]
-    pub fn equal(&mut self, alloc: Global, a: usize, b: usize, value: &mut bool) -> Answer
+    pub fn equal(&mut self, a: usize, b: usize, value: &mut bool) -> Answer
         ensures done { result ≡ Done → HasAnswer (machine.equal a b) value.new self.old }
         ensures same { state self.new.value ≡ state self.old.value }
         ensures kept { result ≢ Done → value.new ≡ value.old }
         ensures refused { result ≢ Done → Refuses Always (a ∷ b ∷ []) self.old result }
     {
-        let Some(markers) = self.take(alloc) else {
+        let Some(markers) = self.markers() else {
             return Answer::Shut;
         };
-        let found = markers.equal(a, b);
-        self.put(alloc, Handle::of(markers));
-        match found {
+        match markers.equal(a, b) {
             Ok(equal) => {
                 *value = equal;
                 Answer::Done
@@ -218,18 +204,16 @@ impl Handle {
 
     /// Writes whether two markers are never true together.
     #[tactic(auto, using(crate::proofs::HandleLaws::laws))]
-    pub fn disjoint(&mut self, alloc: Global, a: usize, b: usize, value: &mut bool) -> Answer
+    pub fn disjoint(&mut self, a: usize, b: usize, value: &mut bool) -> Answer
         ensures done { result ≡ Done → HasAnswer (machine.disjoint a b) value.new self.old }
         ensures same { state self.new.value ≡ state self.old.value }
         ensures kept { result ≢ Done → value.new ≡ value.old }
         ensures refused { result ≢ Done → Refuses TakesLooks (a ∷ b ∷ []) self.old result }
     {
-        let Some(markers) = self.take(alloc) else {
+        let Some(markers) = self.markers() else {
             return Answer::Shut;
         };
-        let found = markers.disjoint(a, b);
-        self.put(alloc, Handle::of(markers));
-        match found {
+        match markers.disjoint(a, b) {
             Ok(disjoint) => {
                 *value = disjoint;
                 Answer::Done
@@ -254,12 +238,10 @@ impl Handle {
         ensures kept { result ≢ Done → value.new ≡ value.old }
         ensures refused { result ≢ Done → Refuses TakesArguments (number ∷ []) self.old result }
     {
-        let Some(markers) = self.take(alloc) else {
+        let Some(markers) = self.markers() else {
             return Answer::Shut;
         };
-        let found = markers.evaluate(alloc, number, environment, extras);
-        self.put(alloc, Handle::of(markers));
-        match found {
+        match markers.evaluate(alloc, number, environment, extras) {
             Ok(holds) => {
                 *value = holds;
                 Answer::Done
@@ -270,18 +252,16 @@ impl Handle {
 
     /// Writes whether a marker is true in the environment that was set.
     #[tactic(auto, using(crate::proofs::HandleLaws::laws))]
-    pub fn is_true(&mut self, alloc: Global, number: usize, value: &mut bool) -> Answer
+    pub fn is_true(&mut self, number: usize, value: &mut bool) -> Answer
         ensures done { result ≡ Done → IsTrueThere number value.new self.old }
         ensures same { state self.new.value ≡ state self.old.value }
         ensures kept { result ≢ Done → value.new ≡ value.old }
         ensures refused { result ≢ Done → Refuses TakesEnvironment (number ∷ []) self.old result }
     {
-        let Some(markers) = self.take(alloc) else {
+        let Some(markers) = self.markers() else {
             return Answer::Shut;
         };
-        let found = markers.is_true(number);
-        self.put(alloc, Handle::of(markers));
-        match found {
+        match markers.is_true(number) {
             Ok(holds) => {
                 *value = holds;
                 Answer::Done
@@ -292,13 +272,7 @@ impl Handle {
 
     /// Writes the text of a marker, which is empty if it is true everywhere.
     #[tactic(auto, using(crate::proofs::HandleLaws::laws))]
-    pub fn text(
-        &mut self,
-        alloc: Global,
-        number: usize,
-        buffer: &mut [u8],
-        needed: &mut usize,
-    ) -> Answer
+    pub fn text(&mut self, number: usize, buffer: &mut [u8], needed: &mut usize) -> Answer
         ensures done { result ≡ Done → WritesText number buffer.old buffer.new needed.new self.old }
         ensures too_small { result ≡ BufferTooSmall
             → WouldWriteText number buffer.old buffer.new needed.new self.old }
@@ -309,12 +283,10 @@ impl Handle {
             → Refuses TakesMemory (number ∷ []) self.old result }
     {
         *needed = 0;
-        let Some(markers) = self.take(alloc) else {
+        let Some(markers) = self.markers() else {
             return Answer::Shut;
         };
-        let found = markers.text(number);
-        self.put(alloc, Handle::of(markers));
-        match found {
+        match markers.text(number) {
             Ok(text) => hand_over(text.as_bytes(), buffer, needed),
             Err(answer) => answer,
         }

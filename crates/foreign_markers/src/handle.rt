@@ -30,16 +30,24 @@ fn free(markers: Box<Markers>) {
 }
 
 impl Handle {
-    // Takes what the handle has, and leaves it shut.
+    ghost use Rattle.std.specs.Prelude.{MatchOption};
+    ghost use types.Logic.{sem};
+    ghost use Rattle.foreign_markers.specs.Lending.{LendsMarkers};
+
+    // The markers, if it is open.
     #[inline(always)]
-    pub(crate) fn take(&mut self, alloc: Global) -> Option<Box<Markers>>
-        ensures taken { option_map (λ markers. markers.value) result ≡ self.old.value }
-        ensures shut { self.new.value ≡ None }
+    pub(crate) fn markers(&mut self) -> Option<&mut Markers>
+        ensures* writes_back { sem 𝓛 (LendsMarkers self.entry result) }
+        ensures value { MatchOption result (self.old.value ≡ None)
+            (λ markers. Some markers.now ≡ self.old.value) }
     {
-        std::mem::replace(self, Handle::shut()).into_box(alloc)
+        if !self.is_open {
+            return None;
+        }
+        Some(unsafe { &mut *(self.at as *mut Markers) })
     }
 
-    // Puts another handle in its place, and frees what it had: nothing, if that was taken.
+    // Puts another handle in its place, and frees what it had.
     #[inline(always)]
     pub(crate) fn put(&mut self, alloc: Global, new: Handle)
         ensures { self.new.value ≡ new.value }

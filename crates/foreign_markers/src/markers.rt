@@ -1,5 +1,8 @@
 //! Markers of one interner by number.
 
+ghost use Rattle.std.specs.Prelude.{◌≡◌, ◌<◌, ◌∷◌, ◌++◌, [], OnErr, OnOk, vec_capacity, vec_len};
+ghost use Rattle.marker_graph.specs.Contents.{IsKept};
+ghost use Rattle.marker_graph.specs.Mark.{HoldsUpTo};
 ghost use Rattle.foreign_markers.specs.Entries.{AreHeld};
 
 use foreign_calls::{
@@ -9,7 +12,7 @@ use foreign_calls::{
 use marker_environment::MarkerEnvironment;
 use marker_graph::{Interner, Mark, MarkerTree};
 use pep508_names::ExtraName;
-use std::alloc::Global;
+use std::alloc::{AllocError, Global};
 
 // A marker, and how far the interner had grown before it was made.
 #[derive(Clone, Copy)]
@@ -35,8 +38,40 @@ pub struct Markers {
     ghost held: { AreHeld interner entries.items },
 }
 
+// Makes room for one more marker. Calls that are seldom made stay out of their callers, which then
+// have a small frame.
+#[inline(never)]
+fn grow(entries: &mut Vec<Entry>) -> Result<(), AllocError>
+    ensures room { OnOk result (vec_len entries.new < vec_capacity entries.new) }
+    ensures kept { entries.new.items ≡ entries.old.items }
+{
+    entries.reserve(1)
+}
+
+// Adds a marker to the end.
+#[inline(always)]
+fn push(entries: &mut Vec<Entry>, entry: Entry) -> Result<(), AllocError>
+    ensures added { OnOk result (entries.new.items ≡ entries.old.items ++ (entry ∷ [])) }
+    ensures kept { OnErr result (entries.new.items ≡ entries.old.items) }
+{
+    if entries.len() >= entries.capacity() {
+        grow(entries)?;
+    }
+    entries.push_reserved(entry);
+    Ok(())
+}
+
+// Removes the nodes made since the mark, for which there was no memory or no room.
+#[inline(never)]
+fn give_back(interner: &mut Interner, before: Mark)
+    ensures kept { IsKept interner.new interner.old }
+    ensures held { HoldsUpTo before interner.old interner.new }
+{
+    interner.release(before);
+}
+
 impl Markers {
-    ghost use Rattle.std.specs.Prelude.{◌≡◌, ◌≤◌, ◌⊎◌, ◌∷◌, [], IfErr, IfNone, IfOk, IfSome, OnErr, Some, length, slice_get, take};
+    ghost use Rattle.std.specs.Prelude.{◌≤◌, ◌⊎◌, IfErr, IfNone, IfOk, IfSome, Some, length, slice_get, take};
     ghost use Rattle.marker_graph.specs.Contents.{IsHeld, truth};
     ghost use Rattle.pep508_markers.specs.Machine.{Holds, Makes, conjunction, disjunction, negation};
     ghost use Rattle.foreign_calls.specs.Marker.{Says};
@@ -230,16 +265,16 @@ impl Markers {
         ensures environment { self.new.environment ≡ self.old.environment }
     {
         let number = self.entries.len();
-        match self.entries.push(Entry { tree, before }) {
+        match push(&mut self.entries, Entry { tree, before }) {
             Ok(()) => Ok(number),
             Err(_) => {
-                self.interner.release(before);
+                give_back(&mut self.interner, before);
                 Err(Answer::OutOfMemory)
             }
         }
     }
 
-    // Removes the nodes made since the mark, for which there was no memory or no room.
+    // Gives back the nodes made since the mark, and says why.
     #[tactic(auto, using(crate::proofs::NumberLaws::still_held))]
     fn undo(&mut self, before: Mark) -> Answer
         requires { AreBefore before self.old.entries.items }
@@ -247,7 +282,7 @@ impl Markers {
         ensures kept { truths_of self.new ≡ truths_of self.old }
         ensures environment { self.new.environment ≡ self.old.environment }
     {
-        self.interner.release(before);
+        give_back(&mut self.interner, before);
         out_of_memory(&self.interner)
     }
 }

@@ -4,7 +4,6 @@ use Rattle.std.specs.Prelude.{Result, Ok, Err, IfOk, IfErr, ◌⊎◌}
 use Rattle.refusal.specs.declared.Refusal.{Refusal}
 use Rattle.refusal.specs.declared.Refusal.TheVariants as refusals
 use Rattle.pep508_errors.specs.declared.surroundings.Surroundings.{Surroundings}
-use Rattle.pep508_errors.specs.declared.warning.MarkerWarningKind.{MarkerWarningKind}
 use Rattle.pep508_urls.specs.declared.error.VerbatimUrlError.{VerbatimUrlError}
 use Rattle.pep508_urls.specs.Fault.{tells_size, TextMayOverflow}
 use Rattle.pep508_urls.specs.Meaning.{IsVerbatim}
@@ -12,7 +11,7 @@ use Rattle.pep508_urls.specs.Verbatim.{Verbatim}
 use Rattle.marker_graph.specs.Contents.{Contents, truth}
 use Rattle.pep508_requirements.specs.declared.requirement.Requirement.{Requirement}
 use Rattle.pep508_requirements.specs.Refused.{IsRefusalIn}
-use Rattle.pep508_requirements.specs.Requirement.{IsReadAs, urls_in}
+use Rattle.pep508_requirements.specs.Whole.{IsParsed}
 use Rattle.foreign_calls.specs.Options.{AreIn}
 use Rattle.foreign_calls.specs.Refused.{Answers}
 use Rattle.foreign_calls.specs.declared.answer.Answer.{Answer}
@@ -23,17 +22,16 @@ Read = Requirement Verbatim VerbatimUrlError
 
 -- a requirement that is read in surroundings of a folder
 pub read_in : (c : Contents) (folder text : List ℕ) (s : Surroundings) (r : Result Read (Refusal Error)) → AreIn folder s
-    → IfOk r (λ r. (kinds : List MarkerWarningKind) × IsReadAs (urls_in IsVerbatim s) c text r.name r.extras.items r.version_or_url r.marker kinds)
-    → IfOk r (IsReadFrom c folder text)
+    → IfOk r (IsParsed IsVerbatim s c text) → IfOk r (IsReadFrom c folder text)
 read_in c folder text s (Ok r) are_in is = record {
   says = record {
     surroundings = s;
     are_in = are_in;
-    formula = is.1.formula;
+    formula = is.1.read.formula;
     kinds = is.0;
-    requirement = is.1.requirement;
-    no_overflow = is.1.no_overflow;
-    means = is.1.means;
+    requirement = is.1.read.requirement;
+    no_overflow = is.1.read.no_overflow;
+    means = is.1.read.means;
   };
 }
 read_in c folder text s (Err refusal) are_in is = tt

@@ -6,7 +6,7 @@ use Rattle.pep508_urls.specs.declared.error.VerbatimUrlError.{VerbatimUrlError}
 use Rattle.pep508_urls.specs.Verbatim.{Verbatim}
 use Rattle.marker_graph.specs.Contents.{Contents, truth}
 use Rattle.marker_environment.specs.Valuation.{Valuation}
-use Rattle.marker_readable.specs.Text.{TellsText}
+use Rattle.marker_view.specs.Text.{TellsText}
 use Rattle.pep508_requirements.specs.declared.requirement.Requirement.{Requirement}
 use Rattle.pep508_requirements.specs.Text.{requirement_text, IsTextOf}
 use Rattle.foreign_requirements.proofs.JsonLaws.{text_of_parts}

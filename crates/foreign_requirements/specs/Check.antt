@@ -38,6 +38,12 @@ pub record IsFault (folder text : List ℕ) (span : Span) (bytes : List ℕ) : T
   pub is : IsErrorIn folder text error
   pub told : IsToldBy error span bytes
 
+-- the place and the message stay as they were, and the message needs no room
+pub record TellsNothing (span told : Span) (message written : List ℕ) (needed : ℕ) : Type 0 where
+  pub span_kept : told ≡ span
+  pub kept : written ≡ message
+  pub none : needed ≡ 0
+
 -- it is a requirement if there is no fault, and otherwise invalid for that
 abbrev pub HasFault : List ℕ → List ℕ → Option Fault → Type 0
 HasFault folder text None = IsRequirement folder text

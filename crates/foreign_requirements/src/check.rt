@@ -3,8 +3,9 @@
 ghost use Rattle.std.specs.Prelude.{◌≡◌, ◌≢◌, IfErr, IfOk, string_bytes};
 ghost use Rattle.foreign_calls.specs.Buffer.{WritesIfRoom};
 ghost use Rattle.foreign_calls.specs.Options.{folder_of};
+ghost use Rattle.foreign_calls.specs.declared.answer.Answer.TheVariants.{BufferTooSmall, Done, Invalid, NumberTooLarge};
 ghost use Rattle.foreign_requirements.specs.Reading.{Overflows};
-ghost use Rattle.foreign_requirements.specs.Check.{HasFault, IsCheckRefusal, IsFault, IsRequirement, IsToldBy};
+ghost use Rattle.foreign_requirements.specs.Check.{HasFault, IsCheckRefusal, IsFault, IsRequirement, IsToldBy, TellsNothing};
 
 use crate::reading::parse;
 use foreign_calls::{Answer, Options, Settings, hand_over, out_of_memory, read_text};
@@ -37,7 +38,7 @@ impl Fault {
     #[tactic(auto, using(crate::proofs::CheckLaws::said))]
     fn of(alloc: Global, error: &Pep508Error<VerbatimUrl>) -> Result<Fault, AllocError>
         ensures { IfOk result
-            (λ fault. IsToldBy error.now fault.span (string_bytes fault.message)) }
+            (λ f. IsToldBy error.now f.span (string_bytes f.message)) }
     {
         Ok(Fault {
             span: Span {
@@ -88,17 +89,15 @@ pub fn check_requirement(
     message: &mut [u8],
     needed: &mut usize,
 ) -> Answer
-    ensures done { result ≡ Answer.Done → IsRequirement (folder_of options.now) text.now }
-    ensures invalid { result ≡ Answer.Invalid
+    ensures done { result ≡ Done → IsRequirement (folder_of options.now) text.now }
+    ensures invalid { result ≡ Invalid
         → WritesIfRoom (IsFault (folder_of options.now) text.now span.new)
         message.old message.new needed.new }
-    ensures too_large { result ≡ Answer.NumberTooLarge
+    ensures too_large { result ≡ NumberTooLarge
         → Overflows (folder_of options.now) text.now }
-
-    ensures span_kept { result ≢ Answer.Invalid → span.new ≡ span.old }
-    ensures kept { result ≢ Answer.Invalid → message.new ≡ message.old }
-    ensures none { result ≢ Answer.Invalid → needed.new ≡ 0 }
-    ensures not_small { result ≢ Answer.BufferTooSmall }
+    ensures kept { result ≢ Invalid
+        → TellsNothing span.old span.new message.old message.new needed.new }
+    ensures not_small { result ≢ BufferTooSmall }
 {
     *needed = 0;
     match fault_of(alloc, text, options) {

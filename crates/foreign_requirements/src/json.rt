@@ -27,7 +27,7 @@ pub(crate) struct Parts<'a> {
 // A text, or null.
 fn text_or_null(alloc: Global, text: Option<&str>) -> Result<Value, AllocError>
     ensures { IfOk result
-        (λ value. view value ≡ text_or_null (option_map (λ t. t.now) text.entry)) }
+        (λ v. view v ≡ text_or_null (option_map (λ t. t.now) text.entry)) }
 {
     match text {
         Some(text) => Value::try_from_str(alloc, text),

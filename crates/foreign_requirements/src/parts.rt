@@ -6,6 +6,7 @@ ghost use Rattle.pep440_specifier.specs.Text.{specifier_text};
 ghost use Rattle.marker_graph.specs.Contents.{IsHeld};
 ghost use Rattle.foreign_calls.specs.Buffer.{WouldWrite, Writes};
 ghost use Rattle.foreign_calls.specs.Options.{folder_of};
+ghost use Rattle.foreign_calls.specs.declared.answer.Answer.TheVariants.{BufferTooSmall, Done, Invalid, NumberTooLarge};
 ghost use Rattle.foreign_requirements.specs.Reading.{IsNoRequirement, IsRequirementRefusal, Overflows};
 ghost use Rattle.foreign_requirements.specs.Requirement.{ArePartsIn, ArePartsOf, specifiers_of, url_of};
 
@@ -93,18 +94,18 @@ pub fn requirement_parts(
     buffer: &mut [u8],
     needed: &mut usize,
 ) -> Answer
-    ensures done { result ≡ Answer.Done
+    ensures done { result ≡ Done
         → Writes (ArePartsOf (folder_of options.now) text.now) buffer.old buffer.new needed.new }
-    ensures too_small { result ≡ Answer.BufferTooSmall
+    ensures too_small { result ≡ BufferTooSmall
         → WouldWrite (ArePartsOf (folder_of options.now) text.now)
         buffer.old buffer.new needed.new }
 
-    ensures invalid { result ≡ Answer.Invalid
+    ensures invalid { result ≡ Invalid
         → IsNoRequirement (folder_of options.now) text.now }
-    ensures too_large { result ≡ Answer.NumberTooLarge
+    ensures too_large { result ≡ NumberTooLarge
         → Overflows (folder_of options.now) text.now }
-    ensures kept { result ≢ Answer.Done → buffer.new ≡ buffer.old }
-    ensures none { result ≢ Answer.Done → result ≢ Answer.BufferTooSmall → needed.new ≡ 0 }
+    ensures kept { result ≢ Done → buffer.new ≡ buffer.old }
+    ensures none { result ≢ Done → result ≢ BufferTooSmall → needed.new ≡ 0 }
 {
     *needed = 0;
     match parts_json_of(alloc, text, options) {

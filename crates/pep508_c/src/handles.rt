@@ -38,33 +38,28 @@ pub extern "C" fn pep508_interner_free(alloc: Global, handle: &mut Handle)
 
 /// Writes how many markers have a number.
 #[unsafe(no_mangle)]
-pub extern "C" fn pep508_interner_mark(alloc: Global, handle: &mut Handle, count: &mut usize) -> i32
+pub extern "C" fn pep508_interner_mark(handle: &mut Handle, count: &mut usize) -> i32
     ensures done { result ≡ done → HasCount count.new handle.old }
     ensures same { state handle.new.value ≡ state handle.old.value }
     ensures kept { result ≢ done → count.new ≡ count.old }
     ensures refused { result ≢ done → (result ≡ shut) × (handle.old.value ≡ None) }
 {
-    handle.mark(alloc, count).code()
+    handle.mark(count).code()
 }
 
 /// Removes the markers from this number on, with their nodes.
 #[unsafe(no_mangle)]
-pub extern "C" fn pep508_interner_release(alloc: Global, handle: &mut Handle, count: usize) -> i32
+pub extern "C" fn pep508_interner_release(handle: &mut Handle, count: usize) -> i32
     ensures done { result ≡ done → HasFirst count handle.old handle.new }
     ensures kept { result ≢ done → handle.new.value ≡ None }
     ensures refused { result ≢ done → (result ≡ shut) × (handle.old.value ≡ None) }
 {
-    handle.release(alloc, count).code()
+    handle.release(count).code()
 }
 
 /// Parses a marker, and writes its number.
 #[unsafe(no_mangle)]
-pub extern "C" fn pep508_marker_parse(
-    alloc: Global,
-    handle: &mut Handle,
-    text: &[u8],
-    number: &mut usize,
-) -> i32
+pub extern "C" fn pep508_marker_parse(handle: &mut Handle, text: &[u8], number: &mut usize) -> i32
     ensures done { result ≡ done → HasMarkerOf text.now number.new handle.old handle.new }
     ensures kept { result ≢ done → state handle.new.value ≡ state handle.old.value }
     ensures number { result ≢ done → number.new ≡ number.old }
@@ -72,13 +67,12 @@ pub extern "C" fn pep508_marker_parse(
     ensures too_large { result ≡ too_large → TextOverflows text.now }
     ensures shut { handle.old.value ≡ None → result ≡ shut }
 {
-    handle.parse(alloc, text, number).code()
+    handle.parse(text, number).code()
 }
 
 /// Writes the number of a new marker that is true where both are.
 #[unsafe(no_mangle)]
 pub extern "C" fn pep508_marker_and(
-    alloc: Global,
     handle: &mut Handle,
     a: usize,
     b: usize,
@@ -89,13 +83,12 @@ pub extern "C" fn pep508_marker_and(
     ensures number { result ≢ done → number.new ≡ number.old }
     ensures refused { result ≢ done → RefusesBy TakesMemory (a ∷ b ∷ []) handle.old result }
 {
-    handle.and(alloc, a, b, number).code()
+    handle.and(a, b, number).code()
 }
 
 /// Writes the number of a new marker that is true where one of two is.
 #[unsafe(no_mangle)]
 pub extern "C" fn pep508_marker_or(
-    alloc: Global,
     handle: &mut Handle,
     a: usize,
     b: usize,
@@ -106,29 +99,23 @@ pub extern "C" fn pep508_marker_or(
     ensures number { result ≢ done → number.new ≡ number.old }
     ensures refused { result ≢ done → RefusesBy TakesMemory (a ∷ b ∷ []) handle.old result }
 {
-    handle.or(alloc, a, b, number).code()
+    handle.or(a, b, number).code()
 }
 
 /// Writes the number of a new marker that is true where the given one is not.
 #[unsafe(no_mangle)]
-pub extern "C" fn pep508_marker_not(
-    alloc: Global,
-    handle: &mut Handle,
-    a: usize,
-    number: &mut usize,
-) -> i32
+pub extern "C" fn pep508_marker_not(handle: &mut Handle, a: usize, number: &mut usize) -> i32
     ensures done { result ≡ done → HasOneMore (negation a) number.new handle.old handle.new }
     ensures kept { result ≢ done → state handle.new.value ≡ state handle.old.value }
     ensures number { result ≢ done → number.new ≡ number.old }
     ensures refused { result ≢ done → RefusesBy TakesMemory (a ∷ []) handle.old result }
 {
-    handle.not(alloc, a, number).code()
+    handle.not(a, number).code()
 }
 
 /// Writes whether two markers are true in the same environments.
 #[unsafe(no_mangle)]
 pub extern "C" fn pep508_marker_equal(
-    alloc: Global,
     handle: &mut Handle,
     a: usize,
     b: usize,
@@ -139,13 +126,12 @@ pub extern "C" fn pep508_marker_equal(
     ensures kept { result ≢ done → value.new ≡ value.old }
     ensures refused { result ≢ done → RefusesBy Always (a ∷ b ∷ []) handle.old result }
 {
-    handle.equal(alloc, a, b, value).code()
+    handle.equal(a, b, value).code()
 }
 
 /// Writes whether two markers are never true together.
 #[unsafe(no_mangle)]
 pub extern "C" fn pep508_marker_disjoint(
-    alloc: Global,
     handle: &mut Handle,
     a: usize,
     b: usize,
@@ -156,7 +142,7 @@ pub extern "C" fn pep508_marker_disjoint(
     ensures kept { result ≢ done → value.new ≡ value.old }
     ensures refused { result ≢ done → RefusesBy TakesLooks (a ∷ b ∷ []) handle.old result }
 {
-    handle.disjoint(alloc, a, b, value).code()
+    handle.disjoint(a, b, value).code()
 }
 
 /// Writes whether a marker is true in an environment with these extras.
@@ -199,24 +185,18 @@ pub extern "C" fn pep508_interner_set_environment(
 
 /// Writes whether a marker is true in the environment that was set.
 #[unsafe(no_mangle)]
-pub extern "C" fn pep508_marker_is_true(
-    alloc: Global,
-    handle: &mut Handle,
-    number: usize,
-    value: &mut bool,
-) -> i32
+pub extern "C" fn pep508_marker_is_true(handle: &mut Handle, number: usize, value: &mut bool) -> i32
     ensures done { result ≡ done → IsTrueThere number value.new handle.old }
     ensures same { state handle.new.value ≡ state handle.old.value }
     ensures kept { result ≢ done → value.new ≡ value.old }
     ensures refused { result ≢ done → RefusesBy TakesEnvironment (number ∷ []) handle.old result }
 {
-    handle.is_true(alloc, number, value).code()
+    handle.is_true(number, value).code()
 }
 
 /// Writes the text of a marker, which is empty if it is true everywhere.
 #[unsafe(no_mangle)]
 pub extern "C" fn pep508_marker_text(
-    alloc: Global,
     handle: &mut Handle,
     number: usize,
     buffer: &mut [u8],
@@ -231,5 +211,5 @@ pub extern "C" fn pep508_marker_text(
     ensures refused { result ≢ done → result ≢ too_small
         → RefusesBy TakesMemory (number ∷ []) handle.old result }
 {
-    handle.text(alloc, number, buffer, needed).code()
+    handle.text(number, buffer, needed).code()
 }

@@ -5,4 +5,4 @@ use Rattle.foreign_markers.proofs.markers.Markers.undo.Goals as goal
 pub returns-clause-kept : goal.returns-clause-kept
 returns-clause-kept c =
     let self = c.args.self.now in
-    truths_back self.interner c.release.new.self self.entries.items c.args.before refl c.release.ensures.held c.release.ensures.kept self.held c.requires
+    truths_back self.interner c.give_back.new.interner self.entries.items c.args.before refl c.give_back.ensures.held c.give_back.ensures.kept self.held c.requires
