@@ -5,7 +5,7 @@ use pep508_program::{Coloring, color_argument, coloring_of, flag, limit_argument
 use std::alloc::{AllocError, Global};
 
 /// What becomes of the formatted files.
-#[derive(Clone, Copy, Debug, PartialEq, Eq)]
+#[derive(Clone, Copy, PartialEq, Eq)]
 pub enum FormatMode {
     /// The new text goes to standard output.
     Print,
@@ -16,7 +16,7 @@ pub enum FormatMode {
 }
 
 /// The command `fmt`.
-#[derive(Clone, Copy, Debug)]
+#[derive(Clone, Copy)]
 pub struct FormatCommand<'m> {
     /// The files; none means standard input, and so does `-`.
     pub files: &'m [&'m str],
@@ -35,14 +35,18 @@ fn command_line<'a>(alloc: Global) -> Result<Command<'a>, AllocError> {
     let check = "Name the lines that would change, and fail if there are some";
     let write = "Replace each file that changes by its new text";
     let limit = "The room of each requirement; one that needs more is too complex, and stays";
+    let check = flag(alloc, "check", check).conflicts_with("write")?;
+    let arguments = vec![in alloc;
+        files,
+        check,
+        flag(alloc, "write", write),
+        color_argument(alloc),
+        limit_argument(alloc, limit),
+    ]?;
     Command::new(alloc, "fmt")
         .about("Writes each requirement of a requirements file in its normal text")
         .after_help("Example: pep508 fmt --check requirements.txt")
-        .arg(files)?
-        .arg(flag(alloc, "check", check).conflicts_with("write")?)?
-        .arg(flag(alloc, "write", write))?
-        .arg(color_argument(alloc))?
-        .arg(limit_argument(alloc, limit))
+        .args(arguments)
 }
 
 /// Adds the command `fmt` to a command line.

@@ -16,7 +16,7 @@ use std::fmt::Write;
 use std::io;
 
 /// How files are formatted, and what becomes of them.
-#[derive(Clone, Copy, Debug)]
+#[derive(Clone, Copy)]
 pub(crate) struct Job<'s> {
     pub(crate) mode: FormatMode,
     pub(crate) settings: FormatSettings<'s>,

@@ -133,7 +133,7 @@ fn shown_of(
     requires first { IsHeld interner.old first }
     requires second { IsHeld interner.old second }
     ensures kept { IsKept interner.old interner.new }
-    ensures shows { IfOk result
+    ensures told { IfOk result
         (Shows (truth interner.old first) (truth interner.old second) side) }
 {
     let alloc = interner.allocator();

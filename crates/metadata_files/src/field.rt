@@ -20,7 +20,7 @@ pub enum FieldKind {
 }
 
 /// A field of metadata.
-#[derive(Clone, Copy, Debug)]
+#[derive(Clone, Copy)]
 pub struct Field<'a> {
     pub kind: FieldKind,
     /// The name, as it is written.

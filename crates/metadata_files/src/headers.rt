@@ -16,7 +16,7 @@ use requirement_lines::Piece;
 use std::alloc::{AllocError, Global};
 
 /// The headers of a metadata file.
-#[derive(Debug, Drop)]
+#[derive(Drop)]
 pub struct Headers<'a> {
     /// The fields, in order.
     pub fields: Vec<Field<'a>>,

@@ -38,14 +38,14 @@ pub enum Coloring {
 }
 
 /// A command of the program.
-#[derive(Clone, Copy, Debug, PartialEq, Eq)]
+#[derive(Clone, Copy, PartialEq, Eq)]
 pub enum Task {
     Check,
     List,
 }
 
 /// What the program is to do.
-#[derive(Clone, Copy, Debug)]
+#[derive(Clone, Copy)]
 pub struct Request<'m> {
     pub task: Task,
     /// The files; none means standard input, and so does `-`.
@@ -169,23 +169,25 @@ pub fn with_files<'a>(
 ) -> Result<Command<'a>, AllocError> {
     let recursive = "Search folders, the current one if there is no FILE";
     let limit = "The room of each requirement; one that needs more is too complex";
-    command
-        .arg(files_argument(alloc))?
-        .arg(kind_argument(alloc))?
-        .arg(flag(alloc, "recursive", recursive))?
-        .arg(format)?
-        .arg(color_argument(alloc))?
-        .arg(variable_argument(alloc))?
-        .arg(limit_argument(alloc, limit))
+    let arguments = vec![in alloc;
+        files_argument(alloc),
+        kind_argument(alloc),
+        flag(alloc, "recursive", recursive),
+        format,
+        color_argument(alloc),
+        variable_argument(alloc),
+        limit_argument(alloc, limit),
+    ]?;
+    command.args(arguments)
 }
 
 fn check_command<'a>(alloc: Global) -> Result<Command<'a>, AllocError> {
     let check = Command::new(alloc, "check")
         .about("Reports the errors and warnings of requirements files, metadata and projects")
         .after_help("Example: pep508 check --strict requirements.txt");
-    with_files(alloc, check, format_argument(alloc))?
-        .arg(flag(alloc, "strict", "Fail on warnings too"))?
-        .arg(ignore_argument(alloc))
+    let strict = flag(alloc, "strict", "Fail on warnings too");
+    let arguments = vec![in alloc; strict, ignore_argument(alloc)]?;
+    with_files(alloc, check, format_argument(alloc))?.args(arguments)
 }
 
 fn list_command<'a>(alloc: Global) -> Result<Command<'a>, AllocError> {
@@ -193,9 +195,9 @@ fn list_command<'a>(alloc: Global) -> Result<Command<'a>, AllocError> {
     let list = Command::new(alloc, "list")
         .about("Lists the requirements of requirements files, metadata and projects")
         .after_help("Example: pep508 list --format json requirements.txt");
-    with_files(alloc, list, format_argument(alloc))?
-        .arg(shows_values_argument(alloc))?
-        .arg(option(alloc, "group", "NAME", group))
+    let group = option(alloc, "group", "NAME", group);
+    let arguments = vec![in alloc; shows_values_argument(alloc), group]?;
+    with_files(alloc, list, format_argument(alloc))?.args(arguments)
 }
 
 /// Returns the command line of the program.

@@ -9,7 +9,7 @@ use unicode_width::UnicodeWidthChar;
 pub const SHOWN: usize = 200;
 
 /// A line of a file as it is shown, and which of its columns are marked.
-#[derive(Debug, Drop)]
+#[derive(Drop)]
 pub struct Excerpt {
     /// The line: tabs as four spaces, control characters made visible, passwords as `***`, and `…`
     /// where it is cut.
@@ -128,7 +128,7 @@ fn shown_after(text: &str) -> (usize, bool) {
 }
 
 // A line that is drawn from left to right.
-#[derive(Debug, Drop)]
+#[derive(Drop)]
 struct Drawing {
     line: String,
     columns: usize,

@@ -4,7 +4,7 @@ use std::alloc::{AllocError, AllocFailed};
 use std::io;
 
 /// Why a command ends before it is done.
-#[derive(Debug, Drop)]
+#[derive(Drop)]
 pub enum Failure {
     /// Memory ran out.
     OutOfMemory,

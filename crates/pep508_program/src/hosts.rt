@@ -4,7 +4,7 @@ use std::alloc::{AllocError, Global};
 use std::io;
 
 /// What an entry of a folder is.
-#[derive(Clone, Copy, Debug, PartialEq, Eq)]
+#[derive(Clone, Copy)]
 pub enum EntryKind {
     File,
     Folder,
@@ -13,7 +13,7 @@ pub enum EntryKind {
 }
 
 /// An entry of a folder.
-#[derive(Debug, Drop)]
+#[derive(Drop)]
 pub struct FolderEntry {
     /// Its name, without the folder.
     pub name: String,

@@ -1,14 +1,14 @@
 //! The output of `list` for a requirement.
 
 use crate::excerpts::visible;
-use crate::notices::{Format, Span, text_or_null};
+use crate::notices::{Format, Span, add_member, members_of};
 use requirement_findings::Listed;
 use requirement_lines::{Mark, Piece, cut_line, text_of};
 use serde_json::{Value, json};
 use std::alloc::{AllocError, Global};
 
 /// Where a requirement is.
-#[derive(Clone, Copy, Debug)]
+#[derive(Clone, Copy)]
 pub struct ListedPlace<'a> {
     /// The name of its file, as [`visible`](crate::visible) shows it.
     pub file: &'a str,
@@ -28,22 +28,33 @@ fn list_of(alloc: Global, texts: &[String]) -> Result<Value, AllocError> {
 
 // The JSON object of a requirement.
 fn object_of(alloc: Global, place: &ListedPlace<'_>, listed: &Listed) -> Result<Value, AllocError> {
-    json!(in alloc; {
-        "file": (place.file),
-        "line": (place.span.position.line),
-        "column": (place.span.position.column),
-        "key": (text_or_null(alloc, place.key)?),
-        "name": (text_or_null(alloc, listed.name.as_deref())?),
-        "extras": (list_of(alloc, listed.extras.as_slice())?),
-        "specifiers": (list_of(alloc, listed.specifiers.as_slice())?),
-        "url": (text_or_null(alloc, listed.url.as_deref())?),
-        "given_url": (text_or_null(alloc, listed.given_url.as_deref())?),
-        "marker": (text_or_null(alloc, listed.marker.as_deref())?),
-        "hashes": (list_of(alloc, listed.hashes.as_slice())?),
-        "editable": (listed.is_editable),
-        "constraint": (listed.is_constraint),
-        "text": (text_or_null(alloc, listed.text.as_deref())?)
-    })
+    let texts = [
+        ("file", Some(place.file)),
+        ("key", place.key),
+        ("name", listed.name.as_deref()),
+        ("url", listed.url.as_deref()),
+        ("given_url", listed.given_url.as_deref()),
+        ("marker", listed.marker.as_deref()),
+        ("text", listed.text.as_deref()),
+    ];
+    let position = place.span.position;
+    let numbers = [("line", position.line), ("column", position.column)];
+    let mut members = members_of(alloc, &texts, &numbers)?;
+    let lists = [
+        ("extras", listed.extras.as_slice()),
+        ("specifiers", listed.specifiers.as_slice()),
+        ("hashes", listed.hashes.as_slice()),
+    ];
+    for (name, list) in lists {
+        add_member(alloc, &mut members, name, list_of(alloc, list)?)?;
+    }
+    for (name, flag) in [
+        ("editable", listed.is_editable),
+        ("constraint", listed.is_constraint),
+    ] {
+        add_member(alloc, &mut members, name, Value::Bool(flag))?;
+    }
+    Ok(Value::Object(members))
 }
 
 // The requirement as it is written in the file.

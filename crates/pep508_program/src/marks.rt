@@ -6,7 +6,7 @@ use requirement_lines::{Piece, Place, Position, Positions, Source, place_at, tex
 use std::alloc::{AllocError, Global};
 
 /// A part of a line, with its finding. The mark of an include has none.
-#[derive(Debug, Drop)]
+#[derive(Drop)]
 pub struct Mark {
     start: Place,
     end: Place,

@@ -3,12 +3,12 @@
 use crate::excerpts::{Excerpt, draw_excerpt};
 use crate::secrets::Password;
 use requirement_lines::Position;
-use serde_json::{Value, json};
+use serde_json::{Map, Value, json};
 use std::alloc::{AllocError, Global};
 use std::fmt::Write;
 
 /// The format of errors, warnings and requirements.
-#[derive(Clone, Copy, Debug, PartialEq, Eq)]
+#[derive(Clone, Copy, PartialEq, Eq)]
 pub enum Format {
     /// Lines for people.
     Text,
@@ -17,14 +17,14 @@ pub enum Format {
 }
 
 /// Whether a command fails on it.
-#[derive(Clone, Copy, Debug, PartialEq, Eq)]
+#[derive(Clone, Copy)]
 pub enum Weight {
     Error,
     Warning,
 }
 
 /// A part of a file.
-#[derive(Clone, Copy, Debug, PartialEq, Eq)]
+#[derive(Clone, Copy)]
 pub struct Span {
     /// Its first byte, counted from the first of the file.
     pub start: usize,
@@ -35,7 +35,7 @@ pub struct Span {
 }
 
 /// An error or a warning, and where it is.
-#[derive(Clone, Copy, Debug)]
+#[derive(Clone, Copy)]
 pub struct Notice<'a> {
     pub weight: Weight,
     pub name: &'a str,
@@ -44,7 +44,7 @@ pub struct Notice<'a> {
 }
 
 /// A file as notices show it.
-#[derive(Clone, Copy, Debug)]
+#[derive(Clone, Copy)]
 pub struct Page<'a> {
     /// Its name, as [`visible`](crate::visible) shows it.
     pub name: &'a str,
@@ -55,7 +55,7 @@ pub struct Page<'a> {
 }
 
 /// How notices are written.
-#[derive(Clone, Copy, Debug, PartialEq, Eq)]
+#[derive(Clone, Copy)]
 pub struct Style {
     pub format: Format,
     /// Whether text has colors.
@@ -149,11 +149,41 @@ fn write_text(
 }
 
 // A text, or null.
-pub(crate) fn text_or_null(alloc: Global, text: Option<&str>) -> Result<Value, AllocError> {
+fn text_or_null(alloc: Global, text: Option<&str>) -> Result<Value, AllocError> {
     match text {
         Some(text) => json!(in alloc; (text)),
         None => Ok(Value::Null),
     }
+}
+
+// Adds a member to a JSON object.
+pub(crate) fn add_member(
+    alloc: Global,
+    members: &mut Map<String, Value>,
+    name: &str,
+    value: Value,
+) -> Result<(), AllocError> {
+    let name = String::from_str(alloc, name)?;
+    let _before = members.insert(name, value)?;
+    Ok(())
+}
+
+// The members of a JSON object with these texts, or null, and numbers.
+pub(crate) fn members_of(
+    alloc: Global,
+    texts: &[(&str, Option<&str>)],
+    numbers: &[(&str, usize)],
+) -> Result<Map<String, Value>, AllocError> {
+    let mut members = Map::new(alloc);
+    for (name, text) in texts {
+        let value = text_or_null(alloc, *text)?;
+        add_member(alloc, &mut members, name, value)?;
+    }
+    for (name, number) in numbers {
+        let value = json!(in alloc; (*number))?;
+        add_member(alloc, &mut members, name, value)?;
+    }
+    Ok(members)
 }
 
 // Writes a notice as JSON.
@@ -164,18 +194,22 @@ fn write_json(
     notice: &Notice<'_>,
     key: Option<&str>,
 ) -> Result<(), AllocError> {
-    let value = json!(in alloc; {
-        "file": (page.name),
-        "line": (notice.span.position.line),
-        "column": (notice.span.position.column),
-        "start": (notice.span.start),
-        "end": (notice.span.end),
-        "key": (text_or_null(alloc, key)?),
-        "kind": (notice.weight.word()),
-        "name": (notice.name),
-        "message": (notice.message)
-    })?;
-    let text = value.to_string(alloc)?;
+    let span = notice.span;
+    let texts = [
+        ("file", Some(page.name)),
+        ("key", key),
+        ("kind", Some(notice.weight.word())),
+        ("name", Some(notice.name)),
+        ("message", Some(notice.message)),
+    ];
+    let numbers = [
+        ("line", span.position.line),
+        ("column", span.position.column),
+        ("start", span.start),
+        ("end", span.end),
+    ];
+    let members = members_of(alloc, &texts, &numbers)?;
+    let text = Value::Object(members).to_string(alloc)?;
     out.push_str(text.as_str())?;
     out.push('\n')
 }

@@ -8,7 +8,7 @@ use std::collections::BTreeSet;
 use std::io;
 
 /// The result of opening a file.
-#[derive(Debug, Drop)]
+#[derive(Drop)]
 pub enum Opening {
     /// It is open now.
     Open(Sheet),
@@ -21,7 +21,7 @@ pub enum Opening {
 }
 
 /// Files by their resolved paths.
-#[derive(Debug, Drop)]
+#[derive(Drop)]
 pub struct OpenFiles {
     // Those that are being read, each named by the one before.
     open: Vec<String>,

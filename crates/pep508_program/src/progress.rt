@@ -14,7 +14,7 @@ const PAUSE: u64 = 200;
 const STEP: u64 = 256;
 
 /// Shows how many lines were read, on standard error if that is a terminal, after the first second.
-#[derive(Clone, Copy, Debug)]
+#[derive(Clone, Copy)]
 pub struct Progress {
     is_shown: bool,
     lines: u64,

@@ -1,12 +1,12 @@
 //! The entries of a project as they are reported.
 
 use project_files::{Content, ProjectEntry, Section};
-use project_findings::{CheckedProject, fault_finding, place_findings};
+use project_findings::{CheckedProject, EntryPlace, fault_finding, place_findings};
 use requirement_findings::{CheckedText, Finding, Listed};
 use std::alloc::{AllocError, Global};
 
 // An entry of a project.
-#[derive(Debug, Drop)]
+#[derive(Drop)]
 pub(crate) struct EntryReport {
     // Its first byte in the file.
     pub(crate) start: usize,
@@ -30,6 +30,37 @@ fn key_of(alloc: Global, entry: &ProjectEntry) -> Result<String, AllocError> {
     format!(in alloc; "{key}")
 }
 
+// The report of an entry at its place, without its fault.
+fn report_of(
+    alloc: Global,
+    text: &str,
+    entry: &ProjectEntry,
+    place: EntryPlace,
+    checked: CheckedText,
+) -> Result<EntryReport, AllocError> {
+    let CheckedText { findings, listed } = checked;
+    let findings = place_findings(alloc, text, entry, place, findings)?;
+    Ok(EntryReport {
+        start: place.part(entry).start,
+        key: key_of(alloc, entry)?,
+        findings,
+        listed,
+        is_requirement: is_requirement(entry),
+    })
+}
+
+// Adds a finding to the report of this number.
+fn add_finding(
+    reports: &mut [EntryReport],
+    number: usize,
+    finding: Finding,
+) -> Result<(), AllocError> {
+    if let Some(report) = reports.get_mut(number) {
+        report.findings.push(finding)?;
+    }
+    Ok(())
+}
+
 // The reports of the entries of a project, in their order.
 pub(crate) fn reports_of(
     alloc: Global,
@@ -42,25 +73,17 @@ pub(crate) fn reports_of(
         checked,
     } = project;
     let mut reports = Vec::new(alloc);
-    for CheckedText { findings, listed } in checked {
+    for text_checked in checked {
         let number = reports.len();
         if let (Some(entry), Some(place)) = (file.entries.get(number), places.get(number)) {
-            reports.push(EntryReport {
-                start: place.part(entry).start,
-                key: key_of(alloc, entry)?,
-                findings: place_findings(alloc, text, entry, *place, findings)?,
-                listed,
-                is_requirement: is_requirement(entry),
-            })?;
+            reports.push(report_of(alloc, text, entry, *place, text_checked)?)?;
         }
     }
-    for fault in file.faults {
+    for fault in file.faults.iter() {
         let number = fault.entry;
         if let (Some(entry), Some(place)) = (file.entries.get(number), places.get(number)) {
             let finding = fault_finding(alloc, text, entry, *place, fault.kind)?;
-            if let Some(report) = reports.get_mut(number) {
-                report.findings.push(finding)?;
-            }
+            add_finding(reports.as_mut_slice(), number, finding)?;
         }
     }
     Ok(reports)

@@ -15,7 +15,7 @@ use std::io;
 const KEPT: usize = 65536;
 
 /// What a command has reported, and the output that is not written yet.
-#[derive(Debug, Drop)]
+#[derive(Drop)]
 pub struct Report<'s> {
     pub style: Style,
     /// Names of warnings that are not reported.

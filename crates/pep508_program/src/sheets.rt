@@ -7,7 +7,7 @@ use crate::texts::{Encoding, FileText, decode, foreign_encoding};
 use std::alloc::{AllocError, Global};
 
 /// A file that is read.
-#[derive(Debug, Drop)]
+#[derive(Drop)]
 pub struct Sheet {
     /// Its path.
     pub path: String,

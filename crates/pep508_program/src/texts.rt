@@ -8,7 +8,7 @@ use std::alloc::{AllocError, Global};
 pub const SUBSTITUTE: char = '\u{1a}';
 
 /// The text of a file.
-#[derive(Debug, Drop)]
+#[derive(Drop)]
 pub struct FileText {
     /// The text: of as many bytes as the file, with [`SUBSTITUTE`] for each that is not UTF-8.
     pub text: String,
@@ -17,7 +17,7 @@ pub struct FileText {
 }
 
 /// An encoding that is not supported.
-#[derive(Clone, Copy, Debug, PartialEq, Eq)]
+#[derive(Clone, Copy)]
 pub enum Encoding {
     Utf16,
     Utf32,

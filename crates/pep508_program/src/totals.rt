@@ -4,7 +4,7 @@ ghost use Rattle.std.specs.Prelude.{◌≡◌, ◌<◌, ◌↔◌, ◌≤◌};
 ghost use Rattle.pep508_program.specs.Status.{HasFailed, HasFindings, IsFinished};
 
 /// How much was reported.
-#[derive(Clone, Copy, Debug, PartialEq, Eq)]
+#[derive(Clone, Copy)]
 pub struct Tally {
     /// Errors in files.
     pub errors: u64,
@@ -15,7 +15,7 @@ pub struct Tally {
 }
 
 /// Why a command ended.
-#[derive(Clone, Copy, Debug, PartialEq, Eq)]
+#[derive(Clone, Copy, PartialEq, Eq)]
 pub enum Ending {
     /// It is done.
     Done,
@@ -28,7 +28,7 @@ pub enum Ending {
 }
 
 /// How a command that reads files ended.
-#[derive(Clone, Copy, Debug, PartialEq, Eq)]
+#[derive(Clone, Copy)]
 pub struct Finish {
     pub tally: Tally,
     pub ending: Ending,

@@ -6,7 +6,7 @@ use std::alloc::{AllocError, Global};
 use std::collections::BTreeMap;
 
 /// The sources of values of variables.
-#[derive(Clone, Copy, Debug)]
+#[derive(Clone, Copy)]
 pub struct Values<'s> {
     /// Variables of the command line, as `NAME=VALUE`.
     pub given: &'s [&'s str],

@@ -35,7 +35,7 @@ use std::io;
 pub const DEEPEST: u32 = 100;
 
 // The place of a line that was checked.
-#[derive(Clone, Copy, Debug)]
+#[derive(Clone, Copy)]
 struct Spot {
     // Which of the files that were opened.
     file: usize,
@@ -43,7 +43,7 @@ struct Spot {
 }
 
 // A file that a line includes.
-#[derive(Debug, Drop)]
+#[derive(Drop)]
 struct Include {
     path: String,
     // No character of the path comes from the value of a variable.
@@ -357,8 +357,42 @@ impl<'s, H: Host, C: CheckLines> Walk<'s, H, C> {
         self.report.print(text.as_str())
     }
 
+    // Reports the findings of a line, or of a key of a project, and lists its requirement. Hints
+    // come last.
+    fn report_marked(
+        &mut self,
+        sheet: &Sheet,
+        line: &[Piece<'_>],
+        span: Span,
+        key: Option<&str>,
+        marks: &[Mark],
+        listed: Option<&Listed>,
+    ) -> Result<(), AllocError>
+        ensures { Grows self.old.report.tally self.new.report.tally }
+    {
+        self.report_marks(&sheet.page(), marks, false, key)?;
+        self.report_marks(&sheet.page(), marks, true, key)?;
+        self.list_line(sheet, line, span, key, listed)
+    }
+
     // Reports the findings of a line, and lists its requirement. Returns the file that the line
     // includes.
+    fn report_content(
+        &mut self,
+        sheet: &Sheet,
+        line: &[Piece<'_>],
+        span: Span,
+        content: &FileLine<'_>,
+        marks: &[Mark],
+        listed: Option<&Listed>,
+    ) -> Result<Option<Include>, AllocError>
+        ensures { Grows self.old.report.tally self.new.report.tally }
+    {
+        self.report_marked(sheet, line, span, None, marks, listed)?;
+        include_of(self.alloc, content, marks)
+    }
+
+    // Counts the requirement of a line that was checked, and reports what was found.
     fn report_line(
         &mut self,
         reading: &mut Reading<'_>,
@@ -380,10 +414,14 @@ impl<'s, H: Host, C: CheckLines> Walk<'s, H, C> {
         let path = included_path(&content);
         let positions = &mut reading.positions;
         let marks = marks_of(self.alloc, sheet.text(), findings, path, positions)?;
-        self.report_marks(&sheet.page(), marks.as_slice(), false, None)?;
-        self.report_marks(&sheet.page(), marks.as_slice(), true, None)?;
-        self.list_line(sheet, line, span, None, listed.as_ref())?;
-        include_of(self.alloc, &content, marks.as_slice())
+        self.report_content(
+            sheet,
+            line,
+            span,
+            &content,
+            marks.as_slice(),
+            listed.as_ref(),
+        )
     }
 
     // Checks a line, whose variables are replaced, and reports the findings.
@@ -591,7 +629,23 @@ impl<'s, H: Host, C: CheckLines> Walk<'s, H, C> {
         Ok(())
     }
 
-    // Reads a file of this kind.
+    // Reads a whole file of this kind.
+    fn walk_whole(
+        &mut self,
+        sheet: &Sheet,
+        kind: FileKind,
+        variables: &mut BTreeMap<String, String>,
+    ) -> Result<(), Failure>
+        ensures { Grows self.old.report.tally self.new.report.tally }
+    {
+        match kind {
+            FileKind::Project => self.walk_project(sheet),
+            FileKind::Metadata => self.walk_metadata(sheet),
+            FileKind::Requirements => self.walk_file(sheet, variables, DEEPEST),
+        }
+    }
+
+    // Reads a file of this kind, or one group of it.
     fn walk_sheet(
         &mut self,
         sheet: &Sheet,
@@ -600,12 +654,12 @@ impl<'s, H: Host, C: CheckLines> Walk<'s, H, C> {
     ) -> Result<(), Failure>
         ensures { Grows self.old.report.tally self.new.report.tally }
     {
-        match (kind, self.request.group) {
-            (FileKind::Project, None) => self.walk_project(sheet),
-            (FileKind::Project, Some(group)) => self.walk_group(sheet, group),
-            (_, Some(_)) => self.refuse_kind(sheet),
-            (FileKind::Metadata, None) => self.walk_metadata(sheet),
-            (FileKind::Requirements, None) => self.walk_file(sheet, variables, DEEPEST),
+        let Some(group) = self.request.group else {
+            return self.walk_whole(sheet, kind, variables);
+        };
+        match kind {
+            FileKind::Project => self.walk_group(sheet, group),
+            FileKind::Metadata | FileKind::Requirements => self.refuse_kind(sheet),
         }
     }
 

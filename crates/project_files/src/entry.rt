@@ -39,7 +39,7 @@ pub enum ProjectFaultKind {
 }
 
 /// What is at a key.
-#[derive(Debug, Drop)]
+#[derive(Drop)]
 pub enum Content {
     /// A string: specifiers at `project.requires-python`, a requirement elsewhere.
     Text(String),
@@ -52,7 +52,7 @@ pub enum Content {
 }
 
 /// A key and what is there.
-#[derive(Debug, Drop)]
+#[derive(Drop)]
 pub struct ProjectEntry {
     /// The key.
     pub key: ProjectKey,

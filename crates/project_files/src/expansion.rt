@@ -38,7 +38,7 @@ pub enum ExpansionFault {
 }
 
 // What is next in a list.
-#[derive(Clone, Copy, Debug)]
+#[derive(Clone, Copy)]
 enum Step {
     // Nothing: the list ends.
     End,
@@ -51,7 +51,7 @@ enum Step {
 }
 
 // The strings so far, and the places to go on at, the innermost last.
-#[derive(Debug, Drop)]
+#[derive(Drop)]
 struct Walk {
     found: Vec<usize>,
     places: Vec<usize>,

@@ -15,7 +15,7 @@ use toml::Table;
 use toml::de::Error;
 
 /// The requirements of a `pyproject.toml`.
-#[derive(Debug, Drop)]
+#[derive(Drop)]
 pub struct ProjectFile {
     /// The entries in the sorted order of keys and in the order of each list: those of
     /// `build-system`, `dependency-groups` and `project`.

@@ -12,7 +12,7 @@ use refusal::unless_fault;
 use std::alloc::{AllocError, Global};
 
 // The part of an entry in groups.
-#[derive(Clone, Copy, Debug)]
+#[derive(Clone, Copy)]
 pub(crate) enum Role {
     // It begins a group.
     Head,

@@ -14,7 +14,7 @@ use crate::names::{Firsts, place_of};
 use std::alloc::{AllocError, Global};
 
 // A group that includes another, by the places of their names among the entries.
-#[derive(Clone, Copy, Debug)]
+#[derive(Clone, Copy)]
 pub(crate) struct Link {
     pub(crate) from: usize,
     pub(crate) to: usize,

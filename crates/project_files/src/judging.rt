@@ -16,7 +16,7 @@ use crate::names::{Firsts, firsts_of, place_of};
 use std::alloc::{AllocError, Global};
 
 /// What is wrong with an entry.
-#[derive(Clone, Copy, Debug, PartialEq, Eq)]
+#[derive(Clone, Copy, PartialEq, Eq)]
 pub struct ProjectFault {
     /// The number of the entry.
     pub entry: usize,

@@ -3,7 +3,7 @@
 use std::fmt;
 
 /// A table or key of a `pyproject.toml`, or several of one kind.
-#[derive(Clone, Copy, Debug, PartialEq, Eq)]
+#[derive(Clone, Copy, PartialEq, Eq)]
 pub enum Section {
     /// The table `build-system`.
     BuildSystem,
@@ -29,7 +29,7 @@ pub enum Section {
 
 /// A key of a `pyproject.toml`, or a place in its list. It prints as `project.dependencies[3]`, and
 /// a name with other characters than ASCII letters, digits, `-` and `_` in quotes.
-#[derive(Debug, Drop)]
+#[derive(Drop)]
 pub struct ProjectKey {
     /// The key, up to the name of a group or extra.
     pub section: Section,

@@ -14,7 +14,7 @@ use std::alloc::{AllocError, Global};
 use toml::de::Error;
 
 /// A `pyproject.toml` that was checked.
-#[derive(Debug, Drop)]
+#[derive(Drop)]
 pub struct CheckedProject {
     /// Its entries, and their faults.
     pub file: ProjectFile,

@@ -5,7 +5,7 @@ use std::alloc::{AllocError, Global};
 use std::collections::BTreeMap;
 
 /// A part of a file, in bytes from the first of the file.
-#[derive(Clone, Copy, Debug, PartialEq, Eq)]
+#[derive(Clone, Copy)]
 pub struct Part {
     /// The first byte.
     pub start: usize,
@@ -14,7 +14,7 @@ pub struct Part {
 }
 
 // Where a key and its value are.
-#[derive(Debug, Drop)]
+#[derive(Drop)]
 pub(crate) struct Written {
     // The last name of the key.
     pub(crate) key: Part,

@@ -11,7 +11,7 @@ use std::alloc::{AllocError, Global};
 use toml_parser::{ParseError, quoted, starts_string};
 
 /// Where an entry is in the file, in bytes from the first of the file.
-#[derive(Clone, Copy, Debug, PartialEq, Eq)]
+#[derive(Clone, Copy)]
 pub enum EntryPlace {
     /// Its string, or the name of its group or extra, begins here and is written as it is.
     Written(usize),

@@ -16,7 +16,7 @@ use toml_parser::{ParseError, quoted, starts_string};
 const INCLUDE: &str = "include-group";
 
 // A list or an inline table that is open.
-#[derive(Clone, Copy, Debug)]
+#[derive(Clone, Copy)]
 struct Frame {
     is_list: bool,
     // How many names its key has.
@@ -42,7 +42,10 @@ struct Scanner<'t> {
 
 // The text after so many bytes.
 fn after(text: &str, count: usize) -> &str {
-    text.split_at_checked(count).map_or("", |halves| halves.1)
+    match text.split_at_checked(count) {
+        Some((_, rest)) => rest,
+        None => "",
+    }
 }
 
 // The string at the front of a text, and what follows it.
@@ -62,7 +65,8 @@ fn read_name(alloc: Global, text: &str) -> Result<Option<(String, &str)>, AllocE
     if starts_string(text) {
         return read_string(alloc, text);
     }
-    let size = text.bytes().take_while(|byte| is_bare(*byte)).count();
+    let end = text.bytes().position(|byte| !is_bare(byte));
+    let size = end.unwrap_or(text.len());
     match text.split_at_checked(size) {
         Some((name, rest)) if size > 0 => Ok(Some((String::from_str(alloc, name)?, rest))),
         _ => Ok(None),

@@ -26,7 +26,7 @@ use std::alloc::{AllocError, Global};
 use std::collections::BTreeMap;
 
 /// How lines are checked.
-#[derive(Clone, Copy, Debug)]
+#[derive(Clone, Copy)]
 pub struct CheckSettings<'s> {
     /// The current folder: the start of relative paths, and the value of `${PROJECT_ROOT}`.
     pub folder: &'s str,
@@ -42,7 +42,7 @@ pub struct CheckSettings<'s> {
 }
 
 // A requirement to be checked.
-#[derive(Clone, Copy, Debug)]
+#[derive(Clone, Copy)]
 struct Job<'a, 'f, 'o> {
     page: Page<'a, 'f>,
     text: &'a str,

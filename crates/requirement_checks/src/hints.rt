@@ -23,7 +23,7 @@ use std::alloc::{AllocError, Global};
 use std::collections::BTreeSet;
 
 // A valid requirement, for hints.
-#[derive(Clone, Copy, Debug)]
+#[derive(Clone, Copy)]
 pub(crate) struct Subject<'a> {
     pub(crate) text: &'a str,
     pub(crate) reading: &'a Reading<VerbatimUrl>,

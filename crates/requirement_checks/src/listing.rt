@@ -20,7 +20,7 @@ use std::alloc::{AllocError, Global};
 use std::string::ToString;
 
 // A stretch of the text of a requirement.
-#[derive(Clone, Copy, Debug)]
+#[derive(Clone, Copy)]
 struct Stretch {
     start: usize,
     size: usize,
@@ -28,7 +28,7 @@ struct Stretch {
 
 // The stretches of the text of a requirement: its front, with name and extras, its specifiers, its
 // URL and its marker.
-#[derive(Clone, Copy, Debug)]
+#[derive(Clone, Copy)]
 struct Stretches {
     front: Stretch,
     specifiers: Stretch,
@@ -37,7 +37,7 @@ struct Stretches {
 }
 
 // Whether a text is shown, and the part of the file for the text of a requirement.
-#[derive(Clone, Copy, Debug)]
+#[derive(Clone, Copy)]
 struct View<'v, 'p, 'f> {
     page: &'v Page<'p, 'f>,
     shows_values: bool,

@@ -5,7 +5,7 @@ use requirement_hints::{marker_start, may_have_url};
 use requirement_lines::{Piece, Place, Source, place_at};
 
 // The requirement of a line of a file.
-#[derive(Clone, Copy, Debug)]
+#[derive(Clone, Copy)]
 pub(crate) struct Page<'a, 'f> {
     pub(crate) file: &'f str,
     pub(crate) pieces: &'a [Piece<'f>],
@@ -14,7 +14,7 @@ pub(crate) struct Page<'a, 'f> {
 }
 
 // A part of a requirement, in the file.
-#[derive(Clone, Copy, Debug)]
+#[derive(Clone, Copy)]
 pub(crate) struct Part<'f> {
     pub(crate) start: Place,
     pub(crate) end: Place,

@@ -15,7 +15,7 @@ use std::alloc::AllocError;
 pub type Warnings = Vec<(MarkerWarningKind, String)>;
 
 /// The result of parsing the text of a requirement.
-#[derive(Debug, Drop)]
+#[derive(Drop)]
 pub enum Reading<T: UnnamedRequirementUrl> {
     /// A requirement with a name, with the warnings of its marker.
     Named(Requirement<T>, Warnings),
@@ -28,7 +28,7 @@ pub enum Reading<T: UnnamedRequirementUrl> {
 }
 
 /// What a requirement may look like.
-#[derive(Clone, Copy, Debug, PartialEq, Eq)]
+#[derive(Clone, Copy)]
 pub enum Form {
     /// With a name, or a path, a URL or an archive without one: a line of a requirements file.
     Any,

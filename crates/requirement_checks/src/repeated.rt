@@ -13,7 +13,7 @@ use std::collections::BTreeMap;
 const NAMED: usize = 64;
 
 // An earlier requirement.
-#[derive(Debug, Drop)]
+#[derive(Drop)]
 struct Member {
     // The number of its line.
     number: usize,
@@ -23,7 +23,7 @@ struct Member {
 }
 
 // Several requirements of a name. Those that are the same count once.
-#[derive(Debug, Drop)]
+#[derive(Drop)]
 struct Members {
     // The first of them.
     first: Vec<Member>,
@@ -36,7 +36,7 @@ struct Members {
 }
 
 // The requirements of a name.
-#[derive(Debug, Drop)]
+#[derive(Drop)]
 enum Group {
     // One: the number of its line, and its text. It is read again when another one comes.
     One(usize, String),
@@ -44,7 +44,7 @@ enum Group {
 }
 
 // A requirement whose marker may be true together with that of an earlier one.
-#[derive(Clone, Copy, Debug)]
+#[derive(Clone, Copy)]
 pub(crate) struct Repeat {
     // The number of the earlier one's line, unless there were too many.
     pub(crate) earlier: Option<usize>,

@@ -15,7 +15,7 @@ use std::alloc::{AllocError, Global};
 use std::collections::BTreeSet;
 
 /// A finding in a line of a requirements file, or in a field of another file.
-#[derive(Debug, Drop)]
+#[derive(Drop)]
 pub struct Finding {
     /// What kind of finding it is.
     pub name: FindingName,
@@ -32,7 +32,7 @@ pub struct Finding {
 
 /// The list entry of a requirement. A field is `None` if the requirement has no such part, or if it
 /// would show the value of a variable that must not be shown. Passwords of URLs are `***`.
-#[derive(Debug, Drop)]
+#[derive(Drop)]
 pub struct Listed {
     /// The normal name of the package (PEP 503).
     pub name: Option<String>,
@@ -57,7 +57,7 @@ pub struct Listed {
 }
 
 /// A line of a requirements file that was checked.
-#[derive(Debug, Drop)]
+#[derive(Drop)]
 pub struct CheckedLine<'a> {
     /// The line.
     pub line: FileLine<'a>,
@@ -68,7 +68,7 @@ pub struct CheckedLine<'a> {
 }
 
 /// A requirement of metadata or of a project that was checked.
-#[derive(Debug, Drop)]
+#[derive(Drop)]
 pub struct CheckedText {
     /// The findings: of the requirement, and then hints.
     pub findings: Vec<Finding>,
@@ -77,7 +77,7 @@ pub struct CheckedText {
 }
 
 /// What a requirement belongs to, other than a requirements file.
-#[derive(Clone, Copy, Debug)]
+#[derive(Clone, Copy)]
 pub enum Origin<'e> {
     /// The metadata of a package that provides these extras.
     Metadata(&'e BTreeSet<ExtraName>),

@@ -15,7 +15,7 @@ use std::alloc::{AllocError, Global};
 use std::collections::BTreeSet;
 
 /// A field of metadata that was checked.
-#[derive(Debug, Drop)]
+#[derive(Drop)]
 pub struct CheckedField<'a> {
     pub field: Field<'a>,
     /// The findings in it, and the list entry of a requirement.
@@ -23,7 +23,7 @@ pub struct CheckedField<'a> {
 }
 
 /// The metadata of a package that was checked.
-#[derive(Debug, Drop)]
+#[derive(Drop)]
 pub struct CheckedMetadata<'a> {
     /// Each field, in order.
     pub fields: Vec<CheckedField<'a>>,

@@ -17,7 +17,7 @@ pub enum Severity {
 }
 
 /// The kind of a finding.
-#[derive(Clone, Copy, Debug, PartialEq, Eq)]
+#[derive(Clone, Copy, PartialEq, Eq)]
 pub enum FindingName {
     /// The text is an invalid requirement.
     InvalidRequirement,

@@ -9,7 +9,7 @@ use requirement_rewriting::{Edit, apply_edits, find_edits};
 use std::alloc::{AllocError, Global};
 
 /// How requirements are formatted.
-#[derive(Clone, Copy, Debug)]
+#[derive(Clone, Copy)]
 pub struct FormatSettings<'s> {
     /// The folder that relative paths start from, and the value of `${PROJECT_ROOT}`.
     pub folder: &'s str,
@@ -20,7 +20,7 @@ pub struct FormatSettings<'s> {
 }
 
 /// A file that was formatted.
-#[derive(Debug, Drop)]
+#[derive(Drop)]
 pub struct Formatted {
     /// The requirements that changed, in order.
     pub edits: Vec<Edit>,

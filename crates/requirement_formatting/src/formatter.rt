@@ -16,7 +16,7 @@ use std::collections::BTreeMap;
 pub const SUBSTITUTE: char = '\u{1a}';
 
 /// Answers the normal texts of the requirements of a file.
-#[derive(Clone, Copy, Debug)]
+#[derive(Clone, Copy)]
 pub struct Formatter<'s> {
     /// The text of the file.
     pub file: &'s str,

@@ -8,7 +8,7 @@ use pep508_text::{skip_space, strip};
 use std::alloc::{AllocError, Global};
 
 // A comparison of a marker: the text from it on, and the text after it.
-#[derive(Clone, Copy, Debug)]
+#[derive(Clone, Copy)]
 pub(crate) struct Found<'a> {
     pub(crate) comparison: ComparisonRef<'a>,
     pub(crate) before: &'a str,

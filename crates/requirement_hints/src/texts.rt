@@ -10,7 +10,7 @@ use requirement_findings::FindingName;
 use std::alloc::{AllocError, Global};
 
 /// A hint about a part of the text of a requirement.
-#[derive(Clone, Copy, Debug, PartialEq, Eq)]
+#[derive(Clone, Copy)]
 pub struct TextHint {
     /// The kind of the hint.
     pub name: FindingName,
@@ -148,7 +148,7 @@ pub fn text_hints(alloc: Global, text: &str, has_url: bool) -> Result<Vec<TextHi
 }
 
 /// A comparison that requests an extra, as `extra == 'dev'`.
-#[derive(Clone, Copy, Debug, PartialEq, Eq)]
+#[derive(Clone, Copy)]
 pub struct ExtraRequest<'a> {
     /// The name of the extra, as it is written.
     pub name: &'a str,

@@ -38,10 +38,15 @@ abbrev pub IsCountedFrom : Position → List ℕ → List ℕ → ℕ → Type 0
 IsCountedFrom here rest file to_end =
     position_in file to_end ≡ position_from here to_end (characters rest)
 
--- places in the rest have the same positions, counted from the front of the text or of the rest
-abbrev pub GoesOnFrom : Position → List ℕ → Position → List ℕ → Type 0
-GoesOnFrom here text there rest = (to_end : ℕ) → to_end ≤ length rest
-    → position_from here to_end (characters text) ≡ position_from there to_end (characters rest)
+-- `rest` is the end of a text, and places in it have the same positions, counted from the front of
+-- the text or of the rest; lines and columns did not grow by more than what is before it
+pub record GoesOnFrom (here : Position) (text : List ℕ) (there : Position) (rest : List ℕ)
+    : Type 0 where
+  pub suffix : IsSuffix text rest
+  pub goes_on : (to_end : ℕ) → to_end ≤ length rest
+      → position_from here to_end (characters text) ≡ position_from there to_end (characters rest)
+  pub line_fits : there.line + length rest ≤ here.line + length text
+  pub column_fits : there.column + length rest ≤ here.column + length text
 
 -- `rest` is what is left of the file after a place with this position
 pub record StandsAt (file rest : List ℕ) (position : Position) : Type 0 where

@@ -16,7 +16,7 @@ use crate::sets::{CharacterSet, Mark, is_break};
 use pep508_text::{first, last};
 
 /// A piece of a line: a part of the file's text, or the value of a variable.
-#[derive(Clone, Copy, Debug)]
+#[derive(Clone, Copy)]
 pub struct Piece<'a> {
     /// The characters of the piece.
     pub text: &'a str,

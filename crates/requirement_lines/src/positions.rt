@@ -1,7 +1,6 @@
 //! Lines and columns of places, for people.
 
-ghost use Rattle.std.specs.Prelude.{◌≡◌, ◌<◌, ◌≤◌, ◌+◌, ◌^◌, ℕ, List, length};
-ghost use Rattle.pep508_text.specs.Suffix.{IsSuffix};
+ghost use Rattle.std.specs.Prelude.{◌≡◌, ◌<◌, ◌+◌, ◌^◌, length};
 ghost use Rattle.requirement_lines.specs.Character.{characters};
 ghost use Rattle.requirement_lines.specs.Pieces.{characters_of};
 ghost use Rattle.requirement_lines.specs.Position as spec;
@@ -11,7 +10,7 @@ use crate::pieces::Piece;
 use std::marker::Model;
 
 /// A line of a file and a column of it, both counted from 1.
-#[derive(Clone, Copy, Debug, PartialEq, Eq)]
+#[derive(Clone, Copy, PartialEq, Eq)]
 pub struct Position {
     /// The line. Lines end at LF, CR LF or CR, as in editors.
     pub line: usize,
@@ -51,9 +50,6 @@ fn advance(here: Position, rest: &str, to_end: usize) -> (Position, &str)
     requires column { here.column + length rest.now < 2 ^ 64 }
     ensures position { result.0 ≡ spec.position_from here to_end (characters rest.now) }
     ensures goes_on { spec.GoesOnFrom here rest.now result.0 result.1.now }
-    ensures suffix { IsSuffix rest.now result.1.now }
-    ensures line_fits { result.0.line + length result.1.now ≤ here.line + length rest.now }
-    ensures column_fits { result.0.column + length result.1.now ≤ here.column + length rest.now }
 {
     let mut position = here;
     let mut left = Piece::whole(rest);
@@ -83,7 +79,7 @@ fn start<'a>(file: &'a str, rest: &'a str, last: Position, to_end: usize) -> (Po
 
 /// Finds the positions of places of a file. Going forward takes one pass over the file; a place
 /// before the last one starts a new pass.
-#[derive(Debug, Drop)]
+#[derive(Drop)]
 pub struct Positions<'a> {
     file: &'a str,
     rest: &'a str,

@@ -6,7 +6,7 @@ ghost use Rattle.requirement_lines.specs.Words as spec;
 use crate::places::Place;
 
 // The quotes around a character.
-#[derive(Clone, Copy, Debug, PartialEq, Eq)]
+#[derive(Clone, Copy)]
 pub(crate) enum Quoting {
     // None: the character is between words.
     Between,
@@ -23,7 +23,7 @@ pub(crate) enum Quoting {
 }
 
 // What a character does to the words.
-#[derive(Clone, Copy, Debug, PartialEq, Eq)]
+#[derive(Clone, Copy)]
 pub(crate) enum Step {
     // Nothing: it is between them.
     Pass,

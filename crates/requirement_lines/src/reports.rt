@@ -28,7 +28,7 @@ pub trait Judge {
 }
 
 /// A requirement of a file, with its findings.
-#[derive(Debug, Drop)]
+#[derive(Drop)]
 pub struct LineReport<'a, F: Drop> {
     /// The requirement, in pieces.
     pub requirement: Vec<Piece<'a>>,

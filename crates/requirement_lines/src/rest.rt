@@ -9,7 +9,7 @@ use crate::pieces::Piece;
 use std::alloc::{AllocError, Global};
 
 /// The rest of a line that is read character by character.
-#[derive(Clone, Copy, Debug)]
+#[derive(Clone, Copy)]
 pub struct Rest<'a> {
     pub(crate) piece: Piece<'a>,
     pub(crate) next: usize,

@@ -4,7 +4,7 @@ ghost use Rattle.std.specs.Prelude.{◌≡◌, ◌&&◌};
 ghost use Rattle.requirement_lines.specs.Physical.{is_break};
 
 // Characters that are cut off at the ends of a line.
-#[derive(Clone, Copy, Debug, PartialEq, Eq)]
+#[derive(Clone, Copy)]
 pub(crate) enum CharacterSet {
     // White space: Unicode's White_Space.
     Space,
@@ -27,7 +27,7 @@ impl CharacterSet {
 }
 
 /// A character that ends the text before it, at the front of a line or after certain characters.
-#[derive(Clone, Copy, Debug, PartialEq, Eq)]
+#[derive(Clone, Copy, PartialEq, Eq)]
 pub enum Mark {
     /// `#`, which begins a comment at the front or after white space.
     Comment,

@@ -15,7 +15,7 @@ use std::alloc::{AllocError, Global};
 use std::mem;
 
 /// A word of a line.
-#[derive(Debug, Drop)]
+#[derive(Drop)]
 pub struct Word<'a> {
     /// Where the word begins, with its quotes.
     pub place: Place,
@@ -24,7 +24,7 @@ pub struct Word<'a> {
 }
 
 /// The words of a line.
-#[derive(Debug, Drop)]
+#[derive(Drop)]
 pub enum Words<'a> {
     /// All of them.
     All(Vec<Word<'a>>),
@@ -33,7 +33,7 @@ pub enum Words<'a> {
 }
 
 // The state of splitting a line into words: complete words, and the beginning of the current one.
-#[derive(Debug, Drop)]
+#[derive(Drop)]
 pub(crate) struct Reading<'a> {
     pub(crate) words: Vec<Word<'a>>,
     pub(crate) inside: bool,

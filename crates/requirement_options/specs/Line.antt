@@ -83,12 +83,21 @@ abbrev pub editable_or : Option (List Character) → Said → Said
 editable_or (Some text) said = editable text
 editable_or None said = said
 
+-- what a line says without a requirement, `-e` and `-r`
+abbrev pub said_by_constraints : List Setting → Said
+said_by_constraints options =
+    constraints_or_settings (first_argument lines.Constraints options)
+
+-- what a line says without a requirement and `-e`
+abbrev pub said_by_files : List Setting → Said
+said_by_files options =
+    file_or (first_argument lines.File options) (said_by_constraints options)
+
 -- a line says its requirement, or else what `-e` does, or else `-r`, or else `-c`
 abbrev pub said_by : List Character → List Setting → Said
 said_by (p ∷ ps) options = requirement (p ∷ ps)
-said_by [] options = editable_or (first_argument lines.Editable options)
-    (file_or (first_argument lines.File options)
-    (constraints_or_settings (first_argument lines.Constraints options)))
+said_by [] options =
+    editable_or (first_argument lines.Editable options) (said_by_files options)
 
 abbrev pub kind_of : Said → LineKind
 kind_of (requirement text) = lines.Requirement

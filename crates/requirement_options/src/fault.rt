@@ -29,7 +29,7 @@ pub enum OptionFaultKind {
 }
 
 /// What is wrong with the options of a line, and where.
-#[derive(Clone, Copy, Debug, PartialEq, Eq)]
+#[derive(Clone, Copy, PartialEq, Eq)]
 pub struct OptionFault {
     /// What is wrong.
     pub kind: OptionFaultKind,

@@ -10,7 +10,7 @@ use requirement_lines::{Piece, Rest, line_left, next_character, whole_line};
 use std::alloc::{AllocError, Global};
 
 // The form of a word of options.
-#[derive(Debug, Drop)]
+#[derive(Drop)]
 pub(crate) enum Form<'a> {
     // Not an option.
     Plain,

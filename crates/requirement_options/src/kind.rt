@@ -3,7 +3,7 @@
 use std::fmt;
 
 /// An option that a requirements file may have, as pip 23.2.1 knows them.
-#[derive(Clone, Copy, Debug, PartialEq, Eq)]
+#[derive(Clone, Copy, PartialEq, Eq)]
 pub enum OptionKind {
     /// `-i`, `--index-url` and `--pypi-url`: the index where packages are found.
     IndexUrl,

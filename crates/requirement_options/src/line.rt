@@ -20,7 +20,7 @@ use requirement_lines::{
 use std::alloc::{AllocError, Global};
 
 /// The content of a line besides its options.
-#[derive(Debug, Drop)]
+#[derive(Drop)]
 pub enum Content<'a> {
     /// A requirement: the text before the options of the line, with the space between them.
     Requirement(Vec<Piece<'a>>),
@@ -35,7 +35,7 @@ pub enum Content<'a> {
 }
 
 /// A line of a requirements file.
-#[derive(Debug, Drop)]
+#[derive(Drop)]
 pub struct FileLine<'a> {
     /// The content of the line besides its options.
     pub content: Content<'a>,
@@ -92,20 +92,37 @@ fn first_argument<'a>(
     Ok(None)
 }
 
+// The content of a line that has only options, and neither `-e` nor `-r`.
+fn said_by_constraints<'a>(
+    alloc: Global,
+    options: &[LineOption<'a>],
+) -> Result<Content<'a>, AllocError>
+    ensures { IfOk result (Says (spec.said_by_constraints (settings_in options.now))) }
+{
+    match first_argument(alloc, LineKind::Constraints, options)? {
+        Some(name) => Ok(Content::Constraints(name)),
+        None => Ok(Content::Settings),
+    }
+}
+
+// The content of a line that has only options, and no `-e`.
+fn said_by_files<'a>(alloc: Global, options: &[LineOption<'a>]) -> Result<Content<'a>, AllocError>
+    ensures { IfOk result (Says (spec.said_by_files (settings_in options.now))) }
+{
+    match first_argument(alloc, LineKind::File, options)? {
+        Some(name) => Ok(Content::File(name)),
+        None => said_by_constraints(alloc, options),
+    }
+}
+
 // The content of a line that has only options.
 fn said_by_options<'a>(alloc: Global, options: &[LineOption<'a>]) -> Result<Content<'a>, AllocError>
     ensures { IfOk result (Says (spec.said_by [] (settings_in options.now))) }
 {
-    if let Some(text) = first_argument(alloc, LineKind::Editable, options)? {
-        return Ok(Content::Editable(text));
+    match first_argument(alloc, LineKind::Editable, options)? {
+        Some(text) => Ok(Content::Editable(text)),
+        None => said_by_files(alloc, options),
     }
-    if let Some(name) = first_argument(alloc, LineKind::File, options)? {
-        return Ok(Content::File(name));
-    }
-    if let Some(name) = first_argument(alloc, LineKind::Constraints, options)? {
-        return Ok(Content::Constraints(name));
-    }
-    Ok(Content::Settings)
 }
 
 // The content of a line, with the text before its options.

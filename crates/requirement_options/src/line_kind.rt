@@ -6,7 +6,7 @@ ghost use Rattle.requirement_options.specs.Line as spec;
 use crate::kind::OptionKind;
 
 // The kind of a line of a file.
-#[derive(Clone, Copy, Debug, PartialEq, Eq)]
+#[derive(Clone, Copy)]
 pub(crate) enum LineKind {
     // A requirement.
     Requirement,

@@ -26,7 +26,7 @@ const KINDS: [OptionKind; 17] = [
 ];
 
 // The option of a name, which may be abbreviated.
-#[derive(Clone, Copy, Debug, PartialEq, Eq)]
+#[derive(Clone, Copy)]
 pub(crate) enum Naming {
     // No option has a name that begins with this.
     Unknown,

@@ -4,7 +4,7 @@ ghost use Rattle.std.specs.Prelude.{◌≡◌, map, IfOk};
 ghost use Rattle.requirement_lines.specs.Pieces.{line_of};
 ghost use Rattle.requirement_lines.specs.Reading.{spelled_of};
 ghost use Rattle.requirement_options.specs.Forms.{argument_in, form_in, IsLine};
-ghost use Rattle.requirement_options.specs.Found.{effect_in, Does, Tells};
+ghost use Rattle.requirement_options.specs.Found.{effect_in, resumed, Does, Tells};
 ghost use Rattle.requirement_options.specs.Reading as spec;
 ghost use Rattle.requirement_options.specs.declared.reading.Mode.TheVariants.{Ready};
 
@@ -17,7 +17,7 @@ use requirement_lines::{Piece, Place, Word, text_of};
 use std::alloc::{AllocError, Global};
 
 /// An option of a line.
-#[derive(Debug, Drop)]
+#[derive(Drop)]
 pub struct LineOption<'a> {
     /// Which option it is.
     pub kind: OptionKind,
@@ -28,7 +28,7 @@ pub struct LineOption<'a> {
 }
 
 // What the next word may be.
-#[derive(Clone, Copy, Debug)]
+#[derive(Clone, Copy)]
 pub(crate) enum Mode {
     // An option, or text.
     Ready,
@@ -39,7 +39,7 @@ pub(crate) enum Mode {
 }
 
 // What a word means.
-#[derive(Debug, Drop)]
+#[derive(Drop)]
 pub(crate) enum Effect<'a> {
     // It is the last word of an option.
     Adds(LineOption<'a>),
@@ -54,14 +54,14 @@ pub(crate) enum Effect<'a> {
 }
 
 // The options of the words of a line, and where words begin that are not options.
-#[derive(Debug, Drop)]
+#[derive(Drop)]
 pub(crate) struct Found<'a> {
     pub(crate) options: Vec<LineOption<'a>>,
     pub(crate) lost: Vec<Place>,
 }
 
 // The result of reading all words of a line.
-#[derive(Debug, Drop)]
+#[derive(Drop)]
 pub(crate) enum Outcome<'a> {
     // One of them is wrong.
     Invalid(OptionFault),
@@ -223,6 +223,19 @@ impl<'a> Found<'a> {
     }
 }
 
+// The result where the words end.
+fn ended<'a>(mode: Mode, found: Found<'a>) -> Outcome<'a>
+    ensures { Tells (resumed found.entry (spec.finished mode)) result }
+{
+    match mode {
+        Mode::Waiting(_, place) => Outcome::Invalid(OptionFault {
+            kind: OptionFaultKind::NoArgument,
+            place,
+        }),
+        Mode::Ready | Mode::Ended => Outcome::All(found),
+    }
+}
+
 // Reads the words of the options of a line.
 pub(crate) fn read_words<'a>(alloc: Global, words: &[Word<'a>]) -> Result<Outcome<'a>, AllocError>
     ensures { IfOk result (Tells (spec.outcome_of Ready (map spelled_of words.now))) }
@@ -236,11 +249,5 @@ pub(crate) fn read_words<'a>(alloc: Global, words: &[Word<'a>]) -> Result<Outcom
             return Ok(Outcome::Invalid(fault));
         }
     }
-    if let Mode::Waiting(_, place) = mode {
-        return Ok(Outcome::Invalid(OptionFault {
-            kind: OptionFaultKind::NoArgument,
-            place,
-        }));
-    }
-    Ok(Outcome::All(found))
+    Ok(ended(mode, found))
 }

@@ -6,7 +6,7 @@ ghost use Rattle.requirement_rewriting.specs.Applying.{MakesFile};
 use std::alloc::{AllocError, Global};
 
 /// A part of a file that another text replaces.
-#[derive(Debug, Drop)]
+#[derive(Drop)]
 pub struct Edit {
     /// The first byte of the part, counted from the start of the file.
     pub start: usize,

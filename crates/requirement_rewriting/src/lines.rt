@@ -9,7 +9,7 @@ use requirement_lines::{Mark, Piece, cut_line, next_line, text_of};
 use std::alloc::{AllocError, Global};
 
 // The requirement of a line, and the whole line.
-#[derive(Debug, Drop)]
+#[derive(Drop)]
 pub(crate) struct LineText {
     pub(crate) requirement: String,
     whole: String,

@@ -20,7 +20,7 @@ use requirement_selection::{Target, Truth, open_keys, truth_in};
 use std::alloc::{AllocError, Global};
 
 // What becomes of a requirement.
-#[derive(Debug, Drop)]
+#[derive(Drop)]
 enum Choice {
     // It is listed.
     Listed,

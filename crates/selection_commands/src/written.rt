@@ -14,7 +14,7 @@ use requirement_options::{Content, FileLine};
 use std::alloc::{AllocError, Global};
 
 /// A requirement of a file.
-#[derive(Clone, Copy, Debug)]
+#[derive(Clone, Copy)]
 pub(crate) struct Stretch<'a, 'f> {
     pub(crate) file: &'f str,
     pub(crate) pieces: &'a [Piece<'f>],

@@ -37,9 +37,7 @@ impl<H: Host, C: CheckLines> Walk<'_, H, C> {
         };
         let positions = &mut reading.positions;
         let marks = marks_of(self.alloc, sheet.text(), findings, None, positions)?;
-        self.report_marks(&sheet.page(), marks.as_slice(), false, key)?;
-        self.report_marks(&sheet.page(), marks.as_slice(), true, key)?;
-        self.list_line(sheet, &[part], span, key, listed)
+        self.report_marked(sheet, &[part], span, key, marks.as_slice(), listed)
     }
 
     // Reports the findings of a field, and lists its requirement, unless a byte of it is not UTF-8.
@@ -86,6 +84,19 @@ impl<H: Host, C: CheckLines> Walk<'_, H, C> {
         Ok(end)
     }
 
+    // Reports the finding about the line that ended the headers.
+    fn report_stray(
+        &mut self,
+        reading: &mut Reading<'_>,
+        finding: Finding,
+    ) -> Result<(), AllocError>
+        ensures { Grows self.old.report.tally self.new.report.tally }
+    {
+        let findings = vec![in self.alloc; finding]?;
+        let whole = Piece::whole(reading.sheet.text());
+        self.report_part(reading, whole, None, findings, None)
+    }
+
     // Reads a file of metadata.
     pub(super) fn walk_metadata(&mut self, sheet: &Sheet) -> Result<(), Failure>
         ensures { Grows self.old.report.tally self.new.report.tally }
@@ -97,15 +108,7 @@ impl<H: Host, C: CheckLines> Walk<'_, H, C> {
             from = self.take_field(&mut reading, from, field)?;
         }
         if let Some(finding) = checked.stray {
-            let mut findings = Vec::new(self.alloc);
-            findings.push(finding)?;
-            self.report_part(
-                &mut reading,
-                Piece::whole(sheet.text()),
-                None,
-                findings,
-                None,
-            )?;
+            self.report_stray(&mut reading, finding)?;
         }
         self.report_invalid(&mut reading, from, sheet.text().len())?;
         Ok(())

@@ -17,5 +17,5 @@ pub loop-side-preserved : goal.loop-side-preserved
 loop-side-preserved c = record {
   kept = kept_both c.args.interner.now c.loop-side.interner c.shown_of.new.interner c.loop-side.invariant.kept c.shown_of.ensures.kept;
   shown = shows_more c.args.interner.now c.loop-side.interner c.args.first c.args.second c.sides_of-side-items.result.now c.loop-side.side-index _ c.loop-side.shown.items c.add_shown.new.shown.items c.in_ok-found.found c.loop-side.invariant.kept c.requires.first c.requires.second
-      c.loop-side-test.true c.loop-side.invariant.shown c.in_ok-found.ensures.shows c.in_ok-add_shown.ensures;
+      c.loop-side-test.true c.loop-side.invariant.shown c.in_ok-found.ensures.told c.in_ok-add_shown.ensures;
 }
