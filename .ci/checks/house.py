@@ -19,19 +19,20 @@ from pathlib import Path
 ROOT = Path(__file__).resolve().parent.parent.parent
 LIMITS = Path(".ci") / "limits"
 
-WIDE = "percent of clauses wider than 100 columns"
+WIDE = "clauses wider than 100 columns"
 WIDER = "clauses wider than 160 columns"
 CALLS = "calls of functions that do nothing"
+MANY = "functions with more than six clauses"
 
-CLAUSE = re.compile(r"\b(?:ensures|requires)\*?\s*(?:\w+\s*)?\{")
+CLAUSE = re.compile(r"\b(?:ensures|requires)\b\*?\s*(?:\w+\s*)?\{")
 FUNCTION = re.compile(r"^\s*(?:pub(?:\([a-z]+\))? )?(?:const )?(?:unsafe )?fn (\w+)", re.M)
 EMPTY = re.compile(r"\{\s*\}\s*(?:\n|$)")
 STATEMENT = re.compile(r";\s*\n|\n\s*(?:let|match|if|for|self\b)")
 OTHERS = {"clone", "default", "drop", "fmt", "new"}
 
 
-def widths(text: str) -> Iterator[int]:
-    """How wide the clauses of a file are."""
+def clauses(text: str) -> Iterator[tuple[int, int]]:
+    """Where the clauses of a file begin, and how wide they are."""
     for found in CLAUSE.finditer(text):
         start = text.rfind("\n", 0, found.start()) + 1
         if text[start : found.start()].lstrip().startswith("//"):
@@ -40,7 +41,16 @@ def widths(text: str) -> Iterator[int]:
         while depth and end < len(text):
             depth += {"{": 1, "}": -1}.get(text[end], 0)
             end += 1
-        yield found.start() - start + len(re.sub(r"\s+", " ", text[found.start() : end]))
+        width = found.start() - start + len(re.sub(r"\s+", " ", text[found.start() : end]))
+        yield found.start(), width
+
+
+def clause_counts(text: str) -> Iterator[int]:
+    """How many clauses each function of a file has."""
+    starts = [it.start() for it in FUNCTION.finditer(text)]
+    places = [place for place, _ in clauses(text)]
+    for start, end in zip(starts, [*starts[1:], len(text)]):
+        yield sum(start <= place < end for place in places)
 
 
 def empty_functions(text: str) -> Iterator[str]:
@@ -56,14 +66,14 @@ def empty_functions(text: str) -> Iterator[str]:
 def figures(texts: Iterable[str]) -> dict[str, float]:
     """The figures of the files of all crates."""
     texts = list(texts)
-    clauses = [width for text in texts for width in widths(text)]
-    wide = sum(width > 100 for width in clauses)
+    widths = [width for text in texts for _, width in clauses(text)]
     empty = {name for text in texts for name in empty_functions(text)} - OTHERS
     call = re.compile(rf"(?<!fn )(?<!\w)(?:{'|'.join(map(re.escape, sorted(empty)))})\(")
     lines = [line.split("//")[0] for text in texts for line in text.splitlines()]
     return {
-        WIDE: round(100 * wide / max(len(clauses), 1), 1),
-        WIDER: sum(width > 160 for width in clauses),
+        WIDE: sum(width > 100 for width in widths),
+        WIDER: sum(width > 160 for width in widths),
+        MANY: sum(count > 6 for text in texts for count in clause_counts(text)),
         CALLS: sum(len(call.findall(line)) for line in lines) if empty else 0,
     }
 

@@ -1,11 +1,14 @@
 """What did not change since all wrong bodies of a crate were refused is not tried again.
 
 A file keeps, for each crate whose edits were tried, a sum of all that their outcome depends on: the
-crate and its edits, all crates below it, the toolchain's line, and these scripts. Lines that are
+crate and its edits, all crates below it, the toolchain's logic, and these scripts. Lines that are
 comments change nothing of it, and are no part of the sum. The prover sees only the statements of a
 crate below, so for its edits the bodies of functions there are no part either, nor private functions,
-functions that nothing names, and lemmas that nothing cites. Tests run what is compiled, so for their
-edits clauses, definitions and proofs are no part.
+functions and definitions that nothing names, and lemmas that nothing cites. Tests run what is
+compiled, so for their edits clauses, definitions and proofs are no part.
+
+A wrong body is refused at a goal that is false. No toolchain of the same logic proves that, so its
+name is no part of a sum.
 """
 
 from __future__ import annotations
@@ -97,6 +100,8 @@ FUNCTION = re.compile(r"( *)(pub(?:\(crate\))? )?(?:unsafe )?fn (\w+)")
 TRAIT = re.compile(r"(?:pub )?trait |impl\b.* for ")
 CITED = re.compile(r"\b(\w+)(?:\.|::)proofs(?:\.|::)(\w+)")
 IMPORT = re.compile(r"^ *((?:ghost |pub )?use) ([^;]+);\n?", re.MULTILINE)
+# A line that names a file of the crate: what is in it counts, and not the file's name.
+FILE_OF_CRATE = re.compile(r"^(?:pub(?:\(crate\))? )?mod \w+;?\n", re.MULTILINE)
 # What is said of a function to the compiler, or to the prover of its own crate.
 ATTRIBUTE = re.compile(r"^ *#\[(?:inline|tactic|must_use)\b.*\]\n", re.MULTILINE)
 WORD = re.compile(r"[\w'-]+")
@@ -105,21 +110,24 @@ WORD = re.compile(r"[\w'-]+")
 @dataclass(frozen=True)
 class Statements:
     """What other crates may see of a laid-out file: its imports, by the name of each, the heads of
-    public functions by their names, and all else but bodies and private functions."""
+    public functions, or definitions, by their names, and all else but bodies and private
+    functions."""
 
     imports: tuple[tuple[str, str], ...]
     functions: tuple[tuple[str, str], ...]
     others: str
 
     def seen(self, names: set[str]) -> str:
-        """The part that matters to who uses these names alone."""
+        """The part that matters to who uses these names alone. Words of std mean the same in each
+        crate, so their imports do not."""
         functions = "\n".join(head for name, head in self.functions if name in names)
         text = f"{self.others}\n{functions}"
         words = words_of(text)
         imports = [
             f"{path} {name}"
             for path, name in self.imports
-            if is_named(name, names if path.startswith("pub ") else words, text)
+            if " Rattle.std." not in path
+            and is_named(name, names if path.startswith("pub ") else words, text)
         ]
         return "\n".join([*sorted(imports), text])
 
@@ -154,7 +162,7 @@ def statements(text: str) -> Statements:
     # end, where its lines go, and the line that ends a body.
     block, head, end = "", None, None
     kept = others
-    for line in ATTRIBUTE.sub("", IMPORT.sub("", text)).splitlines():
+    for line in FILE_OF_CRATE.sub("", ATTRIBUTE.sub("", IMPORT.sub("", text))).splitlines():
         if end is not None:
             end = None if line == end else end
             continue
@@ -177,10 +185,70 @@ def statements(text: str) -> Statements:
     return Statements(tuple(imports_of(text)), tuple(heads), "\n".join(others))
 
 
+# How a definition begins that is no equation, and its name; the name of one inside a module.
+DEFINITION = re.compile(r"(?:(?:abbrev|unfoldable|pub|record|data) )*([^\s:({=]+)(?: [({].*)? :")
+MODIFIED = re.compile(r"(?:(?:abbrev|unfoldable|pub|record|data) )+([^\s:({=]+)")
+# How a definition inside a module begins: set in as its first line is.
+INSIDE = re.compile(rf"( +)(?:{DEFINITION.pattern}|{MODIFIED.pattern})")
+DEFINITION_IMPORT = re.compile(r"((?:pub )?use) (\S+?)(?:\{([^}]*)\}|( as \S+)?)$")
+
+
+def imports_of_definitions(line: str) -> list[tuple[str, str]] | None:
+    """The imports of a line of specs, as `imports_of` has them, or none where it is no import."""
+    found = DEFINITION_IMPORT.match(line)
+    if found is None:
+        return None
+    kind, front, names, given = found.groups()
+    if names is None:
+        own = (given or front.rpartition(".")[2]).removeprefix(" as ")
+        return [(f"{kind} {front}", own)]
+    parts = (name.strip().partition(" as ") for name in names.split(",") if name.strip())
+    return [(f"{kind} {front}{name}", own or name) for name, _, own in parts]
+
+
+def definitions(text: str) -> Statements:
+    """What other crates may see of a file of specs without comments: its imports, and each definition
+    by its name, behind the head of its module. What cannot be told apart is seen by all."""
+    imports: list[tuple[str, str]] = []
+    others: list[str] = []
+    blocks: list[tuple[str, list[str]]] = []
+    # The lines that begin the module, and how far its definitions are set in.
+    head: list[str] = []
+    inner: str | None = None
+    for line in FILE_OF_CRATE.sub("", f"{text.rstrip()}\n").splitlines():
+        begins = DEFINITION.match(line) or MODIFIED.match(line)
+        inside = INSIDE.match(line) if head else None
+        if (found := imports_of_definitions(line)) is not None:
+            imports += found
+        elif line.startswith("module "):
+            head, inner = [line], None
+        elif inside is not None and inner in (None, inside[1]):
+            inner, name = inside[1], inside[2] or inside[3]
+            if blocks and name == blocks[-1][0]:
+                blocks[-1][1].append(line)
+            else:
+                blocks.append((name, [*head, line]))
+        elif head and inner is None:
+            head.append(line)
+        elif begins and not (blocks and begins[1] == blocks[-1][0]):
+            head = []
+            blocks.append((begins[1], [line]))
+        elif blocks:
+            blocks[-1][1].append(line)
+        else:
+            others.append(line)
+    kept = [(name, "\n".join(lines)) for name, lines in blocks]
+    others += [block for name, block in kept if not WORD.fullmatch(name)]
+    kept = [(name, block) for name, block in kept if WORD.fullmatch(name)]
+    return Statements(tuple(imports), tuple(kept), "\n".join(others))
+
+
 @cache
 def statements_of(file: Path) -> Statements:
-    """What other crates may see of a file. Files with macros, and those of specs, are seen whole."""
+    """What other crates may see of a file. Files with macros, and those of proofs, are seen whole."""
     text = code_of(file).decode()
+    if file.suffix == ".antt" and "specs" in file.parts:
+        return definitions(text)
     if file.suffix != ".rt" or "macro_rules!" in text:
         return Statements((), (), text)
     return statements(text)
@@ -215,7 +283,8 @@ class Record:
         checks = sorted((repository.root / ".ci" / "checks").glob("*.py"))
         scripts = [script for script in checks if script.stem not in OTHERS]
         scripts.append(repository.root / ".ci" / "wrong_bodies")
-        self.common = f"{version()}\n{repository.sum_of(scripts)}"
+        logic = version().partition(" ")[2]
+        self.common = f"{logic}\n{repository.sum_of(scripts)}"
 
     def seen(self, crate: str, own: list[Path]) -> list[Path]:
         """The files of the crates below of which the prover sees something when it checks these
@@ -235,8 +304,15 @@ class Record:
         """The sum of what the prover sees of the crates below when it checks these files."""
         files = self.seen(crate, own)
         texts = {file: statements_of(file) for file in files}
-        names = used(list(texts.values()), set().union(*(words_of(it.read_text()) for it in own)))
-        return self.repository.sum_of(files, lambda file: texts[file].seen(names).encode())
+        # (no definition or proof names a function of another crate: only code does)
+        code = [texts[file] for file in files if file.suffix == ".rt"]
+        others = [texts[file] for file in files if file.suffix != ".rt"]
+        words = {file: words_of(file.read_text()) for file in own}
+        called = used(code, set().union(*(words[it] for it in own if it.suffix != ".antt")))
+        heads = set().union(*(words_of(it.seen(called)) for it in code))
+        names = used(others, heads.union(*words.values()))
+        of = lambda file: texts[file].seen(called if file.suffix == ".rt" else names)
+        return self.repository.sum_of(files, lambda file: of(file).encode())
 
     def sum_of(self, task: str, tried: list[Edit]) -> str:
         """The sum of what the outcome of the edits of a task depends on: for the prover, of the

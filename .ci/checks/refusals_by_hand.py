@@ -75,8 +75,8 @@ HANDED_ON = {
 # it is; a list whose length would not fit into 64 bits, for which there is no memory either; a
 # node for which a table has no room left, and the terms of a clause for which there is none.
 MADE_UP = {
-    "crates/marker_clauses/src/walk.rt": 1,
     "crates/marker_nodes/src/table.rt": 1,
+    "crates/marker_view/src/walk.rt": 1,
     "crates/version_ranges/src/combine.rt": 1,
     "crates/version_ranges/src/equality.rt": 2,
     "crates/version_ranges/src/overlay.rt": 1,
