@@ -132,6 +132,6 @@ fn main() {
     let lines: Vec<&str> = text.lines().collect();
     match way.as_str() {
         "library" => run(&mut foreign::Library::new(), name, &lines),
-        _ => run(&mut own::Crate::default(), name, &lines),
+        _ => run(&mut own::Crate::new(), name, &lines),
     }
 }
