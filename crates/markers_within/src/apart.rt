@@ -1,5 +1,8 @@
 //! The order of two markers that have an interner each, and so are compared as views.
 
+ghost use Rattle.std.specs.Prelude.{IfOk};
+ghost use Rattle.marker_graph.specs.Contents.{IsHeld};
+
 use line_server::ServeFault;
 use marker_graph::{Interner, MarkerTree};
 use pep508_markers::MarkerText;
@@ -8,7 +11,9 @@ use refusal::Refusal;
 use std::cmp::Ordering;
 use std::io;
 
-fn parse(text: &str, interner: &mut Interner) -> Result<MarkerTree, ServeFault> {
+fn parse(text: &str, interner: &mut Interner) -> Result<MarkerTree, ServeFault>
+    ensures { IfOk result (IsHeld interner.new) }
+{
     match MarkerTree::parse_str::<VerbatimUrl>(text, interner) {
         Ok(tree) => Ok(tree),
         Err(Refusal::OutOfMemory) => Err(ServeFault::Memory),
