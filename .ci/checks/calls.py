@@ -100,14 +100,52 @@ def body(text: str, start: int) -> int | None:
         place = closing(text, brace)
 
 
+def parts(text: str) -> list[str]:
+    """What stands between the commas of a text that are in no bracket."""
+    found, deep = [""], 0
+    for sign in text:
+        deep += (sign in "<([") - (sign in ">)]")
+        if sign == "," and deep == 0:
+            found.append("")
+        else:
+            found[-1] += sign
+    return [part.strip() for part in found if part.strip()]
+
+
+KIND = re.compile(r"(?:\w+::)*(\w+)(?:<(.*)>)?")
+
+
+def name_of(kind: str, parameters: set[str]) -> str:
+    """The prover's name of a type in the name of an impl of a trait: that of a list of pairs of
+    texts is `VecTuple2StringString`. Parameters of the impl and lifetimes are left out."""
+    if kind.startswith("&"):
+        return "Ref" + name_of(re.sub(r"&(?:'\w+ )?(?:mut )?", "", kind, count=1), parameters)
+    if kind.startswith("("):
+        inner = parts(kind[1:-1])
+        return f"Tuple{len(inner)}" + "".join(name_of(part, parameters) for part in inner)
+    found = KIND.fullmatch(kind)
+    if found is None or found[1] in parameters:
+        return ""
+    return found[1] + "".join(name_of(part, parameters) for part in parts(found[2] or ""))
+
+
 def owner(header: str) -> str:
     """The prover's name of an impl, of which the text between `impl` and its brace is given: the
     type, and behind it the trait if there is one."""
-    while (bare := re.sub(r"<[^<>]*>", "", header.replace("->", ""))) != header:
-        header = bare
-    trait, of, kind = header.partition(" where ")[0].rpartition(" for ")
-    last = [part.strip().rpartition("::")[2] for part in (kind, trait)]
-    return "".join(last) if of else last[0]
+    header = " ".join(header.replace("->", "").partition(" where ")[0].split())
+    parameters: set[str] = set()
+    if header.startswith("<"):
+        deep = [header[:end].count("<") - header[:end].count(">") for end in range(len(header) + 1)]
+        end = deep.index(0, 1)
+        given = parts(header[1 : end - 1])
+        parameters = {part.partition(":")[0].removeprefix("const ").strip() for part in given}
+        header = header[end:].strip()
+    trait, of, kind = header.rpartition(" for ")
+    if of:
+        return name_of(kind, parameters) + name_of(trait, parameters)
+    while (bare := re.sub(r"<[^<>]*>", "", kind)) != kind:
+        kind = bare
+    return kind.strip().rpartition("::")[2]
 
 
 def functions_of_file(crate: Path, file: Path) -> list[Function]:

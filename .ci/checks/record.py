@@ -3,7 +3,7 @@
 A file keeps, for each crate whose edits were tried, a sum of all that their outcome depends on: the
 crate and its edits, all crates below it, the toolchain's logic, and these scripts. Lines that are
 comments change nothing of it, and are no part of the sum. The prover sees only the statements of a
-crate below, so for its edits the bodies of functions there are no part either, nor private functions,
+crate below, so for its edits the bodies of functions there are no part either, nor private items,
 functions and definitions that nothing names, and lemmas that nothing cites. Tests run what is
 compiled, so for their edits clauses, definitions and proofs are no part.
 
@@ -96,6 +96,14 @@ def run_of(file: Path) -> bytes:
 
 # How a function begins whose body no other crate sees: that of a `const fn` may be computed there.
 FUNCTION = re.compile(r"( *)(pub(?:\(crate\))? )?(?:unsafe )?fn (\w+)")
+# How a struct begins, and a field of it that no other crate can name.
+STRUCT = re.compile(r"(?:pub )?struct ")
+FIELD = re.compile(r" {4}(?:pub\(crate\) )?\w+: [^{}]*,")
+# A type or a constant that no other crate can name, the head of an `impl`, and an attribute.
+OWN_TYPE = re.compile(r"(?:pub\(crate\) )?(?:struct|enum) (\w+)")
+OWN_CONSTANT = re.compile(r"(?:pub\(crate\) )?(?:const|static) \w+:")
+IMPL = re.compile(r"impl(?:<.*?>)? (?:.* for )?(?:\w+::)*(\w+)\b")
+OF_ITEM = re.compile(r"#\[.*\]$")
 # How a block begins whose functions are seen though no `pub` stands before them.
 TRAIT = re.compile(r"(?:pub )?trait |impl\b.* for ")
 CITED = re.compile(r"\b(\w+)(?:\.|::)proofs(?:\.|::)(\w+)")
@@ -110,8 +118,8 @@ WORD = re.compile(r"[\w'-]+")
 @dataclass(frozen=True)
 class Statements:
     """What other crates may see of a laid-out file: its imports, by the name of each, the heads of
-    public functions, or definitions, by their names, and all else but bodies and private
-    functions."""
+    public functions, or definitions, by their names, and all else but bodies, private functions,
+    fields and constants, and types of the crate alone."""
 
     imports: tuple[tuple[str, str], ...]
     functions: tuple[tuple[str, str], ...]
@@ -154,8 +162,34 @@ def imports_of(text: str) -> Iterator[tuple[str, str]]:
             yield f"{kind} {front}{given}", own or given
 
 
+def without_own(text: str) -> str:
+    """A laid-out file without the constants and types of its crate alone, and what is implemented
+    for such types."""
+    lines = text.splitlines()
+    own = {found[1] for line in lines if (found := OWN_TYPE.match(line))}
+    kept: list[str] = []
+    is_left_out = False
+    for line in lines:
+        if is_left_out:
+            is_left_out = line[:1] not in "}])"
+            continue
+        implemented = IMPL.match(line)
+        if not (
+            OWN_TYPE.match(line)
+            or OWN_CONSTANT.match(line)
+            or (implemented and implemented[1] in own)
+        ):
+            kept.append(line)
+            continue
+        while kept and OF_ITEM.match(kept[-1]):
+            kept.pop()
+        is_left_out = not line.endswith((";", "}"))
+    return "\n".join(kept)
+
+
 def statements(text: str) -> Statements:
     """What other crates may see of a laid-out file without comments."""
+    text = without_own(text)
     others: list[str] = []
     functions: list[tuple[str, list[str]]] = []
     # The line that began the last block, how far the function is set in whose head is not at its
@@ -168,6 +202,8 @@ def statements(text: str) -> Statements:
             continue
         if line[:1].strip():
             block = line
+        if head is None and STRUCT.match(block) and FIELD.fullmatch(line):
+            continue
         if head is None and (found := FUNCTION.match(line)):
             head, word, name = found.groups()
             kept = others if TRAIT.match(block) else []
@@ -312,7 +348,8 @@ class Record:
         heads = set().union(*(words_of(it.seen(called)) for it in code))
         names = used(others, heads.union(*words.values()))
         of = lambda file: texts[file].seen(called if file.suffix == ".rt" else names)
-        return self.repository.sum_of(files, lambda file: of(file).encode())
+        parts = {file: part for file in files if (part := of(file)).strip()}
+        return self.repository.sum_of(parts, lambda file: parts[file].encode())
 
     def sum_of(self, task: str, tried: list[Edit]) -> str:
         """The sum of what the outcome of the edits of a task depends on: for the prover, of the
