@@ -10,6 +10,8 @@ pub mod Message
 pub mod Grammar
 pub mod Parse
 pub mod Reading
+pub mod Segments
+pub mod Slot
 pub mod Laws
 pub mod Local
 pub mod Deserialized

@@ -114,7 +114,7 @@ impl fmt::Display for Version {
     fn fmt<W: fmt::Write>(&self, f: &mut fmt::Formatter<W>) -> fmt::Result {
         write_epoch(self.epoch, f)?;
         write_release(&self.release, f)?;
-        write_suffix(self.pre, self.post, self.dev, f)?;
-        write_local(&self.local, f)
+        write_suffix(self.pre(), self.post, self.dev, f)?;
+        write_local(self.local.as_slice(), f)
     }
 }

@@ -8,11 +8,13 @@ mod display;
 mod error;
 mod fault;
 pub mod laws;
+mod local;
 mod order;
 mod parse;
 mod pattern;
 mod read;
 mod serialization;
+mod slot;
 mod version;
 
 pub use crate::error::{Expected, VersionParseError};

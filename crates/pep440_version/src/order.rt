@@ -67,7 +67,7 @@ fn kind_rank(kind: PrereleaseKind) -> u8
 fn pre_key(version: &Version) -> (u8, u64)
     ensures { result ≡ pre_key version.now }
 {
-    match (version.pre, version.post, version.dev) {
+    match (version.pre(), version.post, version.dev) {
         (Some(pre), _, _) => (kind_rank(pre.kind), pre.number),
         (None, None, Some(_)) => (0, 0),
         _ => (4, 0),
@@ -101,11 +101,11 @@ fn is_same_version(a: &Version, b: &Version) -> bool
     ensures { IsTrue result ↔ IsSameVersion a.now b.now }
 {
     cmp_release(&a.release, &b.release).is_eq()
-        && a.pre == b.pre
+        && a.pre() == b.pre()
         && a.post == b.post
         && a.dev == b.dev
         && a.epoch == b.epoch
-        && has_same_locals(&a.local, &b.local)
+        && has_same_locals(a.local.as_slice(), b.local.as_slice())
 }
 
 fn hash_locals<H: Hasher>(locals: &[LocalSegment], state: &mut H)
@@ -154,7 +154,7 @@ impl Ord for Version {
             .then_with(|| pre_key(self).cmp(&pre_key(other)))
             .then_with(|| self.post.cmp(&other.post))
             .then_with(|| dev_key(self).cmp(&dev_key(other)))
-            .then_with(|| cmp_locals(&self.local, &other.local))
+            .then_with(|| cmp_locals(self.local.as_slice(), other.local.as_slice()))
     }
 }
 
@@ -173,6 +173,6 @@ impl Hash for Version {
         let (rank, number) = dev_key(self);
         rank.hash(state);
         number.hash(state);
-        hash_locals(&self.local, state);
+        hash_locals(self.local.as_slice(), state);
     }
 }

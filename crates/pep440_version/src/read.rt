@@ -8,7 +8,9 @@ ghost use Rattle.pep440_version.specs.Grammar.{starred_parts};
 ghost use Rattle.pep440_version.specs.Reading as Spec;
 ghost use Rattle.pep440_version.specs.Valid.{AreNumbers};
 
+use crate::local::Local;
 use crate::pattern::VersionPattern;
+use crate::slot::PrereleaseSlot;
 use crate::version::{LocalSegment, Prerelease, PrereleaseKind, Version};
 use smallvec::SmallVec;
 use std::alloc::{AllocError, Global};
@@ -312,10 +314,10 @@ pub(crate) fn released(alloc: Global, epoch: u64, release: SmallVec<u64, 4>) -> 
     Version {
         epoch,
         release,
-        pre: None,
+        pre: PrereleaseSlot::new(None),
         post: None,
         dev: None,
-        local: Vec::new(alloc),
+        local: Local::NONE,
     }
 }
 
@@ -335,6 +337,8 @@ fn with_suffixes(
     let Some(local) = locals(alloc, text)? else {
         return Ok(None);
     };
+    let local = Local::new(local)?;
+    let pre = PrereleaseSlot::new(pre);
     Ok(Some(Version {
         epoch,
         release,

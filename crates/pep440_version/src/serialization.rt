@@ -19,7 +19,7 @@ impl Described for Version {
 /// Writes the normal text. The error is an allocation failure or the format's own.
 impl Serialize for Version {
     fn serialize<S: Serializer>(&self, out: &mut S) -> Result<(), S::Error> {
-        match self.to_string(*self.local.allocator()) {
+        match self.to_string(*self.release.allocator()) {
             Ok(text) => out.str(text.as_str()),
             Err(_) => Err(out.custom("Out of memory")),
         }

@@ -3,7 +3,9 @@
 ghost use Rattle.std.specs.Prelude.{◌≡◌, ◌<◌, ◌≤◌, [], length, map, IfOk, IsOk};
 ghost use Rattle.pep440_version.specs.View.{segment_of, HaveSameSegments};
 
+use crate::local::Local;
 use crate::order::trimmed;
+use crate::slot::PrereleaseSlot;
 use smallvec::SmallVec;
 use std::alloc::{AllocError, Global};
 use std::marker::Model;
@@ -51,10 +53,10 @@ pub struct Version {
     pub(crate) epoch: u64,
     // Most releases have at most four numbers, and those need no allocation.
     pub(crate) release: SmallVec<u64, 4>,
-    pub(crate) pre: Option<Prerelease>,
+    pub(crate) pre: PrereleaseSlot,
     pub(crate) post: Option<u64>,
     pub(crate) dev: Option<u64>,
-    pub(crate) local: Vec<LocalSegment>,
+    pub(crate) local: Local,
 }
 
 impl Model for Version {
@@ -83,10 +85,10 @@ impl Version {
         Ok(Version {
             epoch: 0,
             release: SmallVec::from_slice(alloc, release)?,
-            pre: None,
+            pre: PrereleaseSlot::new(None),
             post: None,
             dev: None,
-            local: Vec::new(alloc),
+            local: Local::NONE,
         })
     }
 
@@ -137,10 +139,10 @@ impl Version {
         Ok(Version {
             epoch: self.epoch,
             release: SmallVec::from_slice(*self.release.allocator(), self.trimmed_release())?,
-            pre: self.pre,
+            pre: PrereleaseSlot::new(self.pre()),
             post: self.post,
             dev: self.dev,
-            local: clone_locals(&self.local)?,
+            local: self.local.copy()?,
         })
     }
 
@@ -148,7 +150,7 @@ impl Version {
     pub fn pre(&self) -> Option<Prerelease>
         ensures { result ≡ self.now.pre }
     {
-        self.pre
+        self.pre.get()
     }
 
     /// Returns the number of the post release.
@@ -169,19 +171,8 @@ impl Version {
     pub fn local(&self) -> &[LocalSegment]
         ensures { map segment_of result.now ≡ self.now.locals }
     {
-        &self.local
+        self.local.as_slice()
     }
-}
-
-// An empty list needs no allocation.
-fn clone_locals(locals: &Vec<LocalSegment>) -> Result<Vec<LocalSegment>, AllocError>
-    ensures value { IfOk result (λ copy. HaveSameSegments copy.items locals.now.items) }
-    ensures none { map segment_of locals.now.items ≡ [] → IsOk result }
-{
-    if locals.is_empty() {
-        return Ok(Vec::new(*locals.allocator()));
-    }
-    locals.clone()
 }
 
 /// A clone is written like its source. At most four release numbers without a local part need no
@@ -195,10 +186,10 @@ impl Clone for Version {
         Ok(Version {
             epoch: self.epoch,
             release: self.release.clone()?,
-            pre: self.pre,
+            pre: PrereleaseSlot::new(self.pre()),
             post: self.post,
             dev: self.dev,
-            local: clone_locals(&self.local)?,
+            local: self.local.copy()?,
         })
     }
 }
