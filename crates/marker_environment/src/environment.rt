@@ -61,12 +61,9 @@ impl MarkerEnvironment {
         ensures versions { IfOk result (HasVersionsOf builder.entry) }
         ensures refused { IfErr result (IsRefusal builder.entry) }
     {
+        // The versions come last, so that few early returns have them to drop.
         Ok(MarkerEnvironment {
             implementation_name: String::from_str(alloc, builder.implementation_name)?,
-            implementation_version: builder.version(
-                alloc,
-                MarkerValueVersion::ImplementationVersion,
-            )?,
             os_name: String::from_str(alloc, builder.os_name)?,
             platform_machine: String::from_str(alloc, builder.platform_machine)?,
             platform_python_implementation: String::from_str(
@@ -76,9 +73,13 @@ impl MarkerEnvironment {
             platform_release: String::from_str(alloc, builder.platform_release)?,
             platform_system: String::from_str(alloc, builder.platform_system)?,
             platform_version: String::from_str(alloc, builder.platform_version)?,
+            sys_platform: String::from_str(alloc, builder.sys_platform)?,
+            implementation_version: builder.version(
+                alloc,
+                MarkerValueVersion::ImplementationVersion,
+            )?,
             python_full_version: builder.version(alloc, MarkerValueVersion::PythonFullVersion)?,
             python_version: builder.version(alloc, MarkerValueVersion::PythonVersion)?,
-            sys_platform: String::from_str(alloc, builder.sys_platform)?,
         })
     }
 
@@ -336,18 +337,19 @@ impl Clone for MarkerEnvironment {
         HasSameValues (values_of clone) (values_of environment) };
 
     fn clone(&self) -> Result<MarkerEnvironment, AllocError> {
+        // The versions come last, as above.
         Ok(MarkerEnvironment {
             implementation_name: self.implementation_name.clone()?,
-            implementation_version: self.implementation_version.clone()?,
             os_name: self.os_name.clone()?,
             platform_machine: self.platform_machine.clone()?,
             platform_python_implementation: self.platform_python_implementation.clone()?,
             platform_release: self.platform_release.clone()?,
             platform_system: self.platform_system.clone()?,
             platform_version: self.platform_version.clone()?,
+            sys_platform: self.sys_platform.clone()?,
+            implementation_version: self.implementation_version.clone()?,
             python_full_version: self.python_full_version.clone()?,
             python_version: self.python_version.clone()?,
-            sys_platform: self.sys_platform.clone()?,
         })
     }
 }
