@@ -29,6 +29,8 @@ TRAP = re.compile(r"^  call void @llvm\.trap\(\)$", re.MULTILINE)
 HINT = re.compile(
     r"^ *#\[inline\((never|always)\)\]\n *(?:pub(?:\(crate\))? )?fn (\w+)", re.MULTILINE
 )
+TYPE = re.compile(r"^(?:pub(?:\(crate\))? )?(?:struct|enum) (\w+)", re.MULTILINE)
+IMPL = re.compile(r"^impl(?:<[^>]*>)? (?:[\w:]+(?:<[^>]*>)? for )?(\w+)", re.MULTILINE)
 ATTRIBUTES = {"never": "noinline", "always": "alwaysinline"}
 TOTAL = re.compile(r"Collected : (\d+)")
 
@@ -66,13 +68,18 @@ def kept_text(room: Path, crate: Path, *words: str) -> Path | None:
 
 def hints(repository: Repository, program: str) -> set[tuple[str, str, str]]:
     """The hints of the functions of a program: each with its module and its function."""
-    return {
-        (hint, f"{crate}::{file.stem}", name)
-        for crate in repository.below(program)
-        for file in repository.files(crate)
-        if file.suffix == ".rt"
-        for hint, name in HINT.findall(file.read_text(encoding="utf-8"))
-    }
+    found = set()
+    for crate in repository.below(program):
+        files = [file for file in repository.files(crate) if file.suffix == ".rt"]
+        texts = {file.stem: file.read_text(encoding="utf-8") for file in files}
+        homes = {name: home for home, text in texts.items() for name in TYPE.findall(text)}
+        for home, text in texts.items():
+            for hint in HINT.finditer(text):
+                # (a method is named by the module of its type)
+                types = IMPL.findall(text, 0, hint.start()) if hint[0].startswith(" ") else []
+                module = homes.get(types[-1], home) if types else home
+                found.add((hint[1], f"{crate}::{module}", hint[2]))
+    return found
 
 
 def hinted(text: str, found: set[tuple[str, str, str]]) -> str:
