@@ -250,7 +250,8 @@ int32_t pep508_marker_equal(struct pep508_interner *handle, size_t a, size_t b,
 int32_t pep508_marker_disjoint(struct pep508_interner *handle, size_t a, size_t b,
                                bool *value);
 
-/* Writes whether a marker is true in an environment with these extras. */
+/* Writes whether a marker is true in an environment with these extras. If the
+   last call had an environment of the same texts, it is not read again. */
 int32_t pep508_marker_evaluate_number(struct pep508_interner *handle, size_t number,
                                       const struct pep508_environment *environment,
                                       const struct pep508_text *extras,
@@ -258,7 +259,7 @@ int32_t pep508_marker_evaluate_number(struct pep508_interner *handle, size_t num
 
 /* Sets the environment, with extras, in which pep508_marker_is_true evaluates,
    instead of the one before. It is read once for many markers, which then take a
-   fortieth of the time of pep508_marker_evaluate_number. Markers stay, and
+   tenth of the time of pep508_marker_evaluate_number. Markers stay, and
    pep508_interner_release keeps the environment. With an answer other than
    PEP508_DONE the one before stays. */
 int32_t pep508_interner_set_environment(struct pep508_interner *handle,

@@ -2,3 +2,4 @@ pub mod Values
 pub mod HandleSteps
 pub mod HandleLaws
 pub mod NumberLaws
+mod ReadLaws

@@ -49,12 +49,13 @@ pub record IsSetTo (e : Environment) (extras : List (List ℕ))
   pub given : AreGiven e (values_of known.environment)
   pub names : Names extras known.extras.items
 
--- the marker of this number has the value in the environment with these extras
+-- the marker of this number has the value in the environment with these extras, however the texts
+-- of its versions are read: each says one version
 pub record HasValueAt (number : ℕ) (e : Environment) (extras : List (List ℕ)) (value : Bool)
     (cells : Cells) : Type 0 where
   pub truth : Truth
   pub is_there : Holds cells number truth
-  pub has_value : HasValue truth e extras value
+  pub has_value : ∥ HasValue truth e extras value ∥₁
 
 -- the marker of this number has the value in the environment that was set
 pub record HasValueThere (number : ℕ) (value : Bool) (s : InternerState) : Type 0 where

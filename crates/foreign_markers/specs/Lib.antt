@@ -1,4 +1,6 @@
-pub mod Entries
+pub mod Held
+pub mod Read
+pub mod Last
 pub mod Numbers
 pub mod Handle
 pub mod Lending

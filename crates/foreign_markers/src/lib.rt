@@ -10,6 +10,7 @@ mod handle;
 mod loose;
 mod markers;
 mod questions;
+mod read;
 
 pub use handle::Handle;
 pub use markers::Markers;

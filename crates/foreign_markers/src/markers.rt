@@ -1,10 +1,12 @@
 //! Markers of one interner by number.
 
-ghost use Rattle.std.specs.Prelude.{◌≡◌, ◌<◌, ◌∷◌, ◌++◌, [], OnErr, OnOk, vec_capacity, vec_len};
+ghost use Rattle.std.specs.Prelude.{◌≡◌, ◌<◌, ◌≤◌, IfSome, OnErr, OnOk, Some, length, slice_get, vec_capacity, vec_len};
 ghost use Rattle.marker_graph.specs.Contents.{IsKept};
 ghost use Rattle.marker_graph.specs.Mark.{HoldsUpTo};
-ghost use Rattle.foreign_markers.specs.Entries.{AreHeld};
+ghost use Rattle.std.specs.List.Sorted.{IsNonDecreasingBy, IsPartitionPoint};
+ghost use Rattle.foreign_markers.specs.Held.{AreGrowths, AreHeld, IsReleasedTo, MayHaveMore};
 
+use crate::read::ReadEnvironment;
 use foreign_calls::{
     Answer, Environment, Settings, out_of_memory, parse_marker, read_environment, read_names,
     read_text,
@@ -14,10 +16,10 @@ use marker_graph::{Interner, Mark, MarkerTree};
 use pep508_names::ExtraName;
 use std::alloc::{AllocError, Global};
 
-// A marker, and how far the interner had grown before it was made.
+// How far the interner had grown before it made the nodes of the marker of this number.
 #[derive(Clone, Copy)]
-pub(crate) struct Entry {
-    pub(crate) tree: MarkerTree,
+pub(crate) struct Growth {
+    pub(crate) number: usize,
     pub(crate) before: Mark,
 }
 
@@ -32,33 +34,86 @@ pub(crate) struct KnownEnvironment {
 #[derive(Drop)]
 pub struct Markers {
     pub(crate) interner: Interner,
-    pub(crate) entries: Vec<Entry>,
+    pub(crate) trees: Vec<MarkerTree>,
+    // One for each marker that had new nodes, in the order of their numbers.
+    pub(crate) growths: Vec<Growth>,
     pub(crate) environment: Option<KnownEnvironment>,
+    // The environment that `evaluate` read last: most markers are asked in the same.
+    pub(crate) last_read: Option<ReadEnvironment>,
     pub(crate) looks: usize,
-    ghost held: { AreHeld interner entries.items },
+    ghost held: { AreHeld interner trees.items },
+    ghost grown: { AreGrowths trees.items growths.items },
 }
 
-// Makes room for one more marker. Calls that are seldom made stay out of their callers, which then
-// have a small frame.
+// Makes room for one more. Calls that are seldom made stay out of their callers, which then have a
+// small frame.
 #[inline(never)]
-fn grow(entries: &mut Vec<Entry>) -> Result<(), AllocError>
-    ensures room { OnOk result (vec_len entries.new < vec_capacity entries.new) }
-    ensures kept { entries.new.items ≡ entries.old.items }
+fn grow<T>(items: &mut Vec<T>) -> Result<(), AllocError>
+    ensures room { OnOk result (vec_len items.new < vec_capacity items.new) }
+    ensures kept { items.new.items ≡ items.old.items }
 {
-    entries.reserve(1)
+    items.reserve(1)
 }
 
-// Adds a marker to the end.
+// Makes room for one more, if there is none.
 #[inline(always)]
-fn push(entries: &mut Vec<Entry>, entry: Entry) -> Result<(), AllocError>
-    ensures added { OnOk result (entries.new.items ≡ entries.old.items ++ (entry ∷ [])) }
-    ensures kept { OnErr result (entries.new.items ≡ entries.old.items) }
+fn make_room<T>(items: &mut Vec<T>) -> Result<(), AllocError>
+    ensures room { OnOk result (vec_len items.new < vec_capacity items.new) }
+    ensures kept { items.new.items ≡ items.old.items }
 {
-    if entries.len() >= entries.capacity() {
-        grow(entries)?;
+    if items.len() < items.capacity() {
+        return Ok(());
     }
-    entries.push_reserved(entry);
-    Ok(())
+    grow(items)
+}
+
+// Makes room for one more marker and one more growth.
+#[inline(always)]
+fn make_rooms(trees: &mut Vec<MarkerTree>, growths: &mut Vec<Growth>) -> Result<(), AllocError>
+    ensures trees { OnOk result (vec_len trees.new < vec_capacity trees.new) }
+    ensures growths { OnOk result (vec_len growths.new < vec_capacity growths.new) }
+    ensures kept { (trees.new.items ≡ trees.old.items) × (growths.new.items ≡ growths.old.items) }
+{
+    make_room(trees)?;
+    make_room(growths)
+}
+
+// Adds a growth, if the interner has grown since its mark. There is room for it.
+#[inline(always)]
+fn note(growths: &mut Vec<Growth>, growth: Growth, now: Mark)
+    requires { vec_len growths.old < vec_capacity growths.old }
+    ensures { MayHaveMore growth growths.old.items growths.new.items }
+{
+    if now != growth.before {
+        growths.push_reserved(growth);
+    }
+}
+
+// How many of the growths came before this number.
+fn count_before(growths: &[Growth], number: usize) -> usize
+    requires { IsNonDecreasingBy (λ growth. growth.number) growths.now }
+    ensures within { result ≤ length growths.now }
+    ensures parted { IsPartitionPoint (λ growth. growth.number < number)
+        (λ growth. number ≤ growth.number) growths.now result }
+{
+    growths.partition_point(|growth| growth.number < number)
+}
+
+// The growth at an index, if there is one.
+fn growth_at(growths: &[Growth], index: usize) -> Option<Growth>
+    ensures { IfSome result (λ growth. slice_get growths.now index ≡ Some growth) }
+{
+    growths.get(index).copied()
+}
+
+// Removes the nodes made since a growth, if there is one.
+fn release_to(interner: &mut Interner, first: Option<Growth>)
+    ensures kept { IsKept interner.new interner.old }
+    ensures held { IsReleasedTo first interner.old interner.new }
+{
+    if let Some(growth) = first {
+        interner.release(growth.before);
+    }
 }
 
 // Removes the nodes made since the mark, for which there was no memory or no room.
@@ -71,13 +126,13 @@ fn give_back(interner: &mut Interner, before: Mark)
 }
 
 impl Markers {
-    ghost use Rattle.std.specs.Prelude.{◌≤◌, ◌⊎◌, IfErr, IfNone, IfOk, IfSome, Some, length, slice_get, take};
+    ghost use Rattle.std.specs.Prelude.{◌⊎◌, ◌∷◌, [], IfErr, IfNone, IfOk, take};
     ghost use Rattle.marker_graph.specs.Contents.{IsHeld, truth};
     ghost use Rattle.pep508_markers.specs.Machine.{Holds, Makes, conjunction, disjunction, negation};
     ghost use Rattle.foreign_calls.specs.Marker.{Says};
     ghost use Rattle.foreign_calls.specs.Environment.{bytes_of};
     ghost use Rattle.foreign_calls.specs.Refused.{IsMarkerRefusal, IsOfArguments, IsOutOfMemory};
-    ghost use Rattle.foreign_markers.specs.Entries.{AreBefore};
+    ghost use Rattle.foreign_markers.specs.Held.{AreBefore};
     ghost use Rattle.foreign_markers.specs.Interner.{IsSetTo, empty_state, state_of};
     ghost use Rattle.foreign_markers.specs.Numbers.{Adds, truths_of};
     ghost use Rattle.foreign_markers.specs.Refused.{IsRefused, TakesMemory};
@@ -90,8 +145,10 @@ impl Markers {
     {
         Markers {
             interner: settings.interner(alloc),
-            entries: Vec::new(alloc),
+            trees: Vec::new(alloc),
+            growths: Vec::new(alloc),
             environment: None,
+            last_read: None,
             looks: settings.looks(),
         }
     }
@@ -168,8 +225,7 @@ impl Markers {
         let Some(tree) = self.tree(number) else {
             return Err(Answer::NoSuchMarker);
         };
-        let before = self.interner.mark();
-        self.add(tree.negate(), before)
+        self.add_known(tree.negate())
     }
 
     /// Returns how many markers have a number: the number of the next one.
@@ -177,20 +233,19 @@ impl Markers {
     pub fn count(&self) -> usize
         ensures { result ≡ length (truths_of self.now) }
     {
-        self.entries.len()
+        self.trees.len()
     }
 
     /// Removes the markers from this number on, with their nodes.
-    #[tactic(auto, using(crate::proofs::NumberLaws::releasing))]
     pub fn release(&mut self, count: usize)
         ensures first { truths_of self.new ≡ take count (truths_of self.old) }
         ensures environment { self.new.environment ≡ self.old.environment }
     {
-        let Some(first) = self.entry(count) else {
-            return;
-        };
-        self.interner.release(first.before);
-        self.entries.truncate(count);
+        let growths = self.growths.as_slice();
+        let first = count_before(growths, count);
+        release_to(&mut self.interner, growth_at(growths, first));
+        self.growths.truncate(first);
+        self.trees.truncate(count);
     }
 
     /// Sets the environment, with extras, in which `is_true` evaluates, instead of the one before.
@@ -216,15 +271,6 @@ impl Markers {
         Ok(())
     }
 
-    // The marker of a number, with its mark.
-    fn entry(&self, number: usize) -> Option<Entry>
-        ensures found { IfSome result
-            (λ entry. slice_get self.now.entries.items number ≡ Some entry) }
-        ensures missing { IfNone result (length self.now.entries.items ≤ number) }
-    {
-        self.entries.get(number).copied()
-    }
-
     // The marker of a number.
     #[tactic(auto, using(crate::proofs::NumberLaws::looking_up))]
     pub(crate) fn tree(&self, number: usize) -> Option<MarkerTree>
@@ -233,8 +279,7 @@ impl Markers {
         ensures held { IfSome result (IsHeld self.now.interner) }
         ensures missing { IfNone result (length (truths_of self.now) ≤ number) }
     {
-        let entry = self.entry(number)?;
-        Some(entry.tree)
+        self.trees.get(number).copied()
     }
 
     // The markers of two numbers.
@@ -253,31 +298,52 @@ impl Markers {
         Some((left, right))
     }
 
-    // Gives a marker the next number. If there is no memory for it, its nodes are removed.
-    #[tactic(auto, using(crate::proofs::NumberLaws::adding))]
+    // Gives a marker the next number. If there is no memory for it, its nodes, made since the mark,
+    // are removed.
     fn add(&mut self, tree: MarkerTree, before: Mark) -> Result<usize, Answer>
         requires held { IsHeld self.old.interner tree }
-        requires before { AreBefore before self.old.entries.items }
+        requires before { AreBefore before self.old.trees.items }
         ensures added { IfOk result (Adds (λ f. f ≡ truth self.old.interner tree)
             (truths_of self.old) (truths_of self.new)) }
         ensures refused { IfErr result (λ answer. answer ≡ Answer.OutOfMemory) }
         ensures kept { OnErr result (truths_of self.new ≡ truths_of self.old) }
         ensures environment { self.new.environment ≡ self.old.environment }
     {
-        let number = self.entries.len();
-        match push(&mut self.entries, Entry { tree, before }) {
-            Ok(()) => Ok(number),
-            Err(_) => {
-                give_back(&mut self.interner, before);
-                Err(Answer::OutOfMemory)
-            }
-        }
+        let Ok(()) = make_rooms(&mut self.trees, &mut self.growths) else {
+            give_back(&mut self.interner, before);
+            return Err(Answer::OutOfMemory);
+        };
+        let number = self.trees.len();
+        note(
+            &mut self.growths,
+            Growth { number, before },
+            self.interner.mark(),
+        );
+        self.trees.push_reserved(tree);
+        Ok(number)
+    }
+
+    // Gives a marker of nodes that others have the next number.
+    fn add_known(&mut self, tree: MarkerTree) -> Result<usize, Answer>
+        requires { IsHeld self.old.interner tree }
+        ensures added { IfOk result (Adds (λ f. f ≡ truth self.old.interner tree)
+            (truths_of self.old) (truths_of self.new)) }
+        ensures refused { IfErr result (λ answer. answer ≡ Answer.OutOfMemory) }
+        ensures kept { OnErr result (truths_of self.new ≡ truths_of self.old) }
+        ensures environment { self.new.environment ≡ self.old.environment }
+    {
+        let Ok(()) = make_room(&mut self.trees) else {
+            return Err(Answer::OutOfMemory);
+        };
+        let number = self.trees.len();
+        self.trees.push_reserved(tree);
+        Ok(number)
     }
 
     // Gives back the nodes made since the mark, and says why.
     #[tactic(auto, using(crate::proofs::NumberLaws::still_held))]
     fn undo(&mut self, before: Mark) -> Answer
-        requires { AreBefore before self.old.entries.items }
+        requires { AreBefore before self.old.trees.items }
         ensures refused { IsOutOfMemory result }
         ensures kept { truths_of self.new ≡ truths_of self.old }
         ensures environment { self.new.environment ≡ self.old.environment }

@@ -1,16 +1,37 @@
-//! Questions about markers by number, which change nothing.
+//! Questions about markers by number, which change none.
 
-ghost use Rattle.std.specs.Prelude.{◌∷◌, [], IfErr, IfOk, string_bytes};
+ghost use Rattle.std.specs.Prelude.{◌≡◌, ◌∷◌, [], IfErr, IfOk, string_bytes};
 ghost use Rattle.pep508_markers.specs.Machine as machine;
 ghost use Rattle.pep508_markers.specs.Machine.{Tells};
 ghost use Rattle.foreign_calls.specs.Environment.{bytes_of};
+ghost use Rattle.foreign_calls.specs.Refused.{IsOfArguments};
 ghost use Rattle.foreign_markers.specs.Interner.{HasValueAt, HasValueThere, state_of};
+ghost use Rattle.foreign_markers.specs.Last.{IsLast};
 ghost use Rattle.foreign_markers.specs.Numbers.{HasText, truths_of};
 ghost use Rattle.foreign_markers.specs.Refused.{Always, IsRefused, TakesArguments, TakesEnvironment, TakesLooks, TakesMemory};
 
 use crate::markers::Markers;
-use foreign_calls::{Answer, Environment, marker_text, read_environment, read_names};
+use crate::read::ReadEnvironment;
+use foreign_calls::{Answer, Environment, marker_text, read_names};
 use std::alloc::Global;
+
+// Reads the environment of these values, if they are not those of the one that was read last.
+fn read_again(
+    alloc: Global,
+    last: &mut Option<ReadEnvironment>,
+    values: &Environment<'_>,
+) -> Result<(), Answer>
+    ensures given { IfOk result (λ done. IsLast values.now last.new) }
+    ensures refused { IfErr result IsOfArguments }
+{
+    if let Some(read) = last {
+        if read.has(values) {
+            return Ok(());
+        }
+    }
+    *last = Some(ReadEnvironment::read(alloc, values)?);
+    Ok(())
+}
 
 impl Markers {
     /// Returns whether two markers are true in the same environments.
@@ -44,23 +65,28 @@ impl Markers {
     /// Returns whether a marker is true in an environment with these extras.
     #[tactic(auto, using(crate::proofs::NumberLaws::evaluating))]
     pub fn evaluate(
-        &self,
+        &mut self,
         alloc: Global,
         number: usize,
         values: &Environment<'_>,
         extras: &[&[u8]],
     ) -> Result<bool, Answer>
         ensures told { IfOk result (λ value. HasValueAt number values.now (bytes_of extras.now)
-            value (truths_of self.now)) }
+            value (truths_of self.old)) }
         ensures refused { IfErr result
-            (IsRefused TakesArguments (number ∷ []) (state_of self.now)) }
+            (IsRefused TakesArguments (number ∷ []) (state_of self.old)) }
+        ensures markers { truths_of self.new ≡ truths_of self.old }
+        ensures environment { self.new.environment ≡ self.old.environment }
     {
         let Some(tree) = self.tree(number) else {
             return Err(Answer::NoSuchMarker);
         };
-        let environment = read_environment(alloc, values)?;
         let names = read_names(alloc, extras)?;
-        Ok(tree.evaluate(&self.interner, &environment, &names))
+        read_again(alloc, &mut self.last_read, values)?;
+        match &self.last_read {
+            Some(read) => Ok(tree.evaluate(&self.interner, &read.environment, &names)),
+            None => unreachable!(),
+        }
     }
 
     /// Returns whether a marker is true in the environment that was set, or `NoEnvironment` if none

@@ -7,7 +7,7 @@ use Rattle.foreign_markers.proofs.markers.Markers.or.Goals as goal
 pub returns-in-Ok-clause-added : goal.returns-in-Ok-clause-added
 returns-in-Ok-clause-added c =
     let self = c.args.self.now in
-    on_ok c.add.result (λ number p. adds_or self.interner c.or.new.interner self.entries.items c.args.a c.args.b c.in-Some.left c.in-Some.right c.or.new.self c.or.ensures.kept self.held
+    on_ok c.add.result (λ number p. adds_or self.interner c.or.new.interner self.trees.items c.args.a c.args.b c.in-Some.left c.in-Some.right c.or.new.self c.or.ensures.kept self.held
     c.in-Some.ensures.first c.in-Some.ensures.second c.in-Some.ensures.held.0 c.in-Some.ensures.held.1 c.in-Ok.ensures.means p) c.add.ensures.added
 
 pub returns-in-Ok-clause-refused : goal.returns-in-Ok-clause-refused
@@ -19,7 +19,7 @@ returns-in-Ok-clause-refused c =
 pub returns-in-Ok-clause-kept : goal.returns-in-Ok-clause-kept
 returns-in-Ok-clause-kept c =
     let self = c.args.self.now in
-    on_err c.add.result (λ answer e. truths_then self.interner c.or.new.interner self.entries.items c.or.ensures.kept self.held e) c.add.ensures.kept
+    on_err c.add.result (λ answer e. truths_then self.interner c.or.new.interner self.trees.items c.or.ensures.kept self.held e) c.add.ensures.kept
 
 pub returns-in-Err-clause-refused : goal.returns-in-Err-clause-refused
 returns-in-Err-clause-refused c =
@@ -30,4 +30,4 @@ returns-in-Err-clause-refused c =
 pub returns-in-Err-clause-kept : goal.returns-in-Err-clause-kept
 returns-in-Err-clause-kept c =
     let self = c.args.self.now in
-    truths_then self.interner c.or.new.interner self.entries.items c.or.ensures.kept self.held c.undo.ensures.kept
+    truths_then self.interner c.or.new.interner self.trees.items c.or.ensures.kept self.held c.undo.ensures.kept
