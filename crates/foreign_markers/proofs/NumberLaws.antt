@@ -1,7 +1,6 @@
 -- Markers by number: their truths, while the interner grows and is released.
 use Rattle.std.proofs.Common.{◌≡◌, ◌∙◌, ℕ, ◌≤◌, ◌<◌, List, [], ◌∷◌, ◌++◌, length, take, get_or, ◌-◌, Some, None, Option, Bool, true, false, ◌⊎◌, inl, inr, refl, sym, ap, subst, arith}
 use Rattle.std.specs.Prelude.{Result, Ok, Err, IfOk, IfErr, slice_get, option_map, not, ◌&&◌, ◌||◌, ◌↔◌, IfSome, IsTrue, slice_index_or}
-use Rattle.std.specs.List.Sorted.{IsPartitionPoint}
 use Rattle.std.proofs.Math.Logic.{∥∥₁_elim}
 use Rattle.std.proofs.lemmas.List.{get_or-take, length-append, length-map, length-take, length-take-le, map_push, take-append-le, take-map, take-take, take_at}
 use Rattle.std.proofs.lemmas.List.Elements.{All-head, All-nil, All-push, All-tail, All-take, All-weaker}
@@ -26,7 +25,7 @@ use Rattle.foreign_markers.specs.declared.markers.Growth.{Growth}
 use Rattle.foreign_markers.specs.Numbers.{Adds, HasText}
 use Rattle.foreign_markers.specs.declared.markers.KnownEnvironment.{KnownEnvironment}
 use Rattle.foreign_markers.specs.Interner.{HasValueAt, HasValueThere, InternerState, IsSetTo, empty_state}
-use Rattle.foreign_markers.specs.Held.{truths_in, AreBefore, AreGrowths, AreHeld, IsGrowth, IsReleasedTo, MayHaveMore}
+use Rattle.foreign_markers.specs.Held.{truths_in, AreBefore, AreBeforeNumber, AreGrowths, AreHeld, IsGrowth, IsReleasedTo, MayHaveMore}
 use Rattle.foreign_markers.specs.Refused.{Others, IsRefused, is_missing, is_other, TakesArguments, TakesEnvironment, TakesLooks, TakesMemory}
 
 -- markers that stay in the interner have the truths that they had
@@ -100,7 +99,7 @@ first_held_of c d trees n growth later released p is = still_held c d (take n tr
     (subst (AreBefore growth.before) (take-take n growth.number trees later) (All-take (λ (t : MarkerTree). place_of t.id ≤ growth.before.nodes) n (take growth.number trees) is.before))
 
 -- after a release to the first growth at this number or later, those before it
-held_before : (c d : Contents) (trees : List MarkerTree) (growths : List Growth) (n k : ℕ) (first : Option Growth) → IfSome first (λ g. slice_get growths k ≡ Some g) → IsReleasedTo first c d → IsPartitionPoint (λ (g : Growth). g.number < n) (λ (g : Growth). n ≤ g.number) growths k
+held_before : (c d : Contents) (trees : List MarkerTree) (growths : List Growth) (n k : ℕ) (first : Option Growth) → IfSome first (λ g. slice_get growths k ≡ Some g) → IsReleasedTo first c d → AreBeforeNumber n growths k
     → AreHeld c trees → AreGrowths trees growths → AreHeld d (take n trees)
 held_before c d trees growths n k None found same parted held p = subst (λ (x : Contents). AreHeld x (take n trees)) (sym same) (All-take (IsHeld c) n trees held)
 held_before c d trees growths n k (Some growth) found released parted held p = first_held_of c d trees n growth later released held is
@@ -117,17 +116,17 @@ held_before c d trees growths n k (Some growth) found released parted held p = f
     is : IsGrowth trees growth
     is = subst (IsGrowth trees) it (p.each k growth there)
 
-pub first_held : (c d : Contents) (trees : List MarkerTree) (growths : List Growth) (n k : ℕ) (first : Option Growth) {all : List MarkerTree} → IfSome first (λ g. slice_get growths k ≡ Some g) → IsReleasedTo first c d → IsPartitionPoint (λ (g : Growth). g.number < n) (λ (g : Growth). n ≤ g.number) growths k
+pub first_held : (c d : Contents) (trees : List MarkerTree) (growths : List Growth) (n k : ℕ) (first : Option Growth) {all : List MarkerTree} → IfSome first (λ g. slice_get growths k ≡ Some g) → IsReleasedTo first c d → AreBeforeNumber n growths k
     → AreHeld c trees → AreGrowths trees growths → all ≡ take n trees → AreHeld d all
 first_held c d trees growths n k first found released parted held p put = subst (AreHeld d) (sym put) (held_before c d trees growths n k first found released parted held p)
 
 pub first_truths : (c d : Contents) (trees : List MarkerTree) (growths : List Growth) (n k : ℕ) (first : Option Growth) {all : List MarkerTree} → IsKept d c → IfSome first (λ g. slice_get growths k ≡ Some g) → IsReleasedTo first c d
-    → IsPartitionPoint (λ (g : Growth). g.number < n) (λ (g : Growth). n ≤ g.number) growths k → AreHeld c trees → AreGrowths trees growths → all ≡ take n trees → truths_in d all ≡ take n (truths_in c trees)
+    → AreBeforeNumber n growths k → AreHeld c trees → AreGrowths trees growths → all ≡ take n trees → truths_in d all ≡ take n (truths_in c trees)
 first_truths c d trees growths n k first {all} kept found released parted held p put = sym (truths_kept d c all kept (first_held c d trees growths n k first found released parted held p put)) ∙ ap (truths_in c) put ∙ sym (take-map (truth c) n trees)
 
 -- the growths before this number
 pub first_grown : (trees : List MarkerTree) (growths : List Growth) (n k : ℕ) {all : List MarkerTree} {first : List Growth} → all ≡ take n trees → first ≡ take k growths
-    → IsPartitionPoint (λ (g : Growth). g.number < n) (λ (g : Growth). n ≤ g.number) growths k → k ≤ length growths → AreGrowths trees growths → AreGrowths all first
+    → AreBeforeNumber n growths k → k ≤ length growths → AreGrowths trees growths → AreGrowths all first
 first_grown trees growths n k {first = first} put is parted within p = subst (λ (ts : List MarkerTree). AreGrowths ts first) (sym put) (subst (AreGrowths (take n trees)) (sym is) (record {
   each = λ j d below. subst (IsGrowth (take n trees)) (sym (get_or-take k growths j d (inside j below))) (growth (get_or growths j d) (parted.0 j d (omega (arith)) (inside j below)) (p.each j d (omega (arith, inside j below, within))));
   ascend = IsNonDecreasingBy-take (λ (g : Growth). g.number) k growths p.ascend;

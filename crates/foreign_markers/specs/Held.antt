@@ -1,7 +1,7 @@
 -- The markers of an interner in the order of their numbers.
-use Rattle.std.specs.Prelude.{◌≡◌, ◌≤◌, ◌⊎◌, List, [], ◌∷◌, ◌++◌, Option, None, Some, length, map, take}
+use Rattle.std.specs.Prelude.{◌≡◌, ℕ, ◌<◌, ◌≤◌, ◌⊎◌, List, [], ◌∷◌, ◌++◌, Option, None, Some, length, map, take}
 use Rattle.std.specs.List.{All}
-use Rattle.std.specs.List.Sorted.{IsNonDecreasingBy}
+use Rattle.std.specs.List.Sorted.{IsNonDecreasingBy, IsPartitionPoint}
 use Rattle.marker_diagrams.specs.Id.{place_of}
 use Rattle.marker_graph.specs.declared.mark.Mark.{Mark}
 use Rattle.marker_graph.specs.declared.tree.MarkerTree.{MarkerTree}
@@ -31,6 +31,11 @@ pub record IsGrowth (trees : List MarkerTree) (growth : Growth) : Type 0 where
 pub record AreGrowths (trees : List MarkerTree) (growths : List Growth) : Type 0 where
   pub each : All (IsGrowth trees) growths
   pub ascend : IsNonDecreasingBy (λ growth. growth.number) growths
+
+-- so many of the growths came before this number, and the others did not
+abbrev pub AreBeforeNumber : ℕ → List Growth → ℕ → Type 0
+AreBeforeNumber number growths count =
+    IsPartitionPoint (λ g. g.number < number) (λ g. number ≤ g.number) growths count
 
 -- the growths are as before, or with one more at their end
 abbrev pub MayHaveMore : Growth → List Growth → List Growth → Type 0

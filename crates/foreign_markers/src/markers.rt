@@ -3,8 +3,8 @@
 ghost use Rattle.std.specs.Prelude.{◌≡◌, ◌<◌, ◌≤◌, IfSome, OnErr, OnOk, Some, length, slice_get, vec_capacity, vec_len};
 ghost use Rattle.marker_graph.specs.Contents.{IsKept};
 ghost use Rattle.marker_graph.specs.Mark.{HoldsUpTo};
-ghost use Rattle.std.specs.List.Sorted.{IsNonDecreasingBy, IsPartitionPoint};
-ghost use Rattle.foreign_markers.specs.Held.{AreGrowths, AreHeld, IsReleasedTo, MayHaveMore};
+ghost use Rattle.std.specs.List.Sorted.{IsNonDecreasingBy};
+ghost use Rattle.foreign_markers.specs.Held.{AreBeforeNumber, AreGrowths, AreHeld, IsReleasedTo, MayHaveMore};
 
 use crate::read::ReadEnvironment;
 use foreign_calls::{
@@ -93,8 +93,7 @@ fn note(growths: &mut Vec<Growth>, growth: Growth, now: Mark)
 fn count_before(growths: &[Growth], number: usize) -> usize
     requires { IsNonDecreasingBy (λ growth. growth.number) growths.now }
     ensures within { result ≤ length growths.now }
-    ensures parted { IsPartitionPoint (λ growth. growth.number < number)
-        (λ growth. number ≤ growth.number) growths.now result }
+    ensures parted { AreBeforeNumber number growths.now result }
 {
     growths.partition_point(|growth| growth.number < number)
 }
