@@ -1,3 +1,4 @@
 pub mod Disjoints
 pub mod PossibleLaws
 pub mod ReportLaws
+mod Lowest

@@ -8,7 +8,7 @@ ghost use Rattle.std.specs.Prelude.{◌≡◌, ◌+◌, ◌<◌, ◌≤◌, IfNo
 ghost use Rattle.marker_diagrams.specs.Diagram as diagram;
 ghost use Rattle.marker_diagrams.specs.Id.{place_of};
 ghost use Rattle.marker_nodes.specs.Node.{markers};
-ghost use Rattle.marker_walks.specs.Disjoint.{AreDisjoint, HasBoth, IsKept, IsMemory, Leaves, RemainApartWith, TellsDisjoint, TellsDisjointWith};
+ghost use Rattle.marker_walks.specs.Disjoint.{AreDisjoint, HasBoth, IsKept, IsMemory, Leaves, RemainApartWith, TellsDisjoint, TellsDisjointEverywhere, TellsDisjointWith};
 ghost use Rattle.marker_walks.specs.Looks.{AreUnbounded};
 
 use crate::looks::{FIRST, Looks, SECOND, THIRD};
@@ -81,6 +81,21 @@ fn tell(nodes: &NodeTable, mut looks: Looks, a: NodeId, b: NodeId) -> Option<boo
     walk::<65_536>(nodes, looks, a, b)
 }
 
+// The answer, if it needs no node. Two ids that are no negations are both true at the lowest
+// valuation, since the first child of a node is no negation either.
+fn at_once(a: NodeId, b: NodeId) -> Option<bool>
+    ensures answer { IfSome result (TellsDisjointEverywhere a b) }
+    ensures nodes { IfNone result ((0 < place_of a) × (0 < place_of b)) }
+{
+    if !a.is_complement() && !b.is_complement() {
+        return Some(false);
+    }
+    match short_cut(a, b) {
+        Some(both) => Some(both == NodeId::FALSE),
+        None => None,
+    }
+}
+
 // The answer, if it needs the children of both ids alone, and no visit of their children.
 fn glance(nodes: &NodeTable, a: NodeId, b: NodeId) -> Option<bool>
     requires rules { diagram.IsStore markers nodes.now }
@@ -88,15 +103,15 @@ fn glance(nodes: &NodeTable, a: NodeId, b: NodeId) -> Option<bool>
     requires b { diagram.IsHeld nodes.now b }
     ensures { IfSome result (TellsDisjoint nodes.now a b) }
 {
-    if let Some(both) = short_cut(a, b) {
-        return Some(both == NodeId::FALSE);
+    if let Some(answer) = at_once(a, b) {
+        return Some(answer);
     }
     let unsigned_a = a.negate(a);
     let unsigned_b = b.negate(b);
     for (left, right) in nodes.side_by_side(&unsigned_a, &unsigned_b).pairs() {
         let left = left.negate(a);
         let right = right.negate(b);
-        let is_apart = short_cut(left, right)? == NodeId::FALSE;
+        let is_apart = at_once(left, right)?;
         if !is_apart {
             return Some(false);
         }
@@ -231,8 +246,8 @@ impl<const N: usize> Memory<N> {
         ensures answer { IfSome result (TellsDisjointWith self.now.apart a b) }
         ensures nodes { IfNone result ((0 < place_of a) × (0 < place_of b)) }
     {
-        if let Some(both) = short_cut(a, b) {
-            return Some(both == NodeId::FALSE);
+        if let Some(answer) = at_once(a, b) {
+            return Some(answer);
         }
         let place = first_place(N, a, b);
         let first = self.apart[place];

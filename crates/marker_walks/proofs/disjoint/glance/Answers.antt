@@ -1,9 +1,9 @@
 use Rattle.marker_nodes.proofs.SideLaws.{signed_branches, signed_first}
-use Rattle.marker_walks.proofs.Disjoints.{tells_short, tells_no, walks, on_left, on_right, on_shared, on_told, on_all}
+use Rattle.marker_walks.proofs.Disjoints.{tells_no, walks, on_left, on_right, on_shared, on_told, on_all}
 use Rattle.marker_walks.proofs.disjoint.glance.Goals as goal
 
 pub returns-in-Some : goal.returns-in-Some
-returns-in-Some c = tells_short c.args.nodes.now c.requires.rules c.args.a c.args.b c.requires.a c.requires.b _ (c.in-Some.ensures.short c.args.nodes.now c.requires.a c.requires.b) _ c.eq.ensures
+returns-in-Some c = c.in-Some.ensures.answer c.args.nodes.now c.requires.rules c.requires.a c.requires.b
 
 pub loop-left-init : goal.loop-left-init
 loop-left-init c = rw c.into_iter-left-iterator.ensures.into_iter_gives (walks c.args.nodes.now c.requires.rules c.args.a c.args.b c.requires.a c.requires.b c.side_by_side.result
@@ -18,7 +18,7 @@ returns-then-not-is_apart c =
     let right = on_right nodes c.requires.rules c.args.a c.args.b c.requires.a c.requires.b _ _ _ _ c.in-Some-2.ensures.steps c.loop-left.invariant _ _ c.negate-left.ensures c.negate-right.ensures in
     tells_no nodes c.args.a c.args.b
     (on_shared nodes c.requires.rules c.args.a c.args.b c.requires.a c.requires.b _ _ _ _ c.in-Some-2.ensures.steps c.loop-left.invariant _ _ c.negate-left.ensures c.negate-right.ensures _
-    (tells_short nodes c.requires.rules c.negate-left.result c.negate-right.result left right _ (c.in_ok-short_cut.ensures.short nodes left right) _ c.eq-is_apart.ensures) c.if-not-is_apart.true)
+    (c.in_ok-is_apart.ensures.answer nodes c.requires.rules left right) c.if-not-is_apart.true)
 
 pub loop-left-preserved : goal.loop-left-preserved
 loop-left-preserved c =
@@ -26,7 +26,7 @@ loop-left-preserved c =
     let left = on_left nodes c.requires.rules c.args.a c.args.b c.requires.a c.requires.b _ _ _ _ c.in-Some-2.ensures.steps c.loop-left.invariant _ _ c.negate-left.ensures c.negate-right.ensures in
     let right = on_right nodes c.requires.rules c.args.a c.args.b c.requires.a c.requires.b _ _ _ _ c.in-Some-2.ensures.steps c.loop-left.invariant _ _ c.negate-left.ensures c.negate-right.ensures in
     on_told nodes c.requires.rules c.args.a c.args.b c.requires.a c.requires.b _ _ _ _ c.in-Some-2.ensures.steps c.loop-left.invariant _ _ c.negate-left.ensures c.negate-right.ensures _
-    (tells_short nodes c.requires.rules c.negate-left.result c.negate-right.result left right _ (c.in_ok-short_cut.ensures.short nodes left right) _ c.eq-is_apart.ensures) c.if-not-is_apart.false
+    (c.in_ok-is_apart.ensures.answer nodes c.requires.rules left right) c.if-not-is_apart.false
 
 pub returns : goal.returns
 returns c = on_all c.args.nodes.now c.requires.rules c.args.a c.args.b c.requires.a c.requires.b _ c.in-None.ensures.steps.0 c.loop-left.invariant
