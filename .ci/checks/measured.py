@@ -31,6 +31,10 @@ HINT = re.compile(
 )
 TYPE = re.compile(r"^(?:pub(?:\(crate\))? )?(?:struct|enum) (\w+)", re.MULTILINE)
 IMPL = re.compile(r"^impl(?:<[^>]*>)? (?:[\w:]+(?:<[^>]*>)? for )?(\w+)", re.MULTILINE)
+AS_PROVED = {
+    '"frame-pointer"="all"': '"frame-pointer"="none"',
+    '"target-cpu"="x86-64"': '"target-cpu"="x86-64-v2"',
+}
 ATTRIBUTES = {"never": "noinline", "always": "alwaysinline"}
 TOTAL = re.compile(r"Collected : (\d+)")
 
@@ -93,12 +97,20 @@ def hinted(text: str, found: set[tuple[str, str, str]]) -> str:
     return text
 
 
+def as_proved(text: str) -> str:
+    """A compiled text with each check taken as true, and compiled as a proved one: for the same
+    processors, and without pointers to frames."""
+    for tried, proved in AS_PROVED.items():
+        text = text.replace(tried, proved)
+    return TRAP.sub("", text)
+
+
 def without_checks(module: Path, found: set[tuple[str, str, str]], room: Path) -> Path:
     """The program of a compiled text, with each check taken as true."""
     text, plain = room / "module.ll", room / "plain.ll"
     clang = [kit() / "toolchain" / "bin" / "clang", *IR]
     subprocess.run([*clang, "-S", "-emit-llvm", module, "-o", text], check=True)
-    said = TRAP.sub("", text.read_text(encoding="utf-8")).replace("sanitize_address", "")
+    said = as_proved(text.read_text(encoding="utf-8")).replace("sanitize_address", "")
     plain.write_text(hinted(said, found), encoding="utf-8")
     subprocess.run([*clang, *FLAGS, "-O2", "-c", plain, "-o", room / "plain.o"], check=True)
     libraries = [kit() / "c" / "liblibc_c.a", kit() / "c" / "libos_c.a"]
