@@ -292,9 +292,11 @@ impl Markers {
         ensures missing { IfNone result
             ((length (truths_of self.now) ≤ a) ⊎ (length (truths_of self.now) ≤ b)) }
     {
-        let left = self.tree(a)?;
-        let right = self.tree(b)?;
-        Some((left, right))
+        // (one test serves for both)
+        if a.max(b) >= self.trees.len() {
+            return None;
+        }
+        Some((self.trees[a], self.trees[b]))
     }
 
     // Gives a marker the next number. If there is no memory for it, its nodes, made since the mark,
