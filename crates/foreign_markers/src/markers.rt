@@ -33,10 +33,11 @@ pub(crate) struct KnownEnvironment {
 /// Markers in one interner, numbered from 0, and the environment that was set.
 #[derive(Drop)]
 pub struct Markers {
-    pub(crate) interner: Interner,
+    // (first, since most calls read them)
     pub(crate) trees: Vec<MarkerTree>,
     // One for each marker that had new nodes, in the order of their numbers.
     pub(crate) growths: Vec<Growth>,
+    pub(crate) interner: Interner,
     pub(crate) environment: Option<KnownEnvironment>,
     // The environment that `evaluate` read last: most markers are asked in the same.
     pub(crate) last_read: Option<ReadEnvironment>,
