@@ -259,7 +259,7 @@ int32_t pep508_marker_evaluate_number(struct pep508_interner *handle, size_t num
 
 /* Sets the environment, with extras, in which pep508_marker_is_true evaluates,
    instead of the one before. It is read once for many markers, which then take a
-   tenth of the time of pep508_marker_evaluate_number. Markers stay, and
+   sixth of the time of pep508_marker_evaluate_number. Markers stay, and
    pep508_interner_release keeps the environment. With an answer other than
    PEP508_DONE the one before stays. */
 int32_t pep508_interner_set_environment(struct pep508_interner *handle,
