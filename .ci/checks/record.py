@@ -8,7 +8,8 @@ functions and definitions that nothing names, and lemmas that nothing cites. Tes
 compiled, so for their edits clauses, definitions and proofs are no part.
 
 A wrong body is refused at a goal that is false. No toolchain of the same logic proves that, so its
-name is no part of a sum.
+name is no part of a sum. Nor is how a lemma is proved: of a lemma that an answer cites, the statement
+is.
 """
 
 from __future__ import annotations
@@ -140,8 +141,9 @@ class Statements:
         return "\n".join([*sorted(imports), text])
 
 
-def words_of(text: str) -> set[str]:
-    return set(WORD.findall(text))
+@cache
+def words_of(text: str) -> frozenset[str]:
+    return frozenset(WORD.findall(text))
 
 
 def is_named(name: str, words: set[str], text: str) -> bool:
@@ -279,9 +281,124 @@ def definitions(text: str) -> Statements:
     return Statements(tuple(imports), tuple(kept), "\n".join(others))
 
 
+@dataclass(frozen=True)
+class Lemma:
+    """A declaration of a file of lemmas: its name, the heads of its modules, its statement, and its
+    proof, which is what it means where it is no lemma."""
+
+    name: str
+    modules: str
+    statement: str
+    proof: str
+
+    def is_fact(self) -> bool:
+        """Whether it states a fact, as its last part tells, and so means nothing: it has a sign of
+        facts, or is a word with arguments that is no type of values."""
+        last = self.statement.rpartition("→")[2]
+        words = PREDICATE.match(last)
+        return bool(FACT.search(last) or (words and words[1] not in VALUES))
+
+
+@dataclass(frozen=True)
+class Lemmas:
+    """A file of lemmas: its imports, by the name of each, its lemmas, and all else."""
+
+    imports: tuple[tuple[str, str], ...]
+    lemmas: tuple[Lemma, ...]
+    others: str
+
+
+# How a lemma begins, or a definition that does not unfold by itself.
+LEMMA = re.compile(r" *(?:pub )?([\w'-]+)(?: [({].*)? :(?: |$)")
+# What a fact has, and the type of a value has not.
+FACT = re.compile("[≡≢≤<⊎⊥↔]")
+PREDICATE = re.compile(r"\s*\(?([A-Z][\w']*) \S")
+# The types of values that have arguments.
+VALUES = {"Bor", "Bound", "Cut", "List", "Option", "Point", "Result", "Type", "Vec"}
+# How a line begins that ends what stands in brackets.
+CLOSING = (")", "}", "]")
+# The files of proofs that answer the goals of functions: all others there are files of lemmas.
+ANSWERS = ("Answers.antt", "Invariants.antt", "Proof.antt")
+
+
+def has_lemmas(file: Path) -> bool:
+    return file.suffix == ".antt" and "proofs" in file.parts and file.name not in ANSWERS
+
+
+def lemmas(text: str) -> Lemmas:
+    """The lemmas of a laid-out file of proofs without comments."""
+    imports: list[tuple[str, str]] = []
+    others: list[str] = []
+    found: list[tuple[str, list[str], list[str], list[str]]] = []
+    modules: list[list[str]] = []
+    # The margin of the last line that began something, its name where that is a lemma, and where
+    # the lines go that are set further in.
+    margin, name, goes_on = "", None, others
+    for line in FILE_OF_CRATE.sub("", f"{text.rstrip()}\n").splitlines():
+        its = set_in(line)
+        is_at = its == margin
+        is_inner = len(its) > len(margin) or (is_at and line.lstrip().startswith(CLOSING))
+        if goes_on is not None and is_inner:
+            goes_on.append(line)
+        elif name and is_at and re.match(rf" *(?:unfolding|{name})(?:[ =]|$)", line):
+            goes_on = found[-1][3]
+            goes_on.append(line)
+        else:
+            margin, name, goes_on = its, None, others
+            modules = [head for head in modules if len(set_in(head[0])) < len(its)]
+            heads = [part for head in modules for part in head]
+            if (its_imports := imports_of_definitions(line.strip())) is not None:
+                imports += its_imports
+            elif line.strip().startswith("module "):
+                modules.append([line])
+                goes_on = modules[-1]
+            elif begun := LEMMA.match(line):
+                name = begun[1]
+                found.append((name, heads, [line], []))
+                goes_on = found[-1][2]
+            else:
+                others += [*heads, line]
+        if modules and goes_on is modules[-1] and line.endswith(" where"):
+            goes_on = None
+    parts = (Lemma(it, *("\n".join(lines) for lines in its)) for it, *its in found)
+    return Lemmas(tuple(imports), tuple(parts), "\n".join(others))
+
+
+@cache
+def lemmas_of(file: Path) -> Lemmas:
+    return lemmas(code_of(file).decode())
+
+
+def told(files: dict[Path, Lemmas], cited: set[str], meant: set[str]) -> dict[Path, str]:
+    """What files of lemmas tell to who cites these names: the statements of their lemmas, and of
+    those that state no fact also what they mean, if a statement or one of the second names them."""
+    cited = cited.union(*(words_of(it.others) for it in files.values()))
+    meant = meant.union(*(words_of(it.others) for it in files.values()))
+    all_of = [(file, lemma) for file, it in files.items() for lemma in it.lemmas]
+    stated: set[tuple[Path, Lemma]] = set()
+    opened: set[tuple[Path, Lemma]] = set()
+    while True:
+        new = {it for it in all_of if it[1].name in cited} - stated
+        open_now = {it for it in stated if it[1].name in meant and not it[1].is_fact()} - opened
+        if not new and not open_now:
+            break
+        words = set().union(*(words_of(it.statement) - {it.name} for _, it in new))
+        words = words.union(*(words_of(it.modules) for _, it in new))
+        words = words.union(*(words_of(it.proof) for _, it in open_now))
+        stated, opened, cited, meant = stated | new, opened | open_now, cited | words, meant | words
+    texts = {}
+    for file, it in files.items():
+        parts = [it.others]
+        for lemma in it.lemmas:
+            parts += [lemma.modules, lemma.statement] if (file, lemma) in stated else []
+            parts += [lemma.proof] if (file, lemma) in opened else []
+        texts[file] = Statements(it.imports, (), "\n".join(filter(None, parts))).seen(set())
+    return texts
+
+
 @cache
 def statements_of(file: Path) -> Statements:
-    """What other crates may see of a file. Files with macros, and those of proofs, are seen whole."""
+    """What other crates may see of a file. Files with macros are seen whole."""
     text = code_of(file).decode()
     if file.suffix == ".antt" and "specs" in file.parts:
         return definitions(text)
@@ -327,7 +444,8 @@ class Record:
         files: none of proofs but what is cited."""
         folders = [self.repository.folder(name) for name in self.repository.below(crate)]
         files = [file for it in folders for file in self.repository.files(it.name)]
-        seen = [file for file in files if not any(it / "proofs" in file.parents for it in folders)]
+        proofs = [f"{it / 'proofs'}/" for it in folders]
+        seen = [file for file in files if not str(file).startswith(tuple(proofs))]
         waiting = [*own, *(file for file in seen if file.suffix == ".antt")]
         while waiting:
             names = cited(file.read_text() for file in waiting)
@@ -336,14 +454,24 @@ class Record:
             seen += waiting
         return sorted(seen)
 
-    def sum_below(self, crate: str, own: list[Path]) -> str:
-        """The sum of what the prover sees of the crates below when it checks these files."""
-        files = self.seen(crate, own)
-        texts = {file: statements_of(file) for file in files}
+    def told(self, files: list[Path], own: list[Path]) -> dict[Path, str]:
+        """What files of lemmas tell, of a crate that has these files and of those below."""
+        answers = {file: words_of(file.read_text()) for file in own if not has_lemmas(file)}
+        meant = (words for file, words in answers.items() if file.name == "Invariants.antt")
+        laws = {file: lemmas_of(file) for file in files if has_lemmas(file)}
+        return told(laws, set().union(*answers.values()), set().union(*meant))
+
+    def sum_below(self, files: list[Path], own: list[Path], tells: dict[Path, str]) -> str:
+        """The sum of what the prover sees of the crates below when it checks a crate's own files, of
+        which those of lemmas tell this."""
+        texts = {
+            file: Statements((), (), tells[file]) if file in tells else statements_of(file)
+            for file in files
+        }
         # (no definition or proof names a function of another crate: only code does)
         code = [texts[file] for file in files if file.suffix == ".rt"]
         others = [texts[file] for file in files if file.suffix != ".rt"]
-        words = {file: words_of(file.read_text()) for file in own}
+        words = {file: words_of(tells.get(file) or file.read_text()) for file in own}
         called = used(code, set().union(*(words[it] for it in own if it.suffix != ".antt")))
         heads = set().union(*(words_of(it.seen(called)) for it in code))
         names = used(others, heads.union(*words.values()))
@@ -364,7 +492,12 @@ class Record:
     def sum_of_proofs(self, crate: str, tried: list[Edit]) -> str:
         """The sum of what the prover sees that checks a crate with these edits."""
         files = [*self.repository.files(crate), *(edit.path for edit in tried)]
-        return f"{self.sum_below(crate, files)}\n{self.repository.sum_of(files, code_of)}"
+        below = self.seen(crate, files)
+        tells = self.told([*files, *below], files)
+        parts = {file: tells[file].encode() if file in tells else code_of(file) for file in files}
+        own = [file for file in files if parts[file].strip()]
+        own_sum = self.repository.sum_of(own, parts.__getitem__)
+        return f"{self.sum_below(below, files, tells)}\n{own_sum}"
 
     def sum_run(self, crates: Iterable[str], tried: list[Edit]) -> str:
         """The sum of what is compiled of crates with these edits, and run."""
