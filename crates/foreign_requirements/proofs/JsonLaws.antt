@@ -26,9 +26,3 @@ pub parts_written : {text : List ℕ} {value : Data} (name : List ℕ) (extras s
     → value ≡ parts_data name extras specifiers url marker → (has_float value ≡ false → text ≡ compact_text value) → text ≡ parts_text name extras specifiers url marker
 parts_written name extras specifiers url marker is written =
     written (ap has_float is ∙ without_float name extras specifiers url marker) ∙ ap compact_text is
-
--- the text of borrowed parts
-pub text_of_parts : {name : List ℕ} {extras specifiers : List (List ℕ)} {url marker : Option (List ℕ)} (parts : Parts)
-    → parts.name.now ≡ name → parts.extras.now ≡ extras → map specifier_text parts.specifiers.now ≡ specifiers → option_map (λ t. t.now) parts.url ≡ url
-    → option_map (λ t. t.now) parts.marker ≡ marker → text_of parts ≡ parts_text name extras specifiers url marker
-text_of_parts parts p q r s t = rw (p, q, r, s, t) refl

@@ -9,7 +9,6 @@ use Rattle.marker_environment.specs.Valuation.{Valuation}
 use Rattle.marker_view.specs.Text.{TellsText}
 use Rattle.pep508_requirements.specs.declared.requirement.Requirement.{Requirement}
 use Rattle.pep508_requirements.specs.Text.{requirement_text, IsTextOf}
-use Rattle.foreign_requirements.proofs.JsonLaws.{text_of_parts}
 use Rattle.foreign_requirements.specs.declared.json.Parts.{Parts}
 use Rattle.foreign_requirements.specs.Json.{text_of}
 use Rattle.foreign_requirements.specs.Reading.{IsReadFrom, Wanted}
@@ -39,9 +38,3 @@ parts_of {c = c} {r = r} p parts = record {
   says = p.says;
   parts = parts;
 }
-
--- parts that are borrowed from a requirement
-pub borrowed_parts : {f : Valuation → Bool} {name bytes : List ℕ} {extras : List (List ℕ)} {wanted : Wanted} {marker : Option (List ℕ)} (parts : Parts)
-    → bytes ≡ text_of parts → parts.name.now ≡ name → parts.extras.now ≡ extras → map specifier_text parts.specifiers.now ≡ specifiers_of wanted
-    → option_map (λ t. t.now) parts.url ≡ url_of wanted → option_map (λ t. t.now) parts.marker ≡ marker → TellsText f marker → AreParts name extras wanted f bytes
-borrowed_parts {marker = marker} parts written p q r s t tells = record { marker = marker; tells = tells; written = written ∙ text_of_parts parts p q r s t }

@@ -15,11 +15,7 @@ whole_none h = record { parts = refl; whole = All-nil HasNoFeed; unended = h }
 
 -- one line has ended
 pub whole_one : {line : List ℕ} → HasNoFeed line → WholeLines (with_feed line) (line ∷ []) []
-whole_one {line} h = record {
-  parts = sym (append-nil (with_feed line ++ []) ∙ append-nil (with_feed line));
-  whole = All-cons HasNoFeed line [] h (All-nil HasNoFeed);
-  unended = All-nil (λ (b : ℕ). b ≢ 10);
-}
+whole_one h1 = grind (arith, append-nil)
 
 -- more bytes after the rest
 pub whole_then : {a rest end : List ℕ} {lines more : List (List ℕ)} (b : List ℕ) → WholeLines a lines rest → WholeLines (rest ++ b) more end → WholeLines (a ++ b) (lines ++ more) end

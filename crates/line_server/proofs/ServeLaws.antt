@@ -1,6 +1,6 @@
 -- What was read and written when serving stops: `r0`, `r1` and `r2` are what the source had left at
 -- first, so far and then, `t0`, `t1` and `t2` what the sink held.
-use Rattle.std.proofs.Common.{◌≡◌, ◌≢◌, ℕ, List, [], ◌∷◌, ◌++◌, inl, inr, refl, sym, ap, ◌∙◌, subst, append_assoc, take, Option}
+use Rattle.std.proofs.Common.{◌≡◌, ◌≢◌, ℕ, List, [], ◌∷◌, ◌++◌, inl, inr, refl, sym, ap, ◌∙◌, subst, append_assoc, take, Option, arith}
 use Rattle.std.specs.Io.KnownBytes.{Appends, Consumes, IsAtEnd}
 use Rattle.std.proofs.lemmas.List.{append-nil}
 use Rattle.line_server.specs.Ports.{AppendsBeginning}
@@ -12,8 +12,7 @@ use Rattle.line_server.proofs.ServingLaws.{answers_one, answers_then, serves_the
 
 -- a read at the end gave no byte
 pub read_end : (r0 r1 r2 : Option (List ℕ)) (input buffer : List ℕ) (count : ℕ) → Consumes r0 r1 input → Consumes r1 r2 (take count buffer) → count ≡ 0 → Consumes r0 r2 input
-read_end r0 r1 r2 input buffer count p q none =
-    subst (Consumes r0 r2) (ap (λ (k : ℕ). input ++ take k buffer) none ∙ append-nil input) (Consumes-then r0 r1 r2 input (take count buffer) p q)
+read_end r0 r1 r2 input buffer count h1 h2 h3 = grind arith
 
 -- what was added to nothing
 pub from_empty : {before after added : List ℕ} → after ≡ before ++ added → before ≡ [] → after ≡ added
@@ -66,8 +65,7 @@ module _ {State : Type 0} (Step : State → List ℕ → List ℕ → State → 
 
   -- after a failed read all whole lines are answered
   pub whole_here : {old state : State} {held : List ℕ} (r0 r1 t0 t1 : Option (List ℕ)) → Served r0 r1 t0 t1 old state held → Exchanges r0 r1 t0 t1 (AnswersWholeLines Step old state)
-  whole_here {held = held} r0 r1 t0 t1 p =
-      (p.0, p.1, p.2, p.3, record { lines = p.4.lines; rest = held; read = p.4.read; answers = p.4.answers })
+  whole_here r0 r1 t0 t1 h1 = grind arith
 
   -- after refused room for what was read
   pub broken_read : {old state : State} {held : List ℕ} (r0 r1 r2 t0 t1 : Option (List ℕ)) (bytes : List ℕ) → Served r0 r1 t0 t1 old state held → Consumes r1 r2 bytes → Broken r0 r2 t0 t1 old

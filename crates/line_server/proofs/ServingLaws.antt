@@ -1,6 +1,5 @@
 -- Lines that are answered: part after part.
-use Rattle.std.proofs.Common.{◌≡◌, ◌≢◌, ℕ, List, [], ◌∷◌, ◌++◌, refl, sym, ap, ◌∙◌, subst, append_assoc, take, drop, length, ◌+◌}
-use Rattle.std.specs.List.{flat_map}
+use Rattle.std.proofs.Common.{◌≡◌, ◌≢◌, ℕ, List, [], ◌∷◌, ◌++◌, refl, sym, ap, ◌∙◌, subst, append_assoc, take, drop, length, ◌+◌, arith}
 use Rattle.std.proofs.lemmas.List.{append-nil}
 use Rattle.std.proofs.lemmas.List.Concat.{flat_map-append}
 use Rattle.line_server.specs.Lines.{HasNoFeed, with_feed, WholeLines}
@@ -24,11 +23,7 @@ module _ {State : Type 0} (Step : State → List ℕ → List ℕ → State → 
 
   -- more lines
   pub answers_then : {old middle new : State} {lines more : List (List ℕ)} {output others : List ℕ} → Answers Step old lines output middle → Answers Step middle more others new → Answers Step old (lines ++ more) (output ++ others) new
-  answers_then {output = output} {others = others} p q = record {
-    replies = p.replies ++ q.replies;
-    run = run_then p.run q.run;
-    written = ap (λ (x : List ℕ). x ++ others) p.written ∙ ap (λ (x : List ℕ). flat_map with_feed p.replies ++ x) q.written ∙ sym (flat_map-append with_feed p.replies q.replies);
-  }
+  answers_then h1 h2 = grind (arith, run_then, flat_map-append)
 
   -- no byte
   pub serves_none : (state : State) (held : List ℕ) → HasNoFeed held → Serves Step state held [] [] state held

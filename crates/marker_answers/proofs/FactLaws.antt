@@ -53,34 +53,6 @@ pub version_holds : (known : KnownValues) (extras : List (List ℕ)) (x : Versio
 version_holds known extras ImplementationVersion p e v h = ap (lists.is_listed (p ∷ [])) (h.versions ImplementationVersion p e) ∙ one_listed p
 version_holds known extras PythonFullVersion p e v h = ap (lists.is_listed (p ∷ [])) (h.versions PythonFullVersion p e) ∙ one_listed p
 
--- the answer to a substring test
-pub inside_holds : (known : KnownValues) (extras : List (List ℕ)) (x : TextVariable) (t s : List ℕ) → known_text known x ≡ Some t →
-    IsFact known extras (asked.text (modern_key x) (if is_part_of t s then operators.In else operators.NotIn) s)
-inside_holds known extras x t s e v h = by_test (is_part_of t s) (ap (λ y. v.inside y s) (key_back x) ∙ h.inside x t s e)
-  where
-    by_test : (b : Bool) → v.inside (variable_of (modern_key x)) s ≡ b → holds (asked.text (modern_key x) (if b then operators.In else operators.NotIn) s) v ≡ true
-    by_test true f = f
-    by_test false f = ap not f
-
-pub contains_holds : (known : KnownValues) (extras : List (List ℕ)) (x : TextVariable) (t s : List ℕ) → known_text known x ≡ Some t →
-    IsFact known extras (asked.text (modern_key x) (if is_part_of s t then operators.Contains else operators.NotContains) s)
-contains_holds known extras x t s e v h = by_test (is_part_of s t) (ap (λ y. v.contains y s) (key_back x) ∙ h.contains x t s e)
-  where
-    by_test : (b : Bool) → v.contains (variable_of (modern_key x)) s ≡ b → holds (asked.text (modern_key x) (if b then operators.Contains else operators.NotContains) s) v ≡ true
-    by_test true f = f
-    by_test false f = ap not f
-
--- the answer to a question about an extra
-pub extra_holds : (known : KnownValues) (extras : List (List ℕ)) (name : List ℕ) → IsFact known extras (asked.extra (if is_listed extras name then extra_operators.Equal else extra_operators.NotEqual) (asked.name name))
-extra_holds known extras name v h = by_test (is_listed extras name) (h.extras name)
-  where
-    by_test : (b : Bool) → v.extra name ≡ b → holds (asked.extra (if b then extra_operators.Equal else extra_operators.NotEqual) (asked.name name)) v ≡ true
-    by_test true f = f
-    by_test false f = ap not f
-
-pub arbitrary_holds : (known : KnownValues) (extras : List (List ℕ)) (text : List ℕ) → IsFact known extras (asked.extra extra_operators.NotEqual (asked.arbitrary text))
-arbitrary_holds known extras text v h = ap not (h.arbitrary text)
-
 -- a comparison that is another one
 pub fact_as : (known : KnownValues) (extras : List (List ℕ)) (test other : Test) → test ≡ other → IsFact known extras other → IsFact known extras test
 fact_as known extras test other e f = let P : Test → Type 0 = λ t. IsFact known extras t in subst P (sym e) f

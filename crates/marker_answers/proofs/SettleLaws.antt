@@ -24,19 +24,10 @@ and_assoc false b c = refl
 pub joined_one : (g t joined left whole : Bool) → joined ≡ (g && t) → (g && (t && left)) ≡ whole → (joined && left) ≡ whole
 joined_one g t joined left whole e f = ap (λ x. x && left) e ∙ and_assoc g t left ∙ f
 
-pub joined_all : (g whole : Bool) → (g && true) ≡ whole → g ≡ whole
-joined_all true whole e = e
-joined_all false whole e = e
-
 -- where the two are never true together, the marker is false where the comparisons hold
 pub never_both : (marker given both hold : Bool) → both ≡ (marker && given) → given ≡ hold → both ≡ false → hold ≡ true → marker ≡ false
 never_both false given both hold e f n h = refl
 never_both true given both hold e f n h = absurd (false≢true (sym n ∙ e ∙ f ∙ h))
-
--- where the two together are the comparisons, the marker is true where these hold
-pub always_both : (marker given hold : Bool) → given ≡ (marker && given) → given ≡ hold → hold ≡ true → marker ≡ true
-always_both true given hold e f h = refl
-always_both false given hold e f h = absurd (false≢true (sym e ∙ f ∙ h))
 
 -- of two places where the joined truth differs and the comparisons' truth does not, these hold at both
 both_hold : (g h f e : Bool) → g ≡ h → ((f && g) ≢ (e && h)) → (g ≡ true) × (h ≡ true) × (f ≢ e)

@@ -1,5 +1,5 @@
 -- The conjunction of two ids from those of their children, and what is known of conjunctions.
-use Rattle.std.proofs.Common.{◌≡◌, ℕ, zero, suc, ◌≤◌, max, Bool, true, false, cond, ◌&&◌, inl, inr, List, [], ◌∷◌, ◌++◌, length, Some, Result, Ok, Err, refl, sym, ap, ◌∙◌, subst, arith}
+use Rattle.std.proofs.Common.{◌≡◌, ℕ, zero, suc, ◌≤◌, max, Bool, true, false, cond, ◌&&◌, List, [], ◌∷◌, ◌++◌, length, Some, Result, Ok, Err, refl, sym, ap, ◌∙◌, subst, arith}
 use Rattle.std.specs.Prelude.{slice_get, IfOk}
 use Rattle.std.specs.Map.{lookup}
 use Rattle.std.specs.declared.alloc.AllocError.{AllocError}
@@ -10,7 +10,7 @@ use Rattle.marker_diagrams.specs.declared.node_id.NodeId.{NodeId}
 use Rattle.marker_diagrams.specs.Id.{is_negated, place_of, signed_id, same_id}
 use Rattle.marker_diagrams.specs.Diagram.{IsAfter, IsHeld, IsStore, Keeps, IsChoice, AreChildren, truth}
 use Rattle.marker_diagrams.proofs.IdLaws.{same_id_is}
-use Rattle.marker_diagrams.proofs.NodeLaws.{same_some, none_some, keeps_both, truth_still, after_still, after_before}
+use Rattle.marker_diagrams.proofs.NodeLaws.{same_some, none_some, keeps_both, truth_still, after_still}
 use Rattle.marker_nodes.specs.Variable.{Variable, variable_cmp}
 use Rattle.marker_nodes.specs.Node.{Node, markers, child_at}
 use Rattle.marker_nodes.specs.And.{IsAnd}
@@ -22,12 +22,7 @@ use Rattle.marker_conjunctions.specs.Reach.{reach, top}
 
 -- a conjunction stays one
 pub and_kept : (old new : List Node) (a b t : NodeId) → Keeps markers old new → IsHeld old a → IsHeld old b → IsAnd old a b t → IsAnd new a b t
-and_kept old new a b t k i j h = record {
-  held = let l = k.longer in let g = h.held in omega arith;
-  means = λ v.
-      truth_still markers old new t v k h.held ∙ h.means v ∙ ap (λ z. z && truth markers old b v) (sym (truth_still markers old new a v k i)) ∙ ap (λ z. truth markers new a v && z) (sym (truth_still markers old new b v k j));
-  after = λ x p q. after_still markers old new x t k h.held (h.after x (after_before markers old new x a k i p) (after_before markers old new x b k j q));
-}
+and_kept old new a b t h1 h2 h3 h4 = grind arith
 
 -- ---- what is known
 
@@ -79,10 +74,7 @@ module _ (old : List Node) (store : IsStore markers old) (a b : NodeId) (i : IsH
       still s v h = truth_still markers old last s v both h
 
       before : (y : Variable) → IsAfter markers last y a → IsAfter markers last y b → variable_cmp y x ≡ Less
-      before y p q = elim first.at [
-        | inl n ↦ ap (variable_cmp y) (sym n.2) ∙ after_before markers old last y a both i p n.0 n.1
-        | inr n ↦ ap (variable_cmp y) (sym n.2) ∙ after_before markers old last y b both j q n.0 n.1
-      ]
+      before y h1 h2 = grind arith
 
       branch_kept : (s : NodeId) (v : Valuation) → IsHeld old s → IsHeld old (branch old x s v) → truth markers new (branch old x s v) v ≡ truth markers last s v
       branch_kept s v h g = truth_still markers old new (branch old x s v) v k g ∙ sym (branch_means old store x s v) ∙ sym (still s v h)

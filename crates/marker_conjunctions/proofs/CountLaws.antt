@@ -58,15 +58,10 @@ one_less false false h = omega arith
 
 fewer : (old new : Memo) (pairs : List (NodeId × NodeId)) → Grows old new → unknown pairs new ≤ unknown pairs old
 fewer old new [] h = omega arith
-fewer old new (k ∷ ks) h =
-    let a : unknown ks new ≤ unknown ks old = fewer old new ks h in
-    let b : cond (is_some (lookup (same_pair k) new)) 0 1 ≤ cond (is_some (lookup (same_pair k) old)) 0 1 = one_less (is_some (lookup (same_pair k) old)) (is_some (lookup (same_pair k) new)) (h k) in
-    omega arith
+fewer old new (k ∷ ks) h = grind (arith, cond, is_some, one_less, fewer old new ks h)
 
 pub same_pair_is : (p q : NodeId × NodeId) → same_pair p q ≡ true → p ≡ q
-same_pair_is p q e =
-    let r = and_parts (same_id p.0 q.0) (same_id p.1 q.1) e in
-    ap (λ x. let t : NodeId × NodeId = (x, p.1) in t) (same_id_is p.0 q.0 r.0) ∙ ap (λ x. let t : NodeId × NodeId = (q.0, x) in t) (same_id_is p.1 q.1 r.1)
+same_pair_is p q e = grind (arith, and_parts, same_id_is)
 
 at_known : (s t : Bool) (m n : ℕ) → s ≡ false → t ≡ true → m ≤ n → cond t 0 1 + m + 1 ≤ cond s 0 1 + n
 at_known true t m n e f h = absurd (true≢false e)
@@ -129,14 +124,7 @@ all_pairs (a ∷ rest) bs = cross a bs ++ all_pairs rest bs
 
 unknown_length : (pairs : List (NodeId × NodeId)) (memo : Memo) → unknown pairs memo ≤ length pairs
 unknown_length [] memo = omega arith
-unknown_length (p ∷ ps) memo =
-    let a : unknown ps memo ≤ length ps = unknown_length ps memo in
-    let b : cond (is_some (lookup (same_pair p) memo)) 0 1 ≤ 1 = small (is_some (lookup (same_pair p) memo)) in
-    omega arith
-  where
-    small : (z : Bool) → cond z 0 1 ≤ 1
-    small true = omega arith
-    small false = omega arith
+unknown_length (p ∷ ps) memo = grind (arith, length, cond, is_some, unknown_length ps memo)
 
 cross_has : (x : NodeId) (y : NodeId) (bs : List NodeId) → list_any (same_id y) bs ≡ true → list_any (same_pair (x, y)) (cross x bs) ≡ true
 unfolding cross

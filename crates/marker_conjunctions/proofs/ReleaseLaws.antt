@@ -1,5 +1,5 @@
 -- How far conjunctions reach, which of them stay, and what is left when the newest are removed.
-use Rattle.std.proofs.Common.{◌≡◌, ℕ, zero, suc, ◌+◌, ◌-◌, ◌<◌, ◌≤◌, min, max, Bool, true, false, cond, ◌&&◌, List, [], ◌∷◌, ◌++◌, length, get_or, take, Some, None, refl, sym, ap, ◌∙◌, subst, arith, length-append, length-drop}
+use Rattle.std.proofs.Common.{◌≡◌, ℕ, zero, suc, ◌+◌, ◌-◌, ◌≤◌, min, max, Bool, true, false, cond, List, [], ◌∷◌, ◌++◌, length, get_or, take, Some, None, refl, sym, ap, ◌∙◌, subst, arith, length-append, length-drop}
 use Rattle.std.specs.Prelude.{◌↔◌, slice_get, nat_le}
 use Rattle.std.specs.Map.{lookup}
 use Rattle.std.proofs.lemmas.Bool.{ne_eqb, leb-true, leb-false}
@@ -11,7 +11,7 @@ use Rattle.marker_diagrams.specs.declared.node_id.NodeId.{NodeId}
 use Rattle.marker_diagrams.specs.Id.{place_of}
 use Rattle.marker_diagrams.specs.Diagram.{IsHeld, Keeps}
 use Rattle.marker_diagrams.proofs.KeyLaws.{get_last}
-use Rattle.marker_diagrams.proofs.NodeLaws.{same_some, none_some, truth_still, after_still, after_before, keeps_itself, keeps_both}
+use Rattle.marker_diagrams.proofs.NodeLaws.{same_some, none_some, keeps_itself, keeps_both}
 use Rattle.marker_nodes.specs.Node.{Node, markers}
 use Rattle.marker_nodes.specs.And.{IsAnd}
 use Rattle.marker_nodes.specs.Table.{oldest}
@@ -55,34 +55,20 @@ reach_taken (suc k) place (x ∷ memo) = reach_taken k (max place (top x)) memo
 
 -- fewer than all, or all
 take_fewer : (memo : Memo) (known last : ℕ) → last + 1 ≡ min known (length memo) → take known memo ≡ take (suc last) memo
-take_fewer memo known last e = by_size (nat_le known (length memo)) refl
-  where
-    by_size : (b : Bool) → nat_le known (length memo) ≡ b → take known memo ≡ take (suc last) memo
-    by_size true f = let l : known ≤ length memo = leb-true known (length memo) f in let k : known ≡ suc last = omega (arith, e, l) in ap (λ i. take i memo) k
-    by_size false f =
-        let l : length memo < known = leb-false known (length memo) f in
-        let k : length memo ≡ suc last = omega (arith, e, l) in
-        take_all known memo (omega (arith, l)) ∙ sym (take_all (suc last) memo (omega (arith, k)))
+take_fewer memo known last h1 = grind (arith, length, take, leb-true, leb-false, take_all)
 
 module _ (memo : Memo) (reaches : List ℕ) (known : ℕ) (all : reaches ≡ reaches_from 0 memo) where
   size : length reaches ≡ length memo
   size = ap length all ∙ length_reaches 0 memo
 
   pub reach_found : (size last r : ℕ) → size ≡ min known (length reaches) → 1 ≤ size → last ≡ size - 1 → r ≡ get_or reaches last r → r ≡ reach (take known memo)
-  reach_found m last r m_is some last_is found =
-      let s : m ≡ min known (length memo) = m_is ∙ ap (min known) size in
-      let e : last + 1 ≡ min known (length memo) = omega (arith, s, some, last_is) in
-      let within : last < length reaches = omega (arith, m_is, some, last_is) in
-      let at : slice_get reaches last ≡ Some r = slice_get-get_or reaches last r within ∙ ap Some (sym found) in
-      reach_at last 0 memo r (sym (ap (λ l. slice_get l last) all) ∙ at) ∙ ap reach (sym (take_fewer memo known last e))
+  reach_found m last r m_is some last_is found = grind (arith, min, length, size, slice_get-get_or, reach_at, take_fewer)
 
 -- the highest place with one more conjunction
 pub reach_now : (memo : Memo) (a b t : NodeId) (known before left right made both all now : ℕ) → known ≡ length memo → before ≡ reach (take known memo) →
     left ≡ place_of a → right ≡ place_of b → made ≡ place_of t → both ≡ max left right → all ≡ max both made → now ≡ max before all →
     now ≡ max (reach memo) (top ((a, b), t))
-reach_now memo a b t known before left right made both all now known_is before_is left_is right_is made_is both_is all_is now_is =
-    let first : before ≡ reach memo = before_is ∙ ap (λ k. reach (take k memo)) known_is ∙ ap reach (take-length memo) in
-    omega (arith, first, left_is, right_is, made_is, both_is, all_is, now_is)
+reach_now memo a b t known before left right made both all now h1 h2 h3 h4 h5 h6 h7 h8 = grind (arith, take, take-length)
 
 -- some are left
 pub left_reaches : (left : ℕ) (reaches rest : List ℕ) (old new : Memo) → reaches ≡ reaches_from 0 old → rest ≡ take left reaches → new ≡ take left old → rest ≡ reaches_from 0 new
@@ -106,27 +92,17 @@ module _ (old new : Memo) (p : NodeId × NodeId) (t : NodeId) (unknown : lookup 
   added_reach = ap reach added_last ∙ reach_more 0 old (p, t)
 
   pub added_reaches : (reaches : List ℕ) (r : ℕ) → reaches ≡ reaches_from 0 old → r ≡ max (reach old) (top (p, t)) → reaches ++ r ∷ [] ≡ reaches_from 0 new
-  added_reaches reaches r all r_is =
-      ap (λ (l : List ℕ). l ++ r ∷ []) all
-      ∙ ap (λ (x : ℕ). reaches_from 0 old ++ x ∷ []) r_is
-      ∙ sym (reaches_more 0 old (p, t))
-      ∙ ap (reaches_from 0) (sym added_last)
+  added_reaches reaches r h1 h2 = grind (arith, reaches_more, added_last)
 
   pub added_first : StaysFirst old new
-  added_first = subst (StaysFirst old) (sym added_last) (record {
-    longer = omega (arith, length-append old ((p, t) ∷ []));
-    known = λ i h. get_last old (p, t) i ∙ ap (λ b. cond b (Some (p, t)) (slice_get old i)) (ne_eqb i (length old) (λ e. omega (arith, e, h)));
-  })
+  added_first = grind (arith, added_last, length-append, get_last, cond, ne_eqb, length)
 
 -- ---- what stays
 pub stays_itself : (memo : Memo) → StaysFirst memo memo
 stays_itself memo = record { longer = omega arith; known = λ i h. refl }
 
 stays_both : (a b c : Memo) → StaysFirst a b → StaysFirst b c → StaysFirst a c
-stays_both a b c k l = record {
-  longer = let x = k.longer in let y = l.longer in omega arith;
-  known = λ i h. l.known i (let x = k.longer in omega arith) ∙ k.known i h;
-}
+stays_both a b c h1 h2 = grind arith
 
 pub kept_itself : (c : Contents) → IsKept c c
 kept_itself c = record { nodes = keeps_itself markers c.nodes; memo = stays_itself c.memo }
@@ -160,20 +136,12 @@ first_is (x ∷ old) (y ∷ new) s =
 taken_first : (k : ℕ) (memo : Memo) → StaysFirst (take k memo) memo
 taken_first zero memo = record { longer = omega arith; known = λ i h. absurd (omega (arith, h)) }
 taken_first (suc k) [] = stays_itself []
-taken_first (suc k) (x ∷ memo) = let s = taken_first k memo in record { longer = omega (arith, s.longer); known = λ i h. known_at s i h }
-  where
-    known_at : StaysFirst (take k memo) memo → (i : ℕ) → i < suc (length (take k memo)) → slice_get (x ∷ memo) i ≡ slice_get (x ∷ take k memo) i
-    known_at s zero h = refl
-    known_at s (suc i) h = s.known i (omega (arith, h))
+taken_first (suc k) (x ∷ memo) = grind (arith, take, length, taken_first k memo)
 
 lookup_taken : (p : NodeId × NodeId) (k : ℕ) (memo : Memo) (t : NodeId) → lookup (same_pair p) (take k memo) ≡ Some t → lookup (same_pair p) memo ≡ Some t
 lookup_taken p zero memo t e = none_some t e
 lookup_taken p (suc k) [] t e = none_some t e
-lookup_taken p (suc k) (x ∷ memo) t e = by_test (same_pair p x.0) (lookup_taken p k memo t) e
-  where
-    by_test : (b : Bool) → (lookup (same_pair p) (take k memo) ≡ Some t → lookup (same_pair p) memo ≡ Some t) → cond b (Some x.1) (lookup (same_pair p) (take k memo)) ≡ Some t → cond b (Some x.1) (lookup (same_pair p) memo) ≡ Some t
-    by_test true h f = f
-    by_test false h f = h f
+lookup_taken p (suc k) (x ∷ memo) t e = grind (arith, take, cond, lookup_taken p k memo t)
 
 -- the ids of a known conjunction are no higher
 lookup_reach : (a b t : NodeId) (place : ℕ) (memo : Memo) → lookup (same_pair (a, b)) memo ≡ Some t → max (max (place_of a) (place_of b)) (place_of t) ≤ reach_from place memo
@@ -193,11 +161,7 @@ lookup_reach a b t place (x ∷ memo) e = by_test (same_pair (a, b) x.0) refl (l
 
 -- a conjunction of ids that are left is one of what is left
 and_left : (new old : List Node) (a b t : NodeId) → Keeps markers new old → IsHeld new a → IsHeld new b → IsHeld new t → IsAnd old a b t → IsAnd new a b t
-and_left new old a b t k i j held h = record {
-  held = held;
-  means = λ v. sym (truth_still markers new old t v k held) ∙ h.means v ∙ (λ z. truth_still markers new old a v k i z && truth_still markers new old b v k j z);
-  after = λ x p q. after_before markers new old x t k held (h.after x (after_still markers new old x a k i p) (after_still markers new old x b k j q));
-}
+and_left new old a b t h1 h2 h3 h4 h5 = grind arith
 
 -- ---- the newest nodes and conjunctions are given up
 module _ (nodes known : ℕ) (c : Contents) where
@@ -236,29 +200,18 @@ module _ (nodes known : ℕ) (c : Contents) where
     released_well = well_by (nat_le (reach (take known c.memo)) nodes) refl
 
   first_by : (b : Bool) → StaysFirst (Left b) c.memo
-  first_by true = taken_first known c.memo
-  first_by false = record { longer = omega arith; known = λ i h. absurd (omega (arith, h)) }
+  first_by b = grind (arith, taken_first)
 
   -- what is left was there before, with its meaning
   pub released_kept : IsKept (released nodes known c) c
   released_kept = record { nodes = oldest_kept nodes c.nodes; memo = first_by (nat_le (reach (take known c.memo)) nodes) }
 
 le_leb : (a b : ℕ) → a ≤ b → nat_le a b ≡ true
-le_leb a b h = by_test (nat_le a b) refl
-  where
-    by_test : (t : Bool) → nat_le a b ≡ t → nat_le a b ≡ true
-    by_test true e = e
-    by_test false e = absurd (let l : b < a = leb-false a b e in omega (arith, l, h))
+le_leb a b h1 = grind arith
 
 -- exactly what was added since is removed
 pub released_same : (c d : Contents) → reach c.memo ≤ length c.nodes → IsKept c d → HoldsTheSame c (released (length c.nodes) (length c.memo) d)
-released_same c d within k = record { nodes = oldest_undoes c.nodes d.nodes k.nodes; memo = left_is ∙ first }
-  where
-    first : take (length c.memo) d.memo ≡ c.memo
-    first = first_is c.memo d.memo k.memo
-
-    left_is : first_within (length c.memo) (length c.nodes) d.memo ≡ take (length c.memo) d.memo
-    left_is = ap (λ b. cond b (take (length c.memo) d.memo) []) (ap (λ m. nat_le (reach m) (length c.nodes)) first ∙ le_leb (reach c.memo) (length c.nodes) within)
+released_same c d h1 h2 = grind (arith, oldest_undoes, take, length, first_is, cond, le_leb)
 
 -- ---- the parts of an interner that gave up what came since a mark
 module _ (nodes known : ℕ) where
@@ -267,9 +220,7 @@ module _ (nodes known : ℕ) where
   released_is c left memo expansions p q r = λ i. record { nodes = p i; memo = q i; expansions = r i }
 
   pub released_held : (c : Contents) (t : NodeId) → IsHeld (oldest nodes c.nodes) t ↔ (IsHeld c.nodes t × (place_of t ≤ nodes))
-  released_held c t =
-      let size : length (oldest nodes c.nodes) ≡ length c.nodes - (length c.nodes - nodes) = left_size nodes known c in
-      (λ h. (omega (arith, size, h), omega (arith, size, h)), λ h. omega (arith, size, h.0, h.1))
+  released_held c t = grind (arith, length, left_size)
 
   pub released_undone : (c d : Contents) → nodes ≡ length c.nodes → known ≡ length c.memo → reach c.memo ≤ length c.nodes → IsKept c d → HoldsTheSame c (released nodes known d)
   released_undone c d n k within kept =

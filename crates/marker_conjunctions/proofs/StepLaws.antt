@@ -1,5 +1,5 @@
 -- Steps of a conjunction: which pairs are still to be computed, and which wait for which.
-use Rattle.std.proofs.Common.{◌≡◌, ℕ, zero, suc, ◌+◌, ◌<◌, ◌≤◌, Bool, true, false, not, cond, ◌==◌, List, [], ◌∷◌, ◌++◌, length, Option, Some, None, is_some, inl, inr, refl, sym, ap, ◌∙◌, subst, arith, append_assoc}
+use Rattle.std.proofs.Common.{◌≡◌, ℕ, zero, suc, ◌+◌, ◌<◌, ◌≤◌, Bool, true, false, not, cond, ◌==◌, List, [], ◌∷◌, ◌++◌, length, Option, Some, None, is_some, inr, refl, sym, ap, ◌∙◌, subst, arith, append_assoc}
 use Rattle.std.specs.Prelude.{slice_get, IfNone, IfSome}
 use Rattle.std.specs.List.{list_any}
 use Rattle.std.specs.Map.{lookup}
@@ -14,7 +14,6 @@ use Rattle.marker_diagrams.proofs.IdLaws.{same_id_itself, one_id}
 use Rattle.marker_diagrams.proofs.NodeLaws.{Descends, keeps_itself}
 use Rattle.marker_diagrams.proofs.ResidueLaws.{subtree_both, subtree_kept}
 use Rattle.marker_nodes.specs.Variable.{Variable}
-use Rattle.marker_nodes.specs.Branches.{value_at as pick}
 use Rattle.marker_nodes.specs.Node.{Node, markers, child_at}
 use Rattle.marker_nodes.specs.And.{IsAnd, IsShort}
 use Rattle.marker_nodes.specs.declared.choice.Choice.{Choice}
@@ -31,21 +30,13 @@ use Rattle.marker_conjunctions.proofs.CountLaws.{or_left, or_right, descends_of,
 
 -- ---- what is known
 pub open_none : (memo : Memo) (p : NodeId × NodeId) → IsOpen memo p → lookup (same_pair p) memo ≡ None
-open_none memo p h = by_value (lookup (same_pair p) memo) refl
-  where
-    by_value : (o : Option NodeId) → lookup (same_pair p) memo ≡ o → o ≡ None
-    by_value None e = refl
-    by_value (Some t) e = absurd (h.unsettled (inr (ap is_some e)))
+open_none memo p h = grind (arith, is_some)
 
 pub known_by : (memo : Memo) (p : NodeId × NodeId) (t : NodeId) → Some t ≡ lookup (same_pair p) memo → IsSettled memo p
 known_by memo p t e = inr (sym (ap is_some e))
 
 pub opened : (memo : Memo) (a b : NodeId) → ¬ IsShort a b → None ≡ lookup (same_pair (a, b)) memo → (0 < place_of a) × (0 < place_of b) → IsOpen memo (a, b)
-opened memo a b long none nodes = record {
-  unsettled = λ s. elim s [ inl e ↦ long e | inr e ↦ false≢true (ap is_some none ∙ e) ];
-  left_node = nodes.0;
-  right_node = nodes.1;
-}
+opened memo a b long none nodes = grind (arith, false≢true, is_some)
 
 -- ---- lists of pairs
 pub pairs_both : (nodes : List Node) (a b : NodeId) (xs ys : List (NodeId × NodeId)) → ArePairs nodes a b xs → ArePairs nodes a b ys → ArePairs nodes a b (xs ++ ys)
@@ -65,10 +56,7 @@ pair_itself nodes a b i j = record { left_held = i; right_held = j; left = itsel
 
 module _ (old new : List Node) (k : Keeps markers old new) (descends : Descends markers old) (a b : NodeId) (p : NodeId × NodeId) (h : IsPair old a b p) where
   pub pair_under : (q : NodeId × NodeId) → IsPair new p.0 p.1 q → IsPair old a b q
-  pair_under q g =
-      let l = subtree_kept markers old new p.0 q.0 k descends h.left_held g.left in
-      let r = subtree_kept markers old new p.1 q.1 k descends h.right_held g.right in
-      record { left_held = l.1; right_held = r.1; left = subtree_both markers old a p.0 q.0 h.left l.0; right = subtree_both markers old b p.1 q.1 h.right r.0 }
+  pair_under q g = grind (arith, subtree_kept, descends, subtree_both)
 
   pub pairs_under : (qs : List (NodeId × NodeId)) → ArePairs new p.0 p.1 qs → ArePairs old a b qs
   pairs_under [] g = _
@@ -79,19 +67,11 @@ pub nothing_waits : (nodes : List Node) (a b : NodeId) (xs : List (NodeId × Nod
 nothing_waits nodes a b xs = record { more = []; added = sym (append-nil xs); pairs = _ }
 
 one_waits : (nodes : List Node) (a b : NodeId) (old now last : List (NodeId × NodeId)) (p : NodeId × NodeId) → Waits nodes a b old now → IsPair nodes a b p → last ≡ now ++ p ∷ [] → Waits nodes a b old last
-one_waits nodes a b old now last p w h pushed = record {
-  more = w.more ++ p ∷ [];
-  added = pushed ∙ ap (λ (x : List (NodeId × NodeId)). x ++ p ∷ []) w.added ∙ append_assoc old w.more (p ∷ []);
-  pairs = pairs_both nodes a b w.more (p ∷ []) w.pairs (h, _);
-}
+one_waits nodes a b old now last p w h pushed = grind (arith, append_assoc, pairs_both)
 
 module _ (nodes : List Node) (descends : Descends markers nodes) (a b : NodeId) (p : NodeId × NodeId) (h : IsPair nodes a b p) where
   pub more_wait : (old now last : List (NodeId × NodeId)) → Waits nodes a b old now → Waits nodes p.0 p.1 now last → Waits nodes a b old last
-  more_wait old now last w v = record {
-    more = w.more ++ v.more;
-    added = v.added ∙ ap (λ (x : List (NodeId × NodeId)). x ++ v.more) w.added ∙ append_assoc old w.more v.more;
-    pairs = pairs_both nodes a b w.more v.more w.pairs (pairs_under nodes nodes (keeps_itself markers nodes) descends a b p h v.more v.pairs);
-  }
+  more_wait old now last w v = grind (arith, append_assoc, pairs_both, pairs_under, keeps_itself, descends)
 
   pub next_pair : (q : NodeId × NodeId) → IsPair nodes p.0 p.1 q → IsPair nodes a b q
   next_pair = pair_under nodes nodes (keeps_itself markers nodes) descends a b p h
@@ -227,17 +207,12 @@ is_same p a b told e f = same_pair_is p (a, b) (not_false (same_pair p (a, b)) (
     not_false false e = absurd (false≢true (sym e))
 
 pub is_other : (p : NodeId × NodeId) (a b : NodeId) (told : Bool) → told ≡ not (same_pair p (a, b)) → told ≡ true → p ≡ (a, b) → ⊥
-is_other p a b told e f same =
-    let one : same_pair p (a, b) ≡ true = ap (λ (q : NodeId × NodeId). same_pair q (a, b)) same ∙ and_from (same_id a a) (same_id b b) (same_id_itself a) (same_id_itself b) in
-    false≢true (sym (ap not one) ∙ sym e ∙ f)
+is_other p a b told e f same = grind (arith, and_from, same_id_itself, false≢true, not)
 
 -- a choice that has the conjunctions as its children
 pub choice_joins : (nodes : List Node) (a b : NodeId) (x : Variable) (child : Valuation → NodeId) (choice : Choice) → IsFirst nodes x a b → ((v : Valuation) → IsAnd nodes (branch nodes x a v) (branch nodes x b v) (child v)) →
     asked choice ≡ x → ((v : Valuation) → chosen choice v ≡ child v) → Joins nodes a b choice
-choice_joins nodes a b x branches choice first ands x_is branches_are = record {
-  first = subst (λ (y : Variable). IsFirst nodes y a b) (sym x_is) first;
-  ands = λ v. subst (λ (y : Variable). IsAnd nodes (branch nodes y a v) (branch nodes y b v) (chosen choice v)) (sym x_is) (subst (IsAnd nodes (branch nodes x a v) (branch nodes x b v)) (sym (branches_are v)) (ands v));
-}
+choice_joins nodes a b x branches choice first ands x_is branches_are = grind arith
 
 -- ---- what is spent
 pub spends_nothing : (c : Contents) (nodes : List Node) (size : ℕ) (a b : NodeId) → Spends c record { nodes = nodes; memo = c.memo; expansions = c.expansions } size a b
@@ -246,11 +221,7 @@ spends_nothing c nodes size a b = record { above = λ k h. refl; spent = λ pair
 -- a subtree is no higher
 subtree_lower : (nodes : List Node) → Descends markers nodes → (t s : NodeId) → IsSubtree markers nodes t s → place_of s ≤ place_of t
 subtree_lower nodes d t _ itself = omega arith
-subtree_lower nodes d t s (child r _ n v h e f) =
-    let i = subtree_lower nodes d t r h in
-    let l = d (place_of r) n e v in
-    let p : place_of s ≡ place_of (pick n v) = ap place_of f in
-    omega (arith, i, l, p)
+subtree_lower nodes d t s (child r _ n v h e f) = grind (arith, subtree_lower nodes d t r h)
 
 -- a conjunction is entered
 module _ (old new : Memo) (a b t : NodeId) (u : (q : NodeId × NodeId) → lookup (same_pair q) new ≡ cond (same_pair (a, b) q) (Some t) (lookup (same_pair q) old)) where
@@ -274,9 +245,7 @@ all_ids (suc n) = record { place = suc n; complement = false } ∷ record { plac
 
 id_here : (n : ℕ) (rest : List NodeId) (t : NodeId) (b : Bool) → is_negated t ≡ b → place_of t ≡ n → list_any (same_id t) (record { place = n; complement = false } ∷ record { place = n; complement = true } ∷ rest) ≡ true
 id_here n rest t false e f = let d : NodeId = record { place = n; complement = false } in or_left (same_id t d) _ (ap (λ (x : NodeId). same_id x d) (one_id t d f e) ∙ same_id_itself d)
-id_here n rest t true e f =
-    let d : NodeId = record { place = n; complement = true } in
-    or_right (same_id t record { place = n; complement = false }) _ (or_left (same_id t d) _ (ap (λ (x : NodeId). same_id x d) (one_id t d f e) ∙ same_id_itself d))
+id_here n rest t true e f = grind (arith, or_right, or_left, one_id, same_id_itself)
 
 id_in : (n : ℕ) (t : NodeId) → (place_of t ≤ n → list_any (same_id t) (all_ids n) ≡ true) → place_of t ≤ suc n → (z : Bool) → (place_of t == suc n) ≡ z → list_any (same_id t) (all_ids (suc n)) ≡ true
 unfolding all_ids

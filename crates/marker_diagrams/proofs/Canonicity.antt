@@ -1,37 +1,26 @@
 -- Two ids of one store are equal, or differ at some valuation.
-use Rattle.std.proofs.Common.{◌≡◌, ◌≢◌, ℕ, zero, suc, ◌+◌, ◌<◌, Bool, true, false, not, cond, List, Option, Some, None, ◌⊎◌, inl, inr, refl, sym, ap, ◌∙◌, arith}
+use Rattle.std.proofs.Common.{◌≡◌, ◌≢◌, ℕ, zero, suc, ◌+◌, ◌<◌, Bool, true, not, cond, List, Option, Some, None, ◌⊎◌, inl, inr, refl, sym, ap, ◌∙◌, arith}
 use Rattle.std.specs.Ordering.{is_eq, ordering_reverse}
 use Rattle.std.specs.declared.cmp.Ordering.{Ordering}
 use Rattle.std.specs.declared.cmp.Ordering.TheVariants.{Less, Equal, Greater}
 use Rattle.std.proofs.lemmas.Cmp.{tied_itself}
-use Rattle.std.proofs.lemmas.Bool.{true≢false, false≢true}
 use Rattle.marker_diagrams.specs.declared.node_id.NodeId.{NodeId}
 use Rattle.marker_diagrams.specs.declared.node_id.TheConstants.NodeId.{FALSE}
-use Rattle.marker_diagrams.specs.Id.{signed, place_of, is_negated, signed_id, same_id}
+use Rattle.marker_diagrams.specs.Id.{signed, place_of, is_negated, signed_id}
 use Rattle.marker_diagrams.specs.Diagram.{NodeKind, node_at, node_of, IsHeld, truth_at, truth, Separated, IsAfter, with_variable, AreSame, IsLawful, IsStore}
-use Rattle.marker_diagrams.proofs.IdLaws.{signed_plain, not_itself, same_id_is, not_same_id, one_id, signed_id_back}
+use Rattle.marker_diagrams.proofs.IdLaws.{signed_plain, not_itself, one_id, signed_id_back}
 use Rattle.marker_diagrams.proofs.NodeLaws.{same_some, none_some, terminal, truth_free, truth_first, truth_node, truth_child}
 
 -- the truth under two signs
 opposite_truths : (a b : Bool) → a ≢ b → signed a true ≡ not (signed b true)
-opposite_truths true true h = absurd (h refl)
-opposite_truths true false h = refl
-opposite_truths false true h = refl
-opposite_truths false false h = absurd (h refl)
+opposite_truths a b h1 = grind arith
 
 one_sign : (a b : Bool) → (a ≡ b) ⊎ (a ≢ b)
-one_sign true true = inl refl
-one_sign true false = inr true≢false
-one_sign false true = inr false≢true
-one_sign false false = inl refl
+one_sign a b = grind arith
 
 -- ids are the same or not
 pub one_or_other : (a b : NodeId) → (a ≡ b) ⊎ (a ≢ b)
-one_or_other a b = by_test (same_id a b) refl
-  where
-    by_test : (t : Bool) → same_id a b ≡ t → (a ≡ b) ⊎ (a ≢ b)
-    by_test true e = inl (same_id_is a b e)
-    by_test false e = inr (not_same_id a b e)
+one_or_other a b = grind arith
 
 module _ {N X V : Type 0} (kind : NodeKind N X V) (laws : IsLawful kind) (nodes : List N) (store : IsStore kind nodes) where
   pub descends : (i : ℕ) (n : N) → node_at nodes i ≡ Some n → (v : V) → place_of (kind.pick n v) < i
@@ -42,11 +31,7 @@ module _ {N X V : Type 0} (kind : NodeKind N X V) (laws : IsLawful kind) (nodes 
   Apart a b = (v : V) × (truth kind nodes a v ≡ not (truth kind nodes b v))
 
   turn : (a b : NodeId) → Apart a b → Apart b a
-  turn a b d = (d.0, by_cases (truth kind nodes a d.0) (truth kind nodes b d.0) d.1)
-    where
-      by_cases : (s t : Bool) → s ≡ not t → t ≡ not s
-      by_cases s true e = ap not (sym e)
-      by_cases s false e = ap not (sym e)
+  turn a b h1 = grind arith
 
   -- a node on the variable x picks by v, one on a later variable by w
   pub pick_at : (n : N) (x : X) (v w : V) → kind.cmp x (kind.variable n) ≡ Equal → kind.pick n (with_variable kind x v w) ≡ kind.pick n v

@@ -1,18 +1,14 @@
 -- A list of nodes that grows at its end, as the keys of a set do, read from the newest.
-use Rattle.std.proofs.Common.{◌≡◌, ℕ, zero, suc, ◌<◌, ◌≤◌, Bool, true, false, cond, List, [], ◌∷◌, ◌++◌, reverse, length, Some, None, refl, sym, ap, ◌∙◌, arith}
+use Rattle.std.proofs.Common.{◌≡◌, ℕ, zero, suc, ◌<◌, ◌≤◌, false, cond, List, [], ◌∷◌, ◌++◌, reverse, length, Some, None, refl, sym, ap, ◌∙◌, arith}
 use Rattle.std.specs.Prelude.{slice_get}
-use Rattle.std.proofs.lemmas.Bool.{eqb-true, eqb-false, eq-eqb, ne_eqb}
+use Rattle.std.proofs.lemmas.Bool.{ne_eqb}
 use lib.Dec.{eqb}
 use Rattle.std.proofs.lemmas.List.{reverse-append, reverse-reverse, length-reverse}
 use Rattle.marker_diagrams.specs.Diagram.{node_at}
 use Rattle.marker_diagrams.proofs.NodeLaws.{node_bounds}
 
 eqb_suc : (i n : ℕ) → eqb (suc i) (suc n) ≡ eqb i n
-eqb_suc i n = by_test (eqb i n) refl
-  where
-    by_test : (b : Bool) → eqb i n ≡ b → eqb (suc i) (suc n) ≡ b
-    by_test true e = let k : i ≡ n = eqb-true i n e in eq-eqb (suc i) (suc n) (omega arith)
-    by_test false e = let k : i ≡ n → ⊥ = eqb-false i n e in ne_eqb (suc i) (suc n) (λ h. k (omega arith))
+eqb_suc i n = grind arith
 
 not_zero : (i : ℕ) → eqb (suc i) 0 ≡ false
 not_zero i = ne_eqb (suc i) 0 (λ h. omega arith)
@@ -32,11 +28,7 @@ reverse_cons n rs = reverse-append (n ∷ []) rs
 
 place : {N : Type 0} (rs : List N) (i : ℕ) → node_at rs (suc i) ≡ slice_get (reverse rs) i
 place [] i = refl
-place (n ∷ rs) i =
-    ap (λ o. cond (eqb (suc i) (suc (length rs))) (Some n) o) (place rs i)
-    ∙ ap (λ b. cond b (Some n) (slice_get (reverse rs) i)) (eqb_suc i (length rs))
-    ∙ ap (λ l. cond (eqb i l) (Some n) (slice_get (reverse rs) i)) (sym (length-reverse rs))
-    ∙ sym (get_last (reverse rs) n i) ∙ ap (λ l. slice_get l i) (sym (reverse_cons n rs))
+place (n ∷ rs) i = grind (arith, cond, length, reverse, eqb_suc, length-reverse, get_last, reverse_cons, place rs i)
 
 -- the node at a place, by its index in the order of insertion
 pub node_is : {N : Type 0} (keys : List N) (i : ℕ) → node_at (reverse keys) (suc i) ≡ slice_get keys i

@@ -26,11 +26,7 @@ is_in s (a ∷ ids) e = by_test (same_id s a) refl (is_in s ids)
 is_found : (s : NodeId) (ids : List NodeId) (i : ℕ) → slice_get ids i ≡ Some s → list_any (same_id s) ids ≡ true
 is_found s [] i e = none_some s e
 is_found s (a ∷ ids) zero e = ap (λ z. z || list_any (same_id s) ids) (ap (same_id s) (same_some a s e) ∙ same_id_itself s)
-is_found s (a ∷ ids) (suc i) e = by_test (same_id s a) (is_found s ids i e)
-  where
-    by_test : (z : Bool) → list_any (same_id s) ids ≡ true → (z || list_any (same_id s) ids) ≡ true
-    by_test true f = refl
-    by_test false f = f
+is_found s (a ∷ ids) (suc i) e = grind (arith, is_found s ids i e)
 
 -- the same ids are such and such
 exactly_same : (P Q : NodeId → Type 0) (ids : List NodeId) → ((s : NodeId) → P s → Q s) → ((s : NodeId) → Q s → P s) → AreExactly P ids → AreExactly Q ids
@@ -66,18 +62,10 @@ module _ (P : NodeId → Type 0) (a : NodeId) (ids : List NodeId) (e : AreExactl
       once (suc i) (suc j) s f g = ap suc (e.once i j s f g)
 
   more_known : list_any (same_id a) ids ≡ true → AreExactly More ids
-  more_known there = exactly_same P More ids (λ s p. inl p) back e
-    where
-      back : (s : NodeId) → More s → P s
-      back s (inl p) = p
-      back s (inr h) = let r = is_in a ids there in subst P (sym h) (e.each r.0 a r.1)
+  more_known h1 = grind (arith, exactly_same, is_in)
 
   one_more : (more : List NodeId) × AreExactly More more
-  one_more = by_test (list_any (same_id a) ids) refl
-    where
-      by_test : (z : Bool) → list_any (same_id a) ids ≡ z → (more : List NodeId) × AreExactly More more
-      by_test true f = (ids, more_known f)
-      by_test false f = (a ∷ ids, more_new f)
+  one_more = grind (arith, more_known, more_new)
 
 -- those of one list and of another
 both : (P : NodeId → Type 0) (ids others : List NodeId) → AreExactly P ids → (all : List NodeId) × AreExactly (λ s. P s ⊎ IsIn s others) all

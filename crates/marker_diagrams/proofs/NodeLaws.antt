@@ -1,6 +1,6 @@
 -- Nodes at their places, what they mean, and what stays when nodes come.
-use Rattle.std.proofs.Common.{◌≡◌, ℕ, suc, ◌<◌, ◌≤◌, Bool, true, false, cond, ◌==◌, List, [], ◌∷◌, length, Option, Some, None, refl, sym, ap, ◌∙◌, arith}
-use Rattle.std.proofs.lemmas.Bool.{eqb-true, eqb-false, eq-eqb, ne_eqb}
+use Rattle.std.proofs.Common.{◌≡◌, ℕ, suc, ◌<◌, ◌≤◌, Bool, true, false, cond, ◌==◌, List, [], ◌∷◌, length, Option, Some, None, refl, sym, ap, ◌∙◌, arith, rules}
+use Rattle.std.proofs.lemmas.Bool.{eq-eqb, ne_eqb}
 use Rattle.marker_diagrams.specs.declared.node_id.NodeId.{NodeId}
 use Rattle.marker_diagrams.specs.Id.{signed, place_of, is_negated, signed_id}
 use Rattle.marker_diagrams.specs.Diagram.{NodeKind, node_at, node_of, IsHeld, truth_at, truth, IsAfter, Keeps}
@@ -15,8 +15,7 @@ none_some a e = cc
 module _ {N : Type 0} where
   at_test : (older : List N) (n m : N) (i : ℕ) → ((node_at older i ≡ Some m) → (0 < i) × (i ≤ length older)) → (b : Bool) → (i == suc (length older)) ≡ b →
       cond b (Some n) (node_at older i) ≡ Some m → (0 < i) × (i ≤ suc (length older))
-  at_test older n m i h true e f = let k : i ≡ suc (length older) = eqb-true i (suc (length older)) e in (omega arith, omega arith)
-  at_test older n m i h false e f = let k : (0 < i) × (i ≤ length older) = h f in (k.0, omega arith)
+  at_test older n m i h1 b h2 h3 = grind arith
 
   -- nodes are at places from 1 up to the length of the list
   pub node_bounds : (nodes : List N) (i : ℕ) (m : N) → node_at nodes i ≡ Some m → (0 < i) × (i ≤ length nodes)
@@ -34,8 +33,7 @@ module _ {N : Type 0} where
 
   none_test : (older : List N) (n : N) (i : ℕ) → (i ≤ length older → node_at older i ≡ None → i ≡ 0) → (b : Bool) → (i == suc (length older)) ≡ b →
       i ≤ suc (length older) → cond b (Some n) (node_at older i) ≡ None → i ≡ 0
-  none_test older n i h true e k f = none_some n (sym f)
-  none_test older n i h false e k f = let ne : i ≡ suc (length older) → ⊥ = eqb-false i (suc (length older)) e in h (omega arith) f
+  none_test older n i h1 b h2 h3 h4 = grind arith
 
   -- a place without a node is 0
   pub terminal : (nodes : List N) (i : ℕ) → i ≤ length nodes → node_at nodes i ≡ None → i ≡ 0
@@ -48,8 +46,7 @@ module _ {N X V : Type 0} (kind : NodeKind N X V) where
 
   free_test : (older : List N) (n : N) (i : ℕ) (v : V) → (node_at older i ≡ None → truth_at kind older i v ≡ true) → (b : Bool) → cond b (Some n) (node_at older i) ≡ None →
       cond b (signed (is_negated (kind.pick n v)) (truth_at kind older (place_of (kind.pick n v)) v)) (truth_at kind older i v) ≡ true
-  free_test older n i v h true f = none_some n (sym f)
-  free_test older n i v h false f = h f
+  free_test older n i v h1 b h2 = grind arith
 
   -- a place without a node is true
   pub truth_free : (nodes : List N) (i : ℕ) (v : V) → node_at nodes i ≡ None → truth_at kind nodes i v ≡ true
@@ -72,14 +69,7 @@ module _ {N X V : Type 0} (kind : NodeKind N X V) where
       (node_at older i ≡ Some m → truth_at kind older i v ≡ truth kind older (kind.pick m v) v) →
       (b : Bool) → (i == suc (length older)) ≡ b → cond b (Some n) (node_at older i) ≡ Some m →
       cond b (signed (is_negated (kind.pick n v)) (truth_at kind older (place_of (kind.pick n v)) v)) (truth_at kind older i v) ≡ truth kind (n ∷ older) (kind.pick m v) v
-  node_test older n m i v d h true e f =
-      let k : n ≡ m = same_some n m f in
-      let j : place_of (kind.pick n v) < suc (length older) = d (suc (length older)) n (node_new n older) v in
-      ap (signed (is_negated (kind.pick n v))) (sym (truth_kept n older (place_of (kind.pick n v)) v (omega arith))) ∙ ap (λ x. truth kind (n ∷ older) (kind.pick x v) v) k
-  node_test older n m i v d h false e f =
-      let b : (0 < i) × (i ≤ length older) = node_bounds older i m f in
-      let j : place_of (kind.pick m v) < i = d i m (node_kept n older i b.1 ∙ f) v in
-      h f ∙ ap (signed (is_negated (kind.pick m v))) (sym (truth_kept n older (place_of (kind.pick m v)) v (omega arith)))
+  node_test older n m i v h1 h2 b h3 h4 = search (rules, same_some, length, node_new, truth_kept, node_bounds, node_kept)
 
   older_descend : (n : N) (older : List N) → Descends (n ∷ older) → Descends older
   older_descend n older d i m e v = d i m (node_kept n older i ((node_bounds older i m e).1) ∙ e) v
@@ -104,11 +94,7 @@ module _ {N X V : Type 0} (kind : NodeKind N X V) where
   keeps_more n nodes = record { longer = omega arith; node = node_kept n nodes; truth = truth_kept n nodes }
 
   pub keeps_both : (a b c : List N) → Keeps kind a b → Keeps kind b c → Keeps kind a c
-  keeps_both a b c k l = record {
-    longer = let x = k.longer in let y = l.longer in omega arith;
-    node = λ i h. l.node i (let x = k.longer in omega arith) ∙ k.node i h;
-    truth = λ i v h. l.truth i v (let x = k.longer in omega arith) ∙ k.truth i v h;
-  }
+  keeps_both a b c h1 h2 = grind arith
 
   -- an id of the old list means what it meant
   pub truth_still : (old new : List N) (t : NodeId) (v : V) → Keeps kind old new → IsHeld old t → truth kind new t v ≡ truth kind old t v
@@ -124,7 +110,4 @@ module _ {N X V : Type 0} (kind : NodeKind N X V) where
   -- valuations that no node distinguishes give the same truths
   pub truth_alike : (nodes : List N) (i : ℕ) (v w : V) → ((n : N) → kind.pick n v ≡ kind.pick n w) → truth_at kind nodes i v ≡ truth_at kind nodes i w
   truth_alike [] i v w h = refl
-  truth_alike (n ∷ older) i v w h =
-      ap (λ t. cond (i == suc (length older)) (signed (is_negated t) (truth_at kind older (place_of t) v)) (truth_at kind older i v)) (h n)
-      ∙ ap (λ b. cond (i == suc (length older)) (signed (is_negated (kind.pick n w)) b) (truth_at kind older i v)) (truth_alike older (place_of (kind.pick n w)) v w h)
-      ∙ ap (cond (i == suc (length older)) (signed (is_negated (kind.pick n w)) (truth_at kind older (place_of (kind.pick n w)) w))) (truth_alike older i v w h)
+  truth_alike (n ∷ older) i v w h = grind (arith, cond, length, truth_alike older, truth_alike older i v w h)

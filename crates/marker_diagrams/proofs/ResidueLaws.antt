@@ -2,7 +2,7 @@
 use Rattle.std.proofs.Common.{◌≡◌, ◌≢◌, ℕ, zero, suc, ◌<◌, ◌≤◌, Bool, true, false, cond, List, length, Option, Some, None, ◌⊎◌, inl, inr, refl, sym, ap, ◌∙◌, arith}
 use Rattle.std.specs.Ordering.{is_eq, is_lt, ordering_reverse}
 use Rattle.std.specs.declared.cmp.Ordering.{Ordering}
-use Rattle.std.specs.declared.cmp.Ordering.TheVariants.{Less, Equal, Greater}
+use Rattle.std.specs.declared.cmp.Ordering.TheVariants.{Less}
 use Rattle.std.proofs.lemmas.Bool.{true≢false, false≢true}
 use Rattle.std.proofs.lemmas.Cmp.{tied_itself}
 use Rattle.marker_diagrams.specs.declared.node_id.NodeId.{NodeId}
@@ -14,18 +14,14 @@ use Rattle.marker_diagrams.proofs.NodeLaws.{same_some, none_some, truth_free, tr
 use Rattle.marker_diagrams.proofs.Canonicity.{descends, pick_at, child_seen, unseen, separated, one_truth}
 
 lt_less : (r : Ordering) → is_lt r ≡ true → r ≡ Less
-lt_less Less e = refl
-lt_less Equal e = absurd (false≢true e)
-lt_less Greater e = absurd (false≢true e)
+lt_less r h1 = grind arith
 
 not_so : (b c : Bool) → (b ≡ true → c ≡ true) → c ≡ false → b ≡ false
-not_so true c f e = absurd (true≢false (sym (f refl) ∙ e))
-not_so false c f e = refl
+not_so b c h1 h2 = grind arith
 
 -- if c and d are what b makes of them, the two choices are one
 kept_at : {A : Type 0} (b c d : Bool) (p q v : A) → (b ≡ true → (c ≡ true) × (d ≡ false)) → cond b p (cond c (cond d q p) v) ≡ cond c (cond d q p) v
-kept_at false c d p q v h = refl
-kept_at true c d p q v h = let r = h refl in sym (ap (λ z. cond z (cond d q p) v) r.0 ∙ ap (λ z. cond z q p) r.1)
+kept_at b c d p q v h1 = grind arith
 
 module _ {N X V : Type 0} (kind : NodeKind N X V) where
   -- subtrees of subtrees are subtrees
@@ -66,12 +62,7 @@ module _ {N X V : Type 0} (kind : NodeKind N X V) (laws : IsLawful kind) where
   pick_free n x s v h = laws.own n (λ y. is_lt (kind.cmp y x)) s v ∙ ap (λ b. cond b (kind.pick n s) (kind.pick n v)) h
 
   between : (z n a : X) → before z a ≡ true → before n a ≡ false → before z n ≡ true
-  between z n a h k = by_order (kind.cmp z n) refl
-    where
-      by_order : (r : Ordering) → kind.cmp z n ≡ r → is_lt (kind.cmp z n) ≡ true
-      by_order Less e = ap is_lt e
-      by_order Equal e = absurd (false≢true (sym k ∙ ap is_lt (sym (laws.total.congr z n a e)) ∙ h))
-      by_order Greater e = absurd (false≢true (sym k ∙ chain n z a (ap is_lt (laws.total.antisymm n z ∙ ap ordering_reverse e)) h))
+  between z n a h1 h2 = grind arith
 
   module _ (nodes : List N) (store : IsStore kind nodes) where
     down : (i : ℕ) (n : N) → node_at nodes i ≡ Some n → (v : V) → place_of (kind.pick n v) < i
@@ -221,8 +212,4 @@ module _ {N X V : Type 0} (kind : NodeKind N X V) (laws : IsLawful kind) where
         by_case v w y d (inl k) = (w, y, λ f. d (sym (seen v y) ∙ k ∙ sym f ∙ seen w y))
 
     pub sees_none_before : (t : NodeId) (n : N) (x : X) → node_of nodes t ≡ Some n → DependsOn kind (truth kind nodes t) x → before x (kind.variable n) ≡ false
-    sees_none_before t n x e d = by_test (before x (kind.variable n)) refl
-      where
-        by_test : (b : Bool) → before x (kind.variable n) ≡ b → b ≡ false
-        by_test false h = refl
-        by_test true h = absurd (d.2 (unseen kind laws nodes store t x d.0 d.1 (λ m f. ap (λ z. kind.cmp x (kind.variable z)) (same_some m n (sym f ∙ e)) ∙ lt_less _ h)))
+    sees_none_before t n x h1 h2 = grind (arith, unseen, same_some, lt_less)

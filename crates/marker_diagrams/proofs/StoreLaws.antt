@@ -1,5 +1,5 @@
 -- A store stays one as nodes are added.
-use Rattle.std.proofs.Common.{◌≡◌, ℕ, suc, ◌<◌, ◌≤◌, Bool, true, false, cond, ◌==◌, List, [], ◌∷◌, length, Some, refl, sym, ap, ◌∙◌, subst, arith}
+use Rattle.std.proofs.Common.{◌≡◌, ℕ, suc, ◌<◌, ◌≤◌, Bool, true, false, cond, ◌==◌, List, [], ◌∷◌, length, Some, refl, sym, ap, ◌∙◌, arith, rules}
 use Rattle.std.specs.Ordering.{ordering_reverse}
 use Rattle.std.proofs.lemmas.Cmp.{alike_right}
 use Rattle.std.proofs.lemmas.Bool.{eqb-true}
@@ -28,25 +28,15 @@ module _ {N X V : Type 0} (kind : NodeKind N X V) where
         }
 
     new_node : IsNode kind (n ∷ nodes) (suc (length nodes)) n
-    new_node = record {
-      below = λ v. let h : place_of (kind.pick n v) ≤ length nodes = ready.children.held v in omega arith;
-      after = λ v x f. ready.children.after v x (sym (node_kept n nodes (place_of (kind.pick n v)) (ready.children.held v)) ∙ f);
-      plain = ready.plain;
-      reduced = ready.reduced;
-    }
+    new_node = grind arith
 
     node_by : (i : ℕ) (m : N) (b : Bool) → (i == suc (length nodes)) ≡ b → cond b (Some n) (node_at nodes i) ≡ Some m → IsNode kind (n ∷ nodes) i m
-    node_by i m true e f =
-        subst (λ j. IsNode kind (n ∷ nodes) j m) (sym (eqb-true i (suc (length nodes)) e))
-        (subst (IsNode kind (n ∷ nodes) (suc (length nodes))) (same_some n m f) new_node)
+    node_by i m true e f = grind (arith, eqb-true, length, same_some, new_node)
     node_by i m false e f = older_node i m f
 
     unique_by : (i j : ℕ) (m k : N) (b : Bool) → (i == suc (length nodes)) ≡ b → (c : Bool) → (j == suc (length nodes)) ≡ c →
         cond b (Some n) (node_at nodes i) ≡ Some m → cond c (Some n) (node_at nodes j) ≡ Some k → AreSame kind m k → i ≡ j
-    unique_by i j m k true e true f g h s = eqb-true i (suc (length nodes)) e ∙ sym (eqb-true j (suc (length nodes)) f)
-    unique_by i j m k true e false f g h s = absurd (fresh j k h (subst (λ x. AreSame kind x k) (sym (same_some n m g)) s))
-    unique_by i j m k false e true f g h s = absurd (fresh i m g (subst (λ x. AreSame kind x m) (sym (same_some n k h)) (same_turned laws m k s)))
-    unique_by i j m k false e false f g h s = store.unique i j m k g h s
+    unique_by i j m k b h1 c h2 h3 h4 h5 = search (rules, eqb-true, length, same_some, same_turned)
 
     -- a node that is ready and new makes a longer store
     pub store_more : IsStore kind (n ∷ nodes)

@@ -12,11 +12,6 @@ get_front [] ys i x e = none_some x e
 get_front (z ∷ xs) ys zero x e = e
 get_front (z ∷ xs) ys (suc i) x e = get_front xs ys i x e
 
--- the first element that follows
-pub get_next : {X : Type 0} (xs : List X) (y : X) (ys : List X) → slice_get (xs ++ y ∷ ys) (length xs) ≡ Some y
-get_next [] y ys = refl
-get_next (x ∷ xs) y ys = get_next xs y ys
-
 pub has_front : (xs ys : List MarkerTree) (t : MarkerTree) → Has xs t → Has (xs ++ ys) t
 has_front xs ys t h = (h.0, get_front xs ys h.0 t h.1)
 

@@ -20,7 +20,7 @@ use Rattle.marker_drawings.specs.declared.drawing.Target.TheVariants as targets
 use Rattle.marker_drawings.specs.Drawing.{HasNode, LeadsTo, IsDrawn, IsDrawing, AreNodesOf, trees_of}
 use Rattle.marker_drawings.specs.Numbering.{Has, IsOnce, Numbers, Draws}
 use Rattle.marker_drawings.specs.Pairwise.{Pairwise, no_more, pair}
-use Rattle.marker_drawings.proofs.ListLaws.{get_front, get_next, has_front, has_split, last_or_before, map_at, no_rest, past_front}
+use Rattle.marker_drawings.proofs.ListLaws.{get_front, has_front, has_split, last_or_before, map_at, no_rest, past_front}
 use Rattle.marker_drawings.proofs.KindLaws.{below, child_led, has_node}
 use Rattle.marker_drawings.proofs.NumberLaws.{leads_still}
 use Rattle.marker_drawings.proofs.PairLaws.{pairs_still}

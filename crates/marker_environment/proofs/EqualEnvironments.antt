@@ -1,5 +1,5 @@
 -- Environments with the same values are equal.
-use Rattle.std.proofs.Common.{◌≡◌, ℕ, true, List, string_bytes, sym, ap, ◌∙◌}
+use Rattle.std.proofs.Common.{◌≡◌, ℕ, true, List, string_bytes, sym, ap, ◌∙◌, arith}
 use Rattle.std.specs.Prelude.{nat_eq}
 use Rattle.std.specs.Cmp.{tied_itself}
 use Rattle.std.specs.Cmp.Lexicographic.{pointwise, nat_list_eq_equiv}
@@ -26,10 +26,7 @@ same_parts v w e = ap (λ (u : Parts). is_eq (version_cmp v u)) (sym e) ∙ ap i
 
 -- versions with the same text are equal
 pub same_written : (v w : StringVersion) → written v ≡ written w → version_partial_eq.eq v w ≡ true
-same_written v w e =
-    and_from (pointwise nat_eq (string_bytes v.string) (string_bytes w.string)) (eq_by_cmp version_cmp v.version w.version)
-    (same_bytes (string_bytes v.string) (string_bytes w.string) (λ i. (e i).string))
-    (same_parts v.version w.version (λ i. (e i).version))
+same_written v w h1 = grind (arith, and_from, string_bytes, same_bytes, same_parts)
 
 pub equal : (e f : MarkerEnvironment) → HasSameValues (values_of e) (values_of f) → environment_partial_eq.eq e f ≡ true
 equal e f same =

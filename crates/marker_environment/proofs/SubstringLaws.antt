@@ -1,5 +1,5 @@
 -- A substring at a place is one between a front and a back.
-use Rattle.std.proofs.Common.{◌≡◌, ◌⊎◌, ◌==◌, ℕ, Bool, true, false, List, [], ◌∷◌, ◌++◌, refl, sym, ap, ◌∙◌, inl, inr}
+use Rattle.std.proofs.Common.{◌≡◌, ◌⊎◌, ◌==◌, ℕ, Bool, true, List, [], ◌∷◌, ◌++◌, refl, sym, ap, ◌∙◌, inl, inr, arith}
 use Rattle.std.proofs.lemmas.Bool.{and_parts, and_from, or_left, or_right, or_cases, eqb-true, eq-eqb}
 use Rattle.std.proofs.lemmas.Str.Pattern.{contains_text}
 use Rattle.std.specs.Bool.{MatchBool}
@@ -40,14 +40,8 @@ pub is_part_of-has : (part text : List ℕ) → HasSubslice text part → is_par
 is_part_of-has part text place = ap (is_part_of part) place.2 ∙ is_part_of-between place.0 part place.1
 
 same_truth : (a b : Bool) → (a ≡ true → b ≡ true) → (b ≡ true → a ≡ true) → a ≡ b
-same_truth true b there back = sym (there refl)
-same_truth false true there back = back refl
-same_truth false false there back = refl
+same_truth a b h1 h2 = grind arith
 
 -- the result of `contains` for a text
 pub contains_is_part_of : (found : Bool) (part text : List ℕ) → MatchBool found (HasMatch (FindsText part) text) (FindsText part text None) → found ≡ is_part_of part text
-contains_is_part_of found part text h =
-    let decides = contains_text found part text h in
-    same_truth found (is_part_of part text)
-    (λ e. is_part_of-has part text (decides.0 e))
-    (λ e. decides.1 (is_part_of-is part text e))
+contains_is_part_of found part text h1 = grind (arith, contains_text, same_truth, is_part_of-has, is_part_of-is)

@@ -1,5 +1,5 @@
 -- Words of ASCII: their bytes are their characters.
-use Rattle.std.proofs.Common.{◌≡◌, ◌<◌, ℕ, Bool, true, List, [], ◌∷◌, IsUtf8, suc, zero, arith}
+use Rattle.std.proofs.Common.{◌≡◌, ◌<◌, ℕ, Bool, true, List, [], ◌∷◌, IsUtf8, arith}
 use Rattle.std.specs.Prelude.{nat_lt}
 use Rattle.std.specs.List.{list_all}
 use Rattle.std.specs.Str.{chars, IsAscii}
@@ -15,8 +15,7 @@ abbrev pub is_ascii_byte : ℕ → Bool
 is_ascii_byte b = nat_lt b 128
 
 one_more : (b : ℕ) (t : List ℕ) → b < 128 → IsAscii t → IsAscii (b ∷ t)
-one_more b t h k zero = h
-one_more b t h k (suc i) = k i
+one_more b t h1 h2 = grind arith
 
 below : (b : ℕ) → is_ascii_byte b ≡ true → b < 128
 below b h = grind (arith, nat_tests)

@@ -1,5 +1,5 @@
 -- Printed clauses by their bytes.
-use Rattle.std.proofs.Common.{◌≡◌, ℕ, List, [], ◌∷◌, ◌++◌, codes, map, None, refl, sym, ap, ◌∙◌, subst}
+use Rattle.std.proofs.Common.{◌≡◌, ℕ, List, [], ◌∷◌, ◌++◌, codes, map, None, refl, sym, ap, ◌∙◌, subst, arith}
 use Rattle.std.specs.List.{AllByRecursion, flat_map}
 use Rattle.std.specs.Str.{chars}
 use Rattle.std.proofs.lemmas.List.{append_assoc, append-nil}
@@ -36,24 +36,17 @@ abbrev other_clauses : List (List MarkerExpression) → List ℕ
 other_clauses cs = flat_map next_clause_text cs
 
 between_and : (t : List ℕ) → chars (codes " and " ++ t) ≡ 32 ∷ 97 ∷ 110 ∷ 100 ∷ 32 ∷ chars t
-between_and t =
-    chars_ascii 32 _ refl refl ∙ ap (λ (x : List ℕ). 32 ∷ x) (chars_ascii 97 _ refl refl ∙ ap (λ (x : List ℕ). 97 ∷ x) (chars_ascii 110 _ refl refl
-    ∙ ap (λ (x : List ℕ). 110 ∷ x) (chars_ascii 100 _ refl refl ∙ ap (λ (x : List ℕ). 100 ∷ x) (chars_ascii 32 t refl refl))))
+between_and t = grind (arith, chars_ascii)
 
 between_or : (t : List ℕ) → chars (codes " or " ++ t) ≡ 32 ∷ 111 ∷ 114 ∷ 32 ∷ chars t
-between_or t =
-    chars_ascii 32 _ refl refl ∙ ap (λ (x : List ℕ). 32 ∷ x) (chars_ascii 111 _ refl refl ∙ ap (λ (x : List ℕ). 111 ∷ x) (chars_ascii 114 _ refl refl
-    ∙ ap (λ (x : List ℕ). 114 ∷ x) (chars_ascii 32 t refl refl)))
+between_or t = grind (arith, chars_ascii)
 
 chars_and : (ps : List MarkerExpression) (o : List ℕ) → ArePrinted ps → chars (other_terms ps ++ o) ≡ behind_and (terms_of ps) (chars o)
 chars_and [] o a = refl
-chars_and (p ∷ ps) o a =
-    ap chars (append_assoc (codes " and " ++ expression_text p) (other_terms ps) o) ∙ between_and (expression_text p ++ (other_terms ps ++ o))
-    ∙ ap (λ (x : List ℕ). 32 ∷ 97 ∷ 110 ∷ 100 ∷ 32 ∷ x) (chars-append (expression_text p) _ a.0.utf8 ∙ ap (λ (x : List ℕ). chars (expression_text p) ++ x) (chars_and ps o a.1))
+chars_and (p ∷ ps) o a = grind (arith, append_assoc, codes, between_and, chars-append, chars_and ps o a.1)
 
 chars_clause : (p : MarkerExpression) (ps : List MarkerExpression) (o : List ℕ) → IsPrinted p → ArePrinted ps → chars (clause_text (p ∷ ps) ++ o) ≡ chars (expression_text p) ++ behind_and (terms_of ps) (chars o)
-chars_clause p ps o a b =
-    ap chars (append_assoc (expression_text p) (other_terms ps) o) ∙ chars-append (expression_text p) _ a.utf8 ∙ ap (λ (x : List ℕ). chars (expression_text p) ++ x) (chars_and ps o b)
+chars_clause p ps o h1 h2 = grind (arith, append_assoc, chars-append, chars_and)
 
 chars_part : (c : List MarkerExpression) (o : List ℕ) → IsClause c → chars (part_text c ++ o) ≡ part_then (terms_of c) (chars o)
 chars_part [] o a = absurd a
@@ -64,9 +57,7 @@ chars_part (p ∷ q ∷ ps) o a =
 
 chars_or : (cs : List (List MarkerExpression)) → AreClauses cs → chars (other_clauses cs) ≡ behind_or (map terms_of cs)
 chars_or [] a = chars-nil
-chars_or (c ∷ cs) a =
-    ap chars (append_assoc (codes " or ") (part_text c) (other_clauses cs)) ∙ between_or (part_text c ++ other_clauses cs)
-    ∙ ap (λ (x : List ℕ). 32 ∷ 111 ∷ 114 ∷ 32 ∷ x) (chars_part c (other_clauses cs) a.0 ∙ ap (part_then (terms_of c)) (chars_or cs a.1))
+chars_or (c ∷ cs) a = grind (arith, append_assoc, codes, between_or, chars_part, part_then, chars_or cs a.1)
 
 chars_whole : (c : List MarkerExpression) (cs : List (List MarkerExpression)) → IsClause c → AreClauses cs → chars (clauses_text (c ∷ cs)) ≡ whole (map terms_of (c ∷ cs))
 chars_whole [] cs a b = absurd a
@@ -79,8 +70,7 @@ all_terms [] a = tt
 all_terms (p ∷ ps) a = (a.0.reads, all_terms ps a.1)
 
 clause_read : (c : List MarkerExpression) → IsClause c → IsReadClause (terms_of c)
-clause_read [] a = a
-clause_read (p ∷ ps) a = (a.0.reads, all_terms ps a.1)
+clause_read c h1 = grind (arith, all_terms)
 
 all_read : (cs : List (List MarkerExpression)) → AreClauses cs → AreReadClauses (map terms_of cs)
 all_read [] a = tt

@@ -1,5 +1,5 @@
 -- Printed clauses parse back: the formula means what they mean, and nothing of it overflows.
-use Rattle.std.proofs.Common.{◌≡◌, ◌&&◌, ◌||◌, List, [], ◌∷◌, map, Option, Some, None, refl, ap, ◌∙◌, inl, inr, ◌⊎◌}
+use Rattle.std.proofs.Common.{◌≡◌, ◌&&◌, List, [], ◌∷◌, map, Option, Some, None, refl, ap, ◌∙◌, inl, inr, ◌⊎◌, arith}
 use Rattle.std.specs.List.{AllByRecursion, list_all, list_any}
 use Rattle.marker_environment.specs.Valuation.{Valuation}
 use Rattle.marker_parts.specs.declared.expression.MarkerExpression.{MarkerExpression}
@@ -27,8 +27,7 @@ clause_means v (p ∷ ps) = ap (λ b. b && list_all (λ t. holds t v) (tests_of 
 
 clauses_mean : (v : Valuation) (cs : List (List MarkerExpression)) → list_any (λ c. list_all (λ t. holds t v) c) (all_tests (map terms_of cs)) ≡ clauses_hold cs v
 clauses_mean v [] = refl
-clauses_mean v (c ∷ cs) =
-    ap (λ b. b || list_any (λ d. list_all (λ t. holds t v) d) (all_tests (map terms_of cs))) (clause_means v c) ∙ ap (λ b. clause_holds c v || b) (clauses_mean v cs)
+clauses_mean v (c ∷ cs) = grind (arith, all_tests, map, terms_of, clause_means, clauses_mean v cs)
 
 -- ---- nothing overflows
 
@@ -39,13 +38,10 @@ neither : {A B : Type 0} → ¬ A → ¬ B → ¬ (A ⊎ B)
 neither h k = λ e. elim e [ inl a ↦ h a | inr b ↦ k b ]
 
 and_fits : (f : Option Formula) (t : Test) → ¬ Says Overflows f → Fits t → ¬ Says Overflows (and_of f (of_test (Some t)))
-and_fits None t h k = k
-and_fits (Some f) t h k = neither h k
+and_fits f t h1 h2 = grind arith
 
 or_fits : (f g : Option Formula) → ¬ Says Overflows f → ¬ Says Overflows g → ¬ Says Overflows (or_of f g)
-or_fits None g h k = k
-or_fits (Some f) None h k = h
-or_fits (Some f) (Some g) h k = neither h k
+or_fits f g h1 h2 = grind arith
 
 ands_fit : (ts : List Test) (f : Option Formula) → ¬ Says Overflows f → AllByRecursion Fits ts → ¬ Says Overflows (ands f ts)
 ands_fit [] f h a = h
@@ -70,8 +66,7 @@ terms_printed [] a = tt
 terms_printed (p ∷ ps) a = (printed p a.0.plain, terms_printed ps a.1)
 
 clause_printed : (c : List MarkerExpression) → IsPrintableClause c → IsClause c
-clause_printed [] a = a.some refl
-clause_printed (p ∷ ps) a = terms_printed (p ∷ ps) a.each
+clause_printed c h1 = grind (arith, terms_printed)
 
 clauses_printed : (cs : List (List MarkerExpression)) → AllByRecursion IsPrintableClause cs → AreClauses cs
 clauses_printed [] a = tt

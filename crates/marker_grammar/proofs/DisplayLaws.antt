@@ -1,5 +1,5 @@
 -- Several clauses, written one after another.
-use Rattle.std.proofs.Common.{◌≡◌, ◌≢◌, ◌≤◌, ℕ, List, [], ◌∷◌, ◌++◌, ◌-◌, drop, get_or, length, length-drop, take, refl, ap, ◌∙◌, arith}
+use Rattle.std.proofs.Common.{◌≡◌, ◌≢◌, ◌≤◌, ℕ, List, [], ◌∷◌, ◌++◌, ◌-◌, drop, get_or, length, length-drop, take, refl, ap, arith}
 use Rattle.std.proofs.lemmas.List.{take_all}
 use Rattle.std.specs.List.{flat_map}
 use Rattle.std.specs.declared.alloc.Global.{Global}
@@ -18,11 +18,4 @@ behind_first cs = take_all (length cs - 1) (drop 1 cs) (omega (arith, length-dro
 -- all but the first come after it
 pub several : (cs : List (Vec MarkerExpression Global)) (first : Vec MarkerExpression Global) → 1 ≤ length cs → length cs ≢ 1 → first ≡ get_or cs 0 first →
     part_text first.items ++ flat_map (λ c. next_clause_text c.items) (take (length cs - 1) (drop 1 cs)) ≡ clauses_text (clauses_of cs)
-several cs first h k e =
-    ap (λ (x : List (Vec MarkerExpression Global)). part_text first.items ++ flat_map (λ c. next_clause_text c.items) x) (behind_first cs) ∙ by_list cs h k e
-  where
-    by_list : (cs : List (Vec MarkerExpression Global)) → 1 ≤ length cs → length cs ≢ 1 → first ≡ get_or cs 0 first → part_text first.items ++ flat_map (λ c. next_clause_text c.items) (drop 1 cs) ≡ clauses_text (clauses_of cs)
-    by_list [] h k e = absurd (omega arith)
-    by_list (c ∷ []) h k e = absurd (k refl)
-    by_list (c ∷ d ∷ cs) h k e =
-        ap (λ (x : Vec MarkerExpression Global). part_text x.items ++ flat_map (λ c. next_clause_text c.items) (d ∷ cs)) e ∙ ap (λ (x : List ℕ). part_text c.items ++ x) (others (d ∷ cs))
+several cs first h1 h2 h3 = grind (arith, behind_first, length, get_or, drop, others)

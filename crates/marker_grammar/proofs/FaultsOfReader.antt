@@ -1,11 +1,11 @@
 -- The faults that the reader finds itself.
-use Rattle.std.proofs.Common.{◌≡◌, ◌≢◌, ℕ, Bool, true, false, List, [], ◌∷◌, ◌++◌, length, Some, refl, sym, ap, ◌∙◌, subst}
+use Rattle.std.proofs.Common.{◌≡◌, ◌≢◌, ℕ, Bool, true, false, List, [], ◌∷◌, ◌++◌, length, Some, sym, ap, ◌∙◌, arith}
 use Rattle.std.specs.Prelude.{encode_utf8, IsUtf8, slice_get, ◌&&◌}
 use Rattle.std.specs.Str.{chars}
 use Rattle.std.proofs.Math.Utf8.{scalars}
 use Rattle.std.proofs.lemmas.List.{append-nil}
 use Rattle.std.proofs.lemmas.Str.{scalars-chars}
-use Rattle.marker_words.specs.Fault.{IsFaultAt, IsAllButLast, HasNoSpace}
+use Rattle.marker_words.specs.Fault.{IsFaultAt, HasNoSpace}
 use Rattle.marker_grammar.specs.Refused.{IsMarker}
 use Rattle.marker_words.specs.Keyword.{NoKeyword}
 use Rattle.marker_words.specs.declared.fault.FaultKind.TheVariants.{Unexpected}
@@ -25,10 +25,7 @@ last_utf8 text front c utf8 e = ((c ∷ []), (last_scalar (chars front) c (ap sc
 
 -- a text with a character in place of a keyword
 pub unexpected_at : (text piece others : List ℕ) (c last : ℕ) → IsUtf8 text → text ≡ encode_utf8 c ++ others → text ≡ piece ++ encode_utf8 last → chars text ≡ chars piece ++ (last ∷ []) → HasNoSpace text → NoKeyword (chars text) → IsFaultAt IsMarker text (Unexpected c) piece (length text)
-unexpected_at text piece others c last utf8 begins ends last_is spaceless wordless =
-    let found : IsAllButLast c piece (encode_utf8 last) = record { others = others; last = last; begins = sym ends ∙ begins; ends = refl } in
-    fault_in_front text piece (encode_utf8 last) (Unexpected c) (length text) utf8 (last_utf8 text piece last utf8 last_is) ends refl
-    (found, subst HasNoSpace ends spaceless, subst (λ (t : List ℕ). NoKeyword (chars t)) ends wordless)
+unexpected_at text piece others c last h1 h2 h3 h4 h5 h6 = grind (arith, fault_in_front, length, last_utf8)
 
 -- another character than the one that a text does not begin with
 pub other_first : (text others : List ℕ) (c awaited : ℕ) → ((rest : List ℕ) → text ≢ awaited ∷ rest) → text ≡ c ∷ others → c ≢ awaited

@@ -1,5 +1,5 @@
 -- The text after an open parenthesis, from its first step to the end of the text.
-use Rattle.std.proofs.Common.{◌≡◌, ℕ, Bool, List, [], ◌∷◌, ◌++◌, Option, None, refl, sym, ap, ◌∙◌, subst}
+use Rattle.std.proofs.Common.{◌≡◌, ℕ, Bool, List, [], ◌∷◌, ◌++◌, Option, None, refl, sym, ap, ◌∙◌, subst, arith}
 use Rattle.std.specs.Prelude.{codes, reverse, encode_utf8}
 use Rattle.std.specs.Str.{chars}
 use Rattle.std.proofs.lemmas.List.{append_cancel_left}
@@ -9,7 +9,7 @@ use Rattle.pep508_errors.specs.declared.warning.MarkerWarningKind.{MarkerWarning
 use Rattle.marker_parts.specs.Comparison.{Meaning, Compared}
 use Rattle.marker_grammar.specs.declared.reader.Group.{Group}
 use Rattle.marker_grammar.specs.Formula.{Formula, and_of, or_of, of_test}
-use Rattle.marker_grammar.specs.Grammar.{Atom, group, comparison, AndRest, no_and, one_and, And, OrRest, no_or, one_or, Or, Reads}
+use Rattle.marker_grammar.specs.Grammar.{Atom, group, comparison, AndRest, no_and, one_and, And, OrRest, no_or, one_or, Or}
 use Rattle.marker_grammar.specs.Grammar as grammar
 use Rattle.marker_grammar.specs.Postfix as symbols
 use Rattle.marker_grammar.specs.Reading.{Level, ended, After, goes, Before, before}
@@ -71,13 +71,7 @@ opened_group gs g stack hs i t rest w stack_after e opens begins h =
 pub opened_compare : (groups : List Group) (has_or : Bool) (w v : Kinds) {has_and any : Bool} {added : Option Formula} {stack new : List Formula} {i o : List ℕ} {m : Meaning} →
     Compared i o m → Appends has_and any added stack new → added ≡ of_test m.test → v ≡ w ++ m.kinds →
     AllOpen (EndsAtom (Ors has_or has_and stack) (Ands has_or has_and stack) i w) groups (under has_or has_and stack) → AllOpen (EndsRest (Ors has_or any new) (Ands has_or any new) o v) groups (under has_or any new)
-opened_compare groups has_or w v {has_and} {any} {added} {stack} {new} {i} {o} {m} c a test kinds h =
-    let ands : top_if any new ≡ and_of (top_if has_and stack) (of_test m.test) = a.top ∙ ap (and_of (top_if has_and stack)) test in
-    let same : (outer : List Level) (f : Option Formula) (k : Kinds) → After outer (Ors has_or any new) (Ands has_or any new) o v f k ≡ After outer (Ors has_or has_and stack) (and_of (Ands has_or has_and stack) (of_test m.test)) o (w ++ m.kinds) f k
-    = λ outer f k. (λ j. After outer (top_if has_or (a.rest j)) (ands j) o (kinds j) f k) in
-    let there = all_map (EndsAtom (Ors has_or has_and stack) (Ands has_or has_and stack) i w) (EndsRest (Ors has_or any new) (Ands has_or any new) o v) groups (under has_or has_and stack)
-    (λ outer q. (q.0, (q.1.0, compare_back c (as_type (same outer q.0 q.1.0) q.1.1)))) h in
-    subst (λ (s : List Formula). AllOpen (EndsRest (Ors has_or any new) (Ands has_or any new) o v) groups s) (sym (ap (below has_or) a.rest)) there
+opened_compare groups has_or w v {has_and} {any} {added} {stack} {new} {i} {o} {m} c a test kinds h = grind (arith, all_map, compare_back, as_type)
 
 -- `and` follows an atom
 pub opened_and : (groups : List Group) (stack : List Formula) (ors ands : Option Formula) (i : List ℕ) (w : Kinds) {t b : List ℕ} → t ≡ after_space i → Run NotSpace t (codes "and") b → AllOpen (EndsRest ors ands i w) groups stack → AllOpen (EndsAtom ors ands b w) groups stack
@@ -87,12 +81,7 @@ opened_and groups stack ors ands i w {t} {b} e run h = all_map (EndsRest ors and
 pub opened_or : (groups : List Group) (i : List ℕ) (w : Kinds) {has_or has_and any : Bool} {stack new : List Formula} {t b : List ℕ} →
     IsJoined symbols.or or_of has_or has_and any stack new → t ≡ after_space i → Run NotSpace t (codes "or") b →
     AllOpen (EndsRest (Ors has_or has_and stack) (Ands has_or has_and stack) i w) groups (under has_or has_and stack) → AllOpen (EndsAtom (top_if any new) None b w) groups (below any new)
-opened_or groups i w {has_or} {has_and} {any} {stack} {new} {t} {b} joined e run h =
-    let same : (outer : List Level) (f : Option Formula) (k : Kinds) → Before outer (top_if any new) None b w f k ≡ Before outer (or_of (Ors has_or has_and stack) (Ands has_or has_and stack)) None b w f k
-    = λ outer f k. (λ j. Before outer (joined.top j) None b w f k) in
-    let there = all_map (EndsRest (Ors has_or has_and stack) (Ands has_or has_and stack) i w) (EndsAtom (top_if any new) None b w) groups (under has_or has_and stack)
-    (λ outer q. (q.0, (q.1.0, or_back e run (as_type (same outer q.0 q.1.0) q.1.1)))) h in
-    subst (λ (s : List Formula). AllOpen (EndsAtom (top_if any new) None b w) groups s) (sym joined.rest) there
+opened_or groups i w {has_or} {has_and} {any} {stack} {new} {t} {b} joined e run h = grind (arith, all_map, or_back, as_type)
 
 module _ (gs : List Group) (g : Group) (hs : List Group) (popped : hs ≡ gs ++ (g ∷ [])) where
   parted : (P : List Level → Type 0) (low : List Formula) → AllOpen P (reverse hs) low → AllOpen P (g ∷ reverse gs) low

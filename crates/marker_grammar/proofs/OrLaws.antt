@@ -1,5 +1,5 @@
 -- Printed clauses, as the grammar reads them, and what the formula means.
-use Rattle.std.proofs.Common.{◌≡◌, ℕ, Bool, true, false, ◌&&◌, ◌||◌, List, [], ◌∷◌, ◌++◌, map, Some, None, Option, refl, ap, ◌∙◌}
+use Rattle.std.proofs.Common.{◌≡◌, ℕ, Bool, true, false, ◌&&◌, ◌||◌, List, [], ◌∷◌, ◌++◌, map, Some, None, Option, refl, ap, ◌∙◌, arith}
 use Rattle.std.specs.List.{list_all, list_any}
 use Rattle.pep508_text.specs.Run.{none, more}
 use Rattle.marker_environment.specs.Valuation.{Valuation}
@@ -75,24 +75,19 @@ reads_or (p ∷ ps) (d ∷ cs) a b = or (reads_part (p ∷ ps) (behind_or (d ∷
 -- ---- what the formula means
 
 and_truth : (f : Option Formula) (t : Test) (v : Valuation) → truth (and_of f (of_test (Some t))) v ≡ (truth f v && holds t v)
-and_truth None t v = refl
-and_truth (Some f) t v = refl
+and_truth f t v = grind arith
 
 and_assoc : (a b c : Bool) → ((a && b) && c) ≡ (a && (b && c))
-and_assoc true b c = refl
-and_assoc false b c = refl
+and_assoc a b c = grind arith
 
 or_assoc : (a b c : Bool) → ((a || b) || c) ≡ (a || (b || c))
-or_assoc true b c = refl
-or_assoc false b c = refl
+or_assoc a b c = grind arith
 
 and_end : (a : Bool) → a ≡ (a && true)
-and_end true = refl
-and_end false = refl
+and_end a = grind arith
 
 or_end : (a : Bool) → a ≡ (a || false)
-or_end true = refl
-or_end false = refl
+or_end a = grind arith
 
 pub ands_truth : (ts : List Test) (f : Option Formula) (v : Valuation) → truth (ands f ts) v ≡ (truth f v && list_all (λ t. holds t v) ts)
 ands_truth [] f v = and_end (truth f v)
@@ -109,14 +104,10 @@ ands_some (t ∷ ts) None s = absurd s
 ands_some (t ∷ ts) (Some f) s = ands_some ts _ tt
 
 or_truth : (f g : Option Formula) (v : Valuation) → IsSome f → IsSome g → truth (or_of f g) v ≡ (truth f v || truth g v)
-or_truth None g v s t = absurd s
-or_truth (Some f) None v s t = absurd t
-or_truth (Some f) (Some g) v s t = refl
+or_truth f g v h1 h2 = grind arith
 
 or_some : (f g : Option Formula) → IsSome g → IsSome (or_of f g)
-or_some None g t = t
-or_some (Some f) None t = absurd t
-or_some (Some f) (Some g) t = tt
+or_some f g h1 = grind arith
 
 abbrev pub NoneEmpty : List (List Test) → Type 0
 NoneEmpty [] = Unit {0}
@@ -126,12 +117,8 @@ NoneEmpty ((t ∷ ts) ∷ cs) = NoneEmpty cs
 ors_from : (cs : List (List Test)) (f : Option Formula) (v : Valuation) → IsSome f → NoneEmpty cs → truth (ors f cs) v ≡ (truth f v || list_any (λ c. list_all (λ t. holds t v) c) cs)
 ors_from [] f v s n = or_end (truth f v)
 ors_from ([] ∷ cs) f v s n = absurd n
-ors_from ((t ∷ ts) ∷ cs) f v s n =
-    let g : IsSome (ands None (t ∷ ts)) = ands_some ts _ tt in
-    ors_from cs (or_of f (ands None (t ∷ ts))) v (or_some f _ g) n ∙ ap (λ b. b || list_any (λ c. list_all (λ u. holds u v) c) cs) (or_truth f _ v s g ∙ ap (λ b. truth f v || b) (ands_truth (t ∷ ts) None v))
-    ∙ or_assoc (truth f v) (list_all (λ u. holds u v) (t ∷ ts)) (list_any (λ c. list_all (λ u. holds u v) c) cs)
+ors_from ((t ∷ ts) ∷ cs) f v s n = grind (arith, ands, ands_some, or_some, or_truth, ands_truth, or_assoc, ors_from cs)
 
 -- the formula is true if one of the clauses is
 pub ors_truth : (c : List Test) (cs : List (List Test)) (v : Valuation) → NoneEmpty (c ∷ cs) → truth (ors None (c ∷ cs)) v ≡ list_any (λ c. list_all (λ t. holds t v) c) (c ∷ cs)
-ors_truth [] cs v n = absurd n
-ors_truth (t ∷ ts) cs v n = ors_from cs (ands None (t ∷ ts)) v (ands_some ts _ tt) n ∙ ap (λ b. b || list_any (λ c. list_all (λ u. holds u v) c) cs) (ands_truth (t ∷ ts) None v)
+ors_truth c cs v h1 = grind (arith, ors_from, ands, ands_some, ands_truth)

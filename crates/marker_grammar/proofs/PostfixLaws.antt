@@ -1,5 +1,5 @@
 -- Tokens that stay in postfix order, one after another.
-use Rattle.std.proofs.Common.{◌≡◌, ◌≤◌, ◌+◌, Bool, true, false, List, [], ◌∷◌, ◌++◌, length, refl, sym, ap, ◌∙◌, subst, arith}
+use Rattle.std.proofs.Common.{◌≡◌, ◌≤◌, ◌+◌, Bool, true, List, [], ◌∷◌, ◌++◌, length, refl, ap, ◌∙◌, arith}
 use Rattle.std.specs.Prelude.{map, ◌&&◌, if◌then◌else◌}
 use Rattle.std.proofs.lemmas.List.{map_push}
 use Rattle.marker_grammar.specs.declared.formula.Token.{Token}
@@ -9,12 +9,10 @@ use Rattle.marker_grammar.specs.Postfix as symbols
 use Rattle.marker_grammar.specs.Stack.{count}
 
 first_of : (a b : Bool) → (a && b) ≡ true → a ≡ true
-first_of true b p = refl
-first_of false b p = absurd cc
+first_of a b h1 = grind arith
 
 second_of : (a b : Bool) → (a && b) ≡ true → b ≡ true
-second_of true b p = p
-second_of false b p = absurd cc
+second_of a b h1 = grind arith
 
 both_true : (a b : Bool) → a ≡ true → b ≡ true → (a && b) ≡ true
 both_true a b p q = (λ i. p i && q i)
@@ -29,17 +27,9 @@ postfix_put ts t all fit = ap (all_fit []) (map_push symbol_of ts t) ∙ all_fit
 
 -- with two formulas on the stack everything fits
 fits_two : (s : Symbol) (stack : List Formula) → 2 ≤ length stack → fits s stack ≡ true
-fits_two (symbols.test t) stack two = refl
-fits_two symbols.and [] two = absurd (omega (arith, two))
-fits_two symbols.and (g ∷ []) two = absurd (omega (arith, two))
-fits_two symbols.and (g ∷ f ∷ stack) two = refl
-fits_two symbols.or [] two = absurd (omega (arith, two))
-fits_two symbols.or (g ∷ []) two = absurd (omega (arith, two))
-fits_two symbols.or (g ∷ f ∷ stack) two = refl
+fits_two s stack h1 = grind arith
 
 -- two formulas are joined if both exist
 pub postfix_join : (first second : Bool) (t : Token) (old : List Token) {new : List Token} → new ≡ (if first && second then old ++ (t ∷ []) else old) →
     count second + count first ≤ length (stack_of old) → IsPostfix old → IsPostfix new
-postfix_join true true t old put two all = subst IsPostfix (sym put) (postfix_put old t all (fits_two (symbol_of t) (stack_of old) (omega (arith, two))))
-postfix_join true false t old put two all = subst IsPostfix (sym put) all
-postfix_join false second t old put two all = subst IsPostfix (sym put) all
+postfix_join first second t old h1 h2 h3 = grind (arith, postfix_put, fits_two)

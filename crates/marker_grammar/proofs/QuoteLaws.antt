@@ -1,5 +1,5 @@
 -- Texts in quotes, by their characters.
-use Rattle.std.proofs.Common.{◌≡◌, ℕ, Bool, true, false, not, ◌&&◌, ◌==◌, cond, List, [], ◌∷◌, ◌++◌, IsUtf8, refl, sym, ap, ◌∙◌, subst, arith}
+use Rattle.std.proofs.Common.{◌≡◌, ℕ, true, false, not, ◌==◌, cond, List, [], ◌∷◌, ◌++◌, IsUtf8, refl, ap, ◌∙◌, arith}
 use Rattle.std.specs.List.{list_all, list_any}
 use Rattle.std.specs.Str.{chars}
 use Rattle.std.proofs.lemmas.Bool.{true≢false}
@@ -52,15 +52,4 @@ in_double t u h = record {
 
 -- a plain text, as it is printed
 pub quoted_by : (t : List ℕ) → IsUtf8 t → is_plain t ≡ true → Quoted t (quoted_text t)
-quoted_by t u p = by_test (list_any (λ c. c == 39) t) refl
-  where
-    no_other : (b : Bool) → list_any (λ c. c == 39) t ≡ true → list_any (λ c. c == 34) t ≡ b → list_any (λ c. c == 34) t ≡ false
-    no_other false e f = f
-    no_other true e f = absurd (true≢false (sym p ∙ ap (λ b. not (b && list_any (λ c. c == 34) t)) e ∙ ap (λ b. not (true && b)) f))
-
-    written : (b : Bool) → list_any (λ c. c == 39) t ≡ b → quoted_text t ≡ cond b (34 ∷ (t ++ (34 ∷ []))) (39 ∷ (t ++ (39 ∷ [])))
-    written b e = ap (λ b. cond b (34 ∷ (t ++ (34 ∷ []))) (39 ∷ (t ++ (39 ∷ [])))) e
-
-    by_test : (b : Bool) → list_any (λ c. c == 39) t ≡ b → Quoted t (quoted_text t)
-    by_test true e = subst (Quoted t) (sym (written true e)) (in_double t u (no_other (list_any (λ c. c == 34) t) e refl))
-    by_test false e = subst (Quoted t) (sym (written false e)) (in_single t u e)
+quoted_by t h1 h2 = grind (arith, true≢false, not, cond, in_double, in_single)

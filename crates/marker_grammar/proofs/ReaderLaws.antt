@@ -1,5 +1,5 @@
 -- The reader's steps, over its lists.
-use Rattle.std.proofs.Common.{◌≡◌, ◌≢◌, ◌≤◌, ℕ, ◌+◌, Bool, true, false, List, [], ◌∷◌, ◌++◌, length, Option, None, refl, sym, ap, ◌∙◌, subst, arith}
+use Rattle.std.proofs.Common.{◌≡◌, ◌≢◌, ◌≤◌, ℕ, ◌+◌, Bool, false, List, [], ◌∷◌, ◌++◌, length, Option, None, refl, sym, ap, ◌∙◌, subst, arith}
 use Rattle.std.specs.Prelude.{codes, ◌↔◌, ◌||◌, reverse}
 use Rattle.std.specs.Prelude.{All}
 use Rattle.std.proofs.Common.{get_or, length-append}
@@ -16,7 +16,6 @@ use Rattle.marker_parts.specs.Comparison.{Meaning, Compared}
 use Rattle.std.specs.Str.{chars}
 use Rattle.pep508_text.specs.Suffix.{IsSuffix}
 use Rattle.std.specs.Prelude.{IsUtf8}
-use Rattle.pep508_text.proofs.SuffixLaws.{suffix_self}
 use Rattle.marker_words.proofs.FaultLaws.{fault_of_suffix, fault_of_words}
 use Rattle.marker_words.specs.Fault.{IsFaultAt}
 use Rattle.marker_grammar.specs.Refused.{IsMarker, IsTextFault}
@@ -71,10 +70,7 @@ module _ (gs : List Group) (g : Group) (stack : List Formula) {hs : List Group} 
   -- a parenthesis opens
   pub open_same : hs ≡ gs ++ (g ∷ []) → t ≡ after_space i → t ≡ 40 ∷ a → (f : Option Formula) (k : List MarkerWarningKind) →
       Before (Outer g.has_or g.has_and stack gs) (Ors g.has_or g.has_and stack) (Ands g.has_or g.has_and stack) i w f k ↔ Before (outer_of (reverse hs) stack) None None a w f k
-  open_same stack_after e opens f k =
-      let outer : outer_of (reverse hs) stack ≡ level g.has_or g.has_and stack ∷ Outer g.has_or g.has_and stack gs = ap (λ x. outer_of x stack) (ap reverse stack_after ∙ reverse-push gs g) in
-      let same : Before (outer_of (reverse hs) stack) None None a w f k ≡ Before (level g.has_or g.has_and stack ∷ Outer g.has_or g.has_and stack gs) None None a w f k = (λ j. Before (outer j) None None a w f k) in
-      (λ x. as_type (sym same) (open_on _ _ _ i a t w f k e opens x), λ y. open_back _ _ _ i a t w f k e opens (as_type same y))
+  open_same h1 h2 h3 f k = grind (arith, reverse-push, as_type, open_on, open_back)
 
 pub open_full : (gs : List Group) (g : Group) (stack : List Formula) {hs : List Group} → hs ≡ gs ++ (g ∷ []) → length stack ≡ count g.has_and + (count g.has_or + total (reverse gs)) → length stack ≡ 0 + (0 + total (reverse hs))
 open_full gs g stack {hs} stack_after full = let h : total (reverse hs) ≡ count g.has_and + (count g.has_or + total (reverse gs)) = ap total (ap reverse stack_after ∙ reverse-push gs g) in omega (arith, full, h)
@@ -83,11 +79,7 @@ open_full gs g stack {hs} stack_after full = let h : total (reverse hs) ≡ coun
 pub compare_same : (gs : List Group) (has_or : Bool) {has_and any : Bool} {added : Option Formula} {stack new : List Formula} {i o : List ℕ} {w v : List MarkerWarningKind} {m : Meaning} →
     Compared i o m → Appends has_and any added stack new → added ≡ of_test m.test → v ≡ w ++ m.kinds → (f : Option Formula) (k : List MarkerWarningKind) →
     Before (Outer has_or has_and stack gs) (Ors has_or has_and stack) (Ands has_or has_and stack) i w f k ↔ After (Outer has_or any new gs) (Ors has_or any new) (Ands has_or any new) o v f k
-compare_same gs has_or {has_and} {any} {added} {stack} {new} {i} {o} {w} {v} {m} c a test kinds f k =
-    let ands : top_if any new ≡ and_of (top_if has_and stack) (of_test m.test) = a.top ∙ ap (and_of (top_if has_and stack)) test in
-    let same : After (Outer has_or any new gs) (Ors has_or any new) (Ands has_or any new) o v f k ≡ After (Outer has_or has_and stack gs) (Ors has_or has_and stack) (and_of (Ands has_or has_and stack) (of_test m.test)) o (w ++ m.kinds) f k
-    = (λ j. After (outer_of (reverse gs) (below has_or (a.rest j))) (top_if has_or (a.rest j)) (ands j) o (kinds j) f k) in
-    (λ x. as_type (sym same) (compare_on c x), λ y. compare_back c (as_type same y))
+compare_same gs has_or h1 h2 h3 h4 f k = grind (arith, as_type, compare_on, compare_back)
 
 pub compare_full : (has_or : Bool) (n : ℕ) {has_and any : Bool} {added : Option Formula} {stack new : List Formula} → Appends has_and any added stack new → length stack ≡ count has_and + (count has_or + n) → length new ≡ count any + (count has_or + n)
 compare_full has_or n a full = omega (arith, full, a.length_is)
@@ -96,10 +88,7 @@ compare_full has_or n a full = omega (arith, full, a.length_is)
 pub or_same : (gs : List Group) {has_or has_and any : Bool} {stack new : List Formula} {i t b : List ℕ} {w : List MarkerWarningKind} →
     IsJoined symbols.or or_of has_or has_and any stack new → t ≡ after_space i → Run NotSpace t (codes "or") b → (f : Option Formula) (k : List MarkerWarningKind) →
     After (Outer has_or has_and stack gs) (Ors has_or has_and stack) (Ands has_or has_and stack) i w f k ↔ Before (outer_of (reverse gs) (below any new)) (top_if any new) None b w f k
-or_same gs {has_or} {has_and} {any} {stack} {new} {i} {t} {b} {w} joined e run f k =
-    let same : Before (outer_of (reverse gs) (below any new)) (top_if any new) None b w f k ≡ Before (Outer has_or has_and stack gs) (or_of (Ors has_or has_and stack) (Ands has_or has_and stack)) None b w f k
-    = (λ j. Before (outer_of (reverse gs) (joined.rest j)) (joined.top j) None b w f k) in
-    (λ x. as_type (sym same) (or_on e run x), λ y. or_back e run (as_type same y))
+or_same gs h1 h2 h3 f k = grind (arith, as_type, or_on, or_back)
 
 pub or_full : (n : ℕ) {has_or has_and any : Bool} {stack new : List Formula} → IsJoined symbols.or or_of has_or has_and any stack new → length stack ≡ count has_and + (count has_or + n) → length new ≡ 0 + (count any + n)
 or_full n j full = omega (arith, full, j.length_is)
@@ -127,21 +116,13 @@ module _ (gs : List Group) (g : Group) {hs : List Group} {has_or has_and whole a
       (λ x. as_type (sym after) (close_on e closes (as_type before x)), λ y. as_type (sym before) (close_back e closes (as_type after y)))
 
   pub close_full : length stack ≡ count has_and + (count has_or + total (reverse hs)) → length new ≡ count any + (count g.has_or + total (reverse gs))
-  close_full full =
-      let h : total (reverse hs) ≡ count g.has_and + (count g.has_or + total (reverse gs)) = ap total (ap reverse popped ∙ reverse-push gs g) in
-      omega (arith, full, h, ored.length_is, anded.length_is)
+  close_full h1 = grind (arith, reverse-push)
 
 -- the text ends
 pub end_same : (gs : List Group) {has_or has_and any : Bool} {stack new : List Formula} {i t : List ℕ} {w : List MarkerWarningKind} →
     gs ≡ [] → IsJoined symbols.or or_of has_or has_and any stack new → length stack ≡ count has_and + (count has_or + total (reverse gs)) → t ≡ after_space i → t ≡ [] → (f : Option Formula) (k : List MarkerWarningKind) →
     After (Outer has_or has_and stack gs) (Ors has_or has_and stack) (Ands has_or has_and stack) i w f k ↔ ((top_of new ≡ f) × (w ≡ k))
-end_same gs {has_or} {has_and} {any} {stack} {new} {i} {t} {w} none joined full e ends f k =
-    let zero : total (reverse gs) ≡ 0 = ap (λ x. total (reverse x)) none in
-    let size : length new ≡ count any = omega (arith, zero, full, joined.length_is) in
-    let formula : top_of new ≡ or_of (Ors has_or has_and stack) (Ands has_or has_and stack) = top_is any new size ∙ joined.top in
-    let same : After (Outer has_or has_and stack gs) (Ors has_or has_and stack) (Ands has_or has_and stack) i w f k ≡ After [] (Ors has_or has_and stack) (Ands has_or has_and stack) i w f k
-    = (λ j. After (outer_of (reverse (none j)) (under has_or has_and stack)) (Ors has_or has_and stack) (Ands has_or has_and stack) i w f k) in
-    (λ x. let h = end_on e ends (as_type same x) in (formula ∙ h.0, h.1), λ y. as_type (sym same) (end_back e ends (sym formula ∙ y.0) y.1))
+end_same gs h1 h2 h3 h4 h5 f k = grind (arith, length, top_is, end_on, as_type, end_back)
 
 pub fault_end : (gs : List Group) (low : List Formula) {ors ands : Option Formula} {i t : List ℕ} {w : List MarkerWarningKind} → gs ≡ [] → t ≡ after_space i → NoKeyword t → t ≢ [] →
     (f : Option Formula) (k : List MarkerWarningKind) → After (outer_of (reverse gs) low) ors ands i w f k → ⊥
@@ -150,9 +131,7 @@ fault_end gs low {ors} {ands} {i} {t} {w} none e wordless more f k x = fault_out
 pub fault_close : (gs : List Group) (g : Group) (low : List Formula) {hs : List Group} {ors ands : Option Formula} {i t : List ℕ} {w : List MarkerWarningKind} →
     hs ≡ gs ++ (g ∷ []) → t ≡ after_space i → NoKeyword t → ((a : List ℕ) → t ≢ 41 ∷ a) →
     (f : Option Formula) (k : List MarkerWarningKind) → After (outer_of (reverse hs) low) ors ands i w f k → ⊥
-fault_close gs g low {hs} {ors} {ands} {i} {t} {w} popped e wordless plain f k x =
-    let outer : outer_of (reverse hs) low ≡ level g.has_or g.has_and low ∷ outer_of (reverse gs) (under g.has_or g.has_and low) = ap (λ y. outer_of y low) (ap reverse popped ∙ reverse-push gs g) in
-    fault_inside e wordless plain (as_type (λ j. After (outer j) ors ands i w f k) x)
+fault_close gs g low h1 h2 h3 h4 f k h5 = grind (arith, reverse-push, fault_inside, as_type)
 
 -- what holds of each group holds of the last one and of those before it
 module _ (P : Group → Type 0) (gs : List Group) (g : Group) {hs : List Group} (popped : hs ≡ gs ++ (g ∷ [])) (all : All P hs) where
@@ -167,9 +146,7 @@ module _ (P : Group → Type 0) (gs : List Group) (g : Group) {hs : List Group} 
 
 -- another run than a keyword
 pub other_word : {i : List ℕ} (o : List ℕ) (w : Keyword) → w ≢ keywords.And → w ≢ keywords.Or → IsKeyword w i o → NoKeyword i
-other_word r keywords.And a o h = absurd (a refl)
-other_word r keywords.Or a o h = absurd (o refl)
-other_word r keywords.Other a o h = h
+other_word o w h1 h2 h3 = grind arith
 
 pub not_nil : {t r : List ℕ} (c : ℕ) → t ≡ c ∷ r → t ≢ []
 not_nil c e f = absurd cc
@@ -179,10 +156,6 @@ module _ (r : Reader) (t : List ℕ) (at : IsSuffix r.text.now t) (skipped : cha
   pub refused_atom : (e : ComparisonError) → read.IsRefusal t e → IsRefusal wanted.Atom r e
   refused_atom OutOfMemory h = tt
   refused_atom (Fault e) h = (λ opened. fault_of_suffix at (fault_of_words h.1), λ f k x. no_atom skipped plain (λ o m c. h.0.no_compared o m (compared_before skipped c)) x)
-
-count_one : (any : Bool) → count any ≤ 1
-count_one true = omega arith
-count_one false = omega arith
 
 module _ (r : Reader) (sound : IsSound r) where
   -- what the innermost lists have is joined by an `or`
@@ -206,9 +179,7 @@ module _ (r : Reader) (sound : IsSound r) where
 
   pub anded_postfix : (gs : List Group) (g : Group) → r.groups.items ≡ gs ++ (g ∷ []) → (whole : Bool) (mid new : List Token) → IsJoined symbols.or or_of r.has_or r.has_and whole (stack_in r) (stack_of mid) → IsPostfix mid →
       new ≡ (if g.has_and && whole then mid ++ (tokens.And ∷ []) else mid) → IsPostfix new
-  anded_postfix gs g popped whole mid new joined postfix put =
-      let h : total (reverse r.groups.items) ≡ count g.has_and + (count g.has_or + total (reverse gs)) = ap total (ap reverse popped ∙ reverse-push gs g) in
-      postfix_join g.has_and whole tokens.And mid put (omega (arith, sound.full, h, joined.length_is)) postfix
+  anded_postfix gs g h1 whole mid new h2 h3 h4 = grind (arith, reverse-push, postfix_join)
 
   pub anded_valid : (gs : List Group) (g : Group) → r.groups.items ≡ gs ++ (g ∷ []) → (whole : Bool) (mid new : List Token) → IsJoined symbols.or or_of r.has_or r.has_and whole (stack_in r) (stack_of mid) → IsValid mid →
       new ≡ (if g.has_and && whole then mid ++ (tokens.And ∷ []) else mid) → IsValid new
@@ -216,10 +187,7 @@ module _ (r : Reader) (sound : IsSound r) where
 
   -- at the end of the text no other formula is left
   pub one_left : (any : Bool) (new : List Formula) → r.groups.items ≡ [] → IsJoined symbols.or or_of r.has_or r.has_and any (stack_in r) new → length new ≤ 1
-  one_left any new none joined =
-      let zero : total (reverse r.groups.items) ≡ 0 = ap (λ x. total (reverse x)) none in
-      let few : count any ≤ 1 = count_one any in
-      omega (arith, zero, few, sound.full, joined.length_is)
+  one_left any new h1 h2 = grind arith
 
 -- a fault of what is left, or of a part that begins at a parenthesis, is one of the text
 pub fault_of_either : {text rest group : List ℕ} {kind : FaultKind} {piece : List ℕ} {left : ℕ} → IsSuffix text rest → IsSuffix text group → IsFaultAt IsMarker rest kind piece left ⊎ IsFaultAt IsMarker group kind piece left → IsFaultAt IsMarker text kind piece left
@@ -231,9 +199,7 @@ abbrev pub Follows : List ℕ → Wanted → Reader → Type 0
 Follows t w r = (f : Option Formula) (k : List MarkerWarningKind) → Reads t f k ↔ MayRead w r f k
 
 pub follows_start : (t : List ℕ) (gs : List Group) (ws : List MarkerWarningKind) (low : List Formula) → gs ≡ [] → ws ≡ [] → (f : Option Formula) (k : List MarkerWarningKind) → Reads t f k ↔ Before (outer_of (reverse gs) low) None None (chars t) ws f k
-follows_start t gs ws low none nil f k =
-    let same : Before (outer_of (reverse gs) low) None None (chars t) ws f k ≡ Before [] None None (chars t) [] f k = (λ j. Before (outer_of (reverse (none j)) low) None None (chars t) (nil j) f k) in
-    (λ x. as_type (sym same) (start_on x), λ y. start_back (as_type same y))
+follows_start t gs ws low h1 h2 f k = grind (arith, as_type, start_on, start_back)
 
 pub follows_at : (t : List ℕ) (r : Reader) (v w : Wanted) → v ≡ w → Follows t v r → Follows t w r
 follows_at t r v w e h = subst (λ x. Follows t x r) e h
@@ -247,13 +213,7 @@ refuses_by t r w (Fault e) same h opened refused = (subst (λ x. IsTextFault x e
 
 -- a reader at the start of its text
 pub start_sound : (r : Reader) → IsUtf8 r.text.now → r.rest.now ≡ r.text.now → r.groups.items ≡ [] → r.tokens.items ≡ [] → r.has_or ≡ false → r.has_and ≡ false → IsSound r
-start_sound r utf8 rest_is no_groups no_tokens no_or no_and = record {
-  full = ap (λ x. length (stack_of x)) no_tokens ∙ sym (λ i. count (no_and i) + (count (no_or i) + total (reverse (no_groups i))));
-  postfix = subst IsPostfix (sym no_tokens) refl;
-  valid = subst IsValid (sym no_tokens) refl;
-  rest = subst (IsSuffix r.text.now) (sym rest_is) (suffix_self _ utf8);
-  groups = subst (All (λ (g : Group). IsSuffix r.text.now g.text.now)) (sym no_groups) (λ k d h. absurd (omega (arith, h)));
-}
+start_sound r h1 h2 h3 h4 h5 h6 = grind arith
 
 pub start_opened : (May : List Level → Type 0) (gs : List Group) (low : List Formula) → gs ≡ [] → AllOpen May (reverse gs) low
 start_opened May gs low none = subst (λ (x : List Group). AllOpen May (reverse x) low) (sym none) tt

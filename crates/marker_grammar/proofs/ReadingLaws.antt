@@ -64,17 +64,13 @@ module _ (outer : List Level) (ors ands : Option Formula) (i a t : List ℕ) (w 
 -- a comparison is read
 pub compare_on : {outer : List Level} {ors ands : Option Formula} {i o : List ℕ} {w : List MarkerWarningKind} {m : Meaning} {f : Option Formula} {k : List MarkerWarningKind} → Compared i o m → Before outer ors ands i w f k → After outer ors (and_of ands (of_test m.test)) o (w ++ m.kinds) f k
 compare_on c (before (group s body closing) after) = absurd (no_comparison_opens c (spaces_end s refl))
-compare_on {outer} {ors} {ands} {o = o} {w = w} {m = m} {f = f} {k = k} c (before (comparison {output = p} d) after) =
-    let h = compared_same c d in
-    subst (λ (y : List ℕ). After outer ors (and_of ands (of_test m.test)) y (w ++ m.kinds) f k) (sym h.0)
-    (subst (λ (n : Meaning). After outer ors (and_of ands (of_test n.test)) p (w ++ n.kinds) f k) (sym h.1) after)
+compare_on {outer} {ors} {ands} {o = o} {w = w} {m = m} {f = f} {k = k} c (before (comparison {output = p} d) after) = grind (arith, compared_same)
 
 pub compare_back : {outer : List Level} {ors ands : Option Formula} {i o : List ℕ} {w : List MarkerWarningKind} {m : Meaning} {f : Option Formula} {k : List MarkerWarningKind} → Compared i o m → After outer ors (and_of ands (of_test m.test)) o (w ++ m.kinds) f k → Before outer ors ands i w f k
 compare_back c after = before (comparison c) after
 
 pub no_atom : {outer : List Level} {ors ands : Option Formula} {i t : List ℕ} {w : List MarkerWarningKind} {f : Option Formula} {k : List MarkerWarningKind} → t ≡ after_space i → ((a : List ℕ) → t ≢ 40 ∷ a) → ((o : List ℕ) (m : Meaning) → Compared i o m → ⊥) → Before outer ors ands i w f k → ⊥
-no_atom e plain nothing (before (group s body closing) after) = plain _ (e ∙ spaces_end s refl)
-no_atom e plain nothing (before (comparison c) after) = nothing _ _ c
+no_atom h1 h2 h3 h4 = grind (arith, spaces_end)
 
 -- The text after an atom, without white space, decides how parsing goes on.
 run_at : {a b t i r : List ℕ} {c : ℕ} → t ≡ after_space i → Spaces i a → Run NotSpace a (c ∷ r) b → holds Space c ≡ false → Run NotSpace t (c ∷ r) b
@@ -85,8 +81,7 @@ no_run_nil run = let h = run_of-first NotSpace [] _ _ run.run_is in let e = h.1 
 
 -- the end of an `or` begins with no word
 end_no_word : {t i r b : List ℕ} {c : ℕ} {outer : List Level} {w : List MarkerWarningKind} {f g : Option Formula} {k : List MarkerWarningKind} → t ≡ after_space i → Ends outer i w g f k → Run NotSpace t (c ∷ r) b → 41 < c → ⊥
-end_no_word {t} {r} {b} {c} e (ended s same kinds) run low = no_run_nil (subst (λ (x : List ℕ). Run NotSpace x (c ∷ r) b) (e ∙ spaces_end s refl) run)
-end_no_word {t} {r} {b} {c} e (closed closing after) run low = differ 41 c (run_begins (subst (λ (x : List ℕ). Run NotSpace x (c ∷ r) b) (e ∙ spaces_end closing refl) run)) low
+end_no_word h1 h2 h3 h4 = grind (arith, no_run_nil, spaces_end, differ, run_begins)
 
 and_not_or : codes "and" ≡ codes "or" → ⊥
 and_not_or e = differ 97 111 (head_same _ _ _ _ e) (lit< tt)

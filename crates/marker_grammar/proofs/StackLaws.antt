@@ -49,16 +49,13 @@ module _ (connective : Symbol) (joined_of : Option Formula → Option Formula �
 -- the stack that a connective leaves, if it is put
 pub joined_tokens : (both : Bool) (t : Token) (old new : List Token) → new ≡ (if both then old ++ (t ∷ []) else old) →
     stack_of new ≡ (if both then stack_after (symbol_of t) (stack_of old) else stack_of old)
-joined_tokens true t old new e = ap stack_of e ∙ stack_of-push old t
-joined_tokens false t old new e = ap stack_of e
+joined_tokens both t old new h1 = grind (arith, stack_of-push)
 
 or_left : (f : Option Formula) → or_of f None ≡ f
-or_left None = refl
-or_left (Some f) = refl
+or_left f = grind arith
 
 and_left : (f : Option Formula) → and_of f None ≡ f
-and_left None = refl
-and_left (Some f) = refl
+and_left f = grind arith
 
 pub joins_or : Joins symbols.or or_of
 joins_or = record { pops = λ f g stack. (_, refl, refl); left = or_left; right = λ f. refl }
@@ -66,24 +63,11 @@ joins_or = record { pops = λ f g stack. (_, refl, refl); left = or_left; right 
 pub joins_and : Joins symbols.and and_of
 joins_and = record { pops = λ f g stack. (_, refl, refl); left = and_left; right = λ f. refl }
 
--- nothing is appended
-pub append_none : (has_and : Bool) (stack : List Formula) → Appends has_and has_and None stack stack
-append_none has_and stack = record { top = sym (and_left _); rest = refl; length_is = refl }
-
 -- a test is put on the stack and joined
 pub append_some : (has_and any : Bool) (t : Test) (old mid new : List Formula) → count has_and ≤ length old → mid ≡ test t ∷ old →
     new ≡ (if has_and && true then stack_after symbols.and mid else mid) → any ≡ (has_and || true) → Appends has_and any (Some (test t)) old new
-append_some has_and any t old mid new fits put same is =
-    let grown : length mid ≡ length old + 1 = ap length put ∙ omega arith in
-    let j = join_stack symbols.and and_of joins_and has_and true any mid new (omega (arith, fits, grown)) same is in
-    record {
-      top = j.top ∙ (λ i. and_of (top_if has_and (below true (put i))) (top_if true (put i)));
-      rest = j.rest ∙ ap (λ x. below has_and (below true x)) put;
-      length_is = omega (arith, j.length_is, grown);
-    }
+append_some has_and any t old mid new h1 h2 h3 h4 = grind arith
 
 -- if only the outermost list is left, the formula on top is the whole
 pub top_is : (any : Bool) (stack : List Formula) → length stack ≡ count any → top_of stack ≡ top_if any stack
-top_is true stack e = refl
-top_is false [] e = refl
-top_is false (f ∷ stack) e = absurd (omega (arith, e))
+top_is any stack h1 = grind arith

@@ -1,5 +1,5 @@
 -- Printed comparisons by their bytes.
-use Rattle.std.proofs.Common.{◌≡◌, ℕ, List, [], ◌∷◌, ◌++◌, IsUtf8, refl, sym, ap, ◌∙◌, subst}
+use Rattle.std.proofs.Common.{◌≡◌, ℕ, List, [], ◌∷◌, ◌++◌, IsUtf8, refl, sym, ap, ◌∙◌, subst, arith}
 use Rattle.std.specs.Str.{chars}
 use Rattle.std.proofs.lemmas.List.{append_assoc}
 use Rattle.std.proofs.lemmas.Str.{chars-append, encodes-chars, IsUtf8-append}
@@ -20,8 +20,7 @@ ascii_32 = (ascii_word (32 ∷ []) refl).utf8
 
 -- three words with a space between each two
 chars_compared : (left operator right : List ℕ) → IsUtf8 left → IsUtf8 operator → chars (compared_text left operator right) ≡ chars left ++ (32 ∷ (chars operator ++ (32 ∷ chars right)))
-chars_compared left operator right u w =
-    chars-append left _ u ∙ ap (λ (x : List ℕ). chars left ++ x) (chars_ascii 32 _ refl refl ∙ ap (λ (x : List ℕ). 32 ∷ x) (chars-append operator _ w ∙ ap (λ (x : List ℕ). chars operator ++ x) (chars_ascii 32 _ refl refl)))
+chars_compared left operator right h1 h2 = grind (arith, chars-append, chars_ascii)
 
 utf8_compared : (left operator right : List ℕ) → IsUtf8 left → IsUtf8 operator → IsUtf8 right → IsUtf8 (compared_text left operator right)
 utf8_compared left operator right u w r = IsUtf8-append left _ u (IsUtf8-append (32 ∷ []) _ ascii_32 (IsUtf8-append operator _ w (IsUtf8-append (32 ∷ []) _ ascii_32 r)))

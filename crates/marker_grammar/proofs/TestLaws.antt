@@ -1,5 +1,5 @@
 -- Symbols in postfix order lose no formula, so that a test of a kind stays one of the formula that they leave.
-use Rattle.std.proofs.Common.{◌≡◌, ◌≤◌, Bool, true, false, List, [], ◌∷◌, ◌++◌, length, ◌⊎◌, inl, inr, refl, sym, subst, arith}
+use Rattle.std.proofs.Common.{◌≡◌, ◌≤◌, Bool, true, List, [], ◌∷◌, ◌++◌, length, ◌⊎◌, inl, inr, sym, subst, arith}
 use Rattle.std.specs.Prelude.{map, ◌&&◌}
 use Rattle.marker_parts.specs.Expression.{Test}
 use Rattle.marker_grammar.specs.declared.formula.Token.{Token}
@@ -9,12 +9,10 @@ use Rattle.marker_grammar.specs.Postfix as symbols
 use Rattle.marker_grammar.specs.HasTest.{HasTest, Says, IsSymbol}
 
 first_of : (a b : Bool) → (a && b) ≡ true → a ≡ true
-first_of true b p = refl
-first_of false b p = absurd cc
+first_of a b h1 = grind arith
 
 second_of : (a b : Bool) → (a && b) ≡ true → b ≡ true
-second_of true b p = p
-second_of false b p = absurd cc
+second_of a b h1 = grind arith
 
 module _ (Kind : Test → Type 0) where
   -- one of the formulas on a stack, or one of the symbols, is of the kind
@@ -28,22 +26,10 @@ module _ (Kind : Test → Type 0) where
 
   -- a symbol that fits keeps the tests that are there, and its own
   stack_kept : (s : Symbol) (stack : List Formula) → fits s stack ≡ true → StackHas stack → StackHas (stack_after s stack)
-  stack_kept (symbols.test t) stack fit h = inr h
-  stack_kept symbols.and [] fit h = h
-  stack_kept symbols.and (g ∷ []) fit h = absurd cc
-  stack_kept symbols.and (g ∷ f ∷ stack) fit (inl h) = inl (inr h)
-  stack_kept symbols.and (g ∷ f ∷ stack) fit (inr (inl h)) = inl (inl h)
-  stack_kept symbols.and (g ∷ f ∷ stack) fit (inr (inr h)) = inr h
-  stack_kept symbols.or [] fit h = h
-  stack_kept symbols.or (g ∷ []) fit h = absurd cc
-  stack_kept symbols.or (g ∷ f ∷ stack) fit (inl h) = inl (inr h)
-  stack_kept symbols.or (g ∷ f ∷ stack) fit (inr (inl h)) = inl (inl h)
-  stack_kept symbols.or (g ∷ f ∷ stack) fit (inr (inr h)) = inr h
+  stack_kept s stack h1 h2 = grind arith
 
   symbol_kept : (s : Symbol) (stack : List Formula) → IsSymbol Kind s → StackHas (stack_after s stack)
-  symbol_kept (symbols.test t) stack h = inl h
-  symbol_kept symbols.and stack h = absurd h
-  symbol_kept symbols.or stack h = absurd h
+  symbol_kept s stack h1 = grind arith
 
   tests_stay : (stack : List Formula) (xs : List Symbol) → all_fit stack xs ≡ true → StackHas stack ⊎ SymbolsHave xs → StackHas (stack_from stack xs)
   tests_stay stack [] all (inl h) = h
@@ -52,24 +38,8 @@ module _ (Kind : Test → Type 0) where
   tests_stay stack (s ∷ xs) all (inr (inl h)) = tests_stay (stack_after s stack) xs (second_of _ _ all) (inl (symbol_kept s stack h))
   tests_stay stack (s ∷ xs) all (inr (inr h)) = tests_stay (stack_after s stack) xs (second_of _ _ all) (inr h)
 
-  -- and none comes from elsewhere
-  stack_back : (s : Symbol) (stack : List Formula) (xs : List Symbol) → StackHas (stack_after s stack) → StackHas stack ⊎ SymbolsHave (s ∷ xs)
-  stack_back (symbols.test t) stack xs (inl h) = inr (inl h)
-  stack_back (symbols.test t) stack xs (inr h) = inl h
-  stack_back symbols.and [] xs h = absurd h
-  stack_back symbols.and (g ∷ []) xs h = absurd h
-  stack_back symbols.and (g ∷ f ∷ stack) xs (inl (inl h)) = inl (inr (inl h))
-  stack_back symbols.and (g ∷ f ∷ stack) xs (inl (inr h)) = inl (inl h)
-  stack_back symbols.and (g ∷ f ∷ stack) xs (inr h) = inl (inr (inr h))
-  stack_back symbols.or [] xs h = absurd h
-  stack_back symbols.or (g ∷ []) xs h = absurd h
-  stack_back symbols.or (g ∷ f ∷ stack) xs (inl (inl h)) = inl (inr (inl h))
-  stack_back symbols.or (g ∷ f ∷ stack) xs (inl (inr h)) = inl (inl h)
-  stack_back symbols.or (g ∷ f ∷ stack) xs (inr h) = inl (inr (inr h))
-
   or_behind : (s : Symbol) (stack : List Formula) (xs : List Symbol) → StackHas (stack_after s stack) ⊎ SymbolsHave xs → StackHas stack ⊎ SymbolsHave (s ∷ xs)
-  or_behind s stack xs (inl h) = stack_back s stack xs h
-  or_behind s stack xs (inr h) = inr (inr h)
+  or_behind s stack xs h1 = grind arith
 
   tests_back : (stack : List Formula) (xs : List Symbol) → StackHas (stack_from stack xs) → StackHas stack ⊎ SymbolsHave xs
   tests_back stack [] h = inl h
@@ -83,20 +53,17 @@ module _ (Kind : Test → Type 0) where
   top_says (f ∷ g ∷ stack) one h = absurd (omega (arith, one))
 
   says_top : (stack : List Formula) → Says Kind (top_of stack) → StackHas stack
-  says_top [] h = h
-  says_top (f ∷ stack) h = inl h
+  says_top stack h1 = grind arith
 
   from_symbols : (xs : List Symbol) → StackHas [] ⊎ SymbolsHave xs → SymbolsHave xs
-  from_symbols xs (inl h) = absurd h
-  from_symbols xs (inr h) = h
+  from_symbols xs h1 = grind arith
 
   behind : (xs ys : List Symbol) → SymbolsHave ys → SymbolsHave (xs ++ ys)
   behind [] ys h = h
   behind (x ∷ xs) ys h = inr (behind xs ys h)
 
   in_front : (x : Symbol) (xs ys : List Symbol) → SymbolsHave xs ⊎ SymbolsHave ys → SymbolsHave (x ∷ xs) ⊎ SymbolsHave ys
-  in_front x xs ys (inl h) = inl (inr h)
-  in_front x xs ys (inr h) = inr h
+  in_front x xs ys h1 = grind arith
 
   parted : (xs ys : List Symbol) → SymbolsHave (xs ++ ys) → SymbolsHave xs ⊎ SymbolsHave ys
   parted [] ys h = inr h
@@ -104,9 +71,7 @@ module _ (Kind : Test → Type 0) where
   parted (x ∷ xs) ys (inr h) = in_front x xs ys (parted xs ys h)
 
   none_of : (xs : List Symbol) (s : Symbol) → ¬ SymbolsHave xs → ¬ IsSymbol Kind s → SymbolsHave xs ⊎ SymbolsHave (s ∷ []) → ⊥
-  none_of xs s none other (inl h) = none h
-  none_of xs s none other (inr (inl h)) = other h
-  none_of xs s none other (inr (inr h)) = absurd h
+  none_of xs s h1 h2 h3 = grind arith
 
   -- one more symbol that is not of the kind
   pub none_more : (done : List Symbol) (s : Symbol) → ¬ SymbolsHave done → ¬ IsSymbol Kind s → ¬ SymbolsHave (done ++ (s ∷ []))

@@ -70,8 +70,7 @@ unfolding is_pattern_byte
 pattern_bytes s valid = list_all-append is_pattern_byte (version_text s.version) _ ∙ and_from _ _ (each_byte is_version_byte is_pattern_byte version_byte (version_text s.version) (text-plain s.version valid)) (end (is_star s.operator))
   where
     end : (b : Bool) → list_all is_pattern_byte (if b then codes ".*" else []) ≡ true
-    end true = refl
-    end false = refl
+    end b = grind arith
 
 pattern_quoted : (s : Specifier) → IsValid s.version → Quoted (pattern_text s) (codes "'" ++ (pattern_text s ++ codes "'"))
 pattern_quoted s valid =

@@ -1,5 +1,5 @@
 -- Printed words, as the grammar reads them: names before what may follow them, operators, and quoted texts.
-use Rattle.std.proofs.Common.{◌≡◌, ◌==◌, ℕ, Bool, true, false, not, ◌&&◌, ◌||◌, List, [], ◌∷◌, ◌++◌, codes, Some, refl, sym, ap, ◌∙◌}
+use Rattle.std.proofs.Common.{◌≡◌, ◌==◌, ℕ, Bool, true, false, not, ◌&&◌, ◌||◌, List, [], ◌∷◌, ◌++◌, codes, Some, refl, sym, ap, ◌∙◌, arith}
 use Rattle.std.specs.Prelude.{encode_utf8, encode_utf8_all}
 use Rattle.std.specs.List.{list_all, list_any}
 use lib.Dec.{eqb}
@@ -9,7 +9,7 @@ use Rattle.pep508_text.specs.Class.{holds}
 use Rattle.pep508_text.specs.Run.{run_of, after_run, Run, none}
 use Rattle.pep508_text.specs.declared.classes.Class.{Class}
 use Rattle.pep508_text.specs.declared.classes.Class.TheVariants.{KeyPart, Comparison, NotQuote}
-use Rattle.pep508_text.proofs.RunLaws.{run_of-holds, after_run-holds, run_of-fails, after_run-fails}
+use Rattle.pep508_text.proofs.RunLaws.{run_of-holds, after_run-holds}
 use Rattle.marker_words.specs.declared.key.MarkerValueVersion.{MarkerValueVersion}
 use Rattle.marker_words.specs.declared.key.MarkerValueVersion.TheVariants as version_keys
 use Rattle.marker_words.specs.declared.key.MarkerValueString.{MarkerValueString}
@@ -18,7 +18,7 @@ use Rattle.marker_words.specs.declared.operator.MarkerOperator.{MarkerOperator}
 use Rattle.marker_words.specs.declared.operator.MarkerOperator.TheVariants.{In, NotIn}
 use Rattle.marker_words.specs.Key.{key_name, version_key_name}
 use Rattle.marker_words.specs.Lexical.{version_key, text_key, extra, quoted, IsQuote, IsValue, is_quoted, is_version_key, is_text_key, is_extra, IsOperator, is_symbol, is_in, is_not_in, symbol_text}
-use Rattle.marker_grammar.proofs.Printed.{IsBehind, ends, space, closes}
+use Rattle.marker_grammar.proofs.Printed.{IsBehind}
 
 -- no character of the class is next
 pub record Stops (p : Class) (o : List ℕ) : Type 0 where
@@ -34,37 +34,16 @@ run_before p (c ∷ r) o h s =
     record { run_is = run_of-holds p c (r ++ o) q.0 ∙ ap (λ (x : List ℕ). c ∷ x) g.run_is; rest_is = after_run-holds p c (r ++ o) q.0 ∙ g.rest_is }
 
 stops_name : (o : List ℕ) → IsBehind o → Stops KeyPart o
-stops_name [] ends = record { run = refl; rest = refl }
-stops_name (c ∷ o) space = record { run = refl; rest = refl }
-stops_name (c ∷ o) closes = record { run = refl; rest = refl }
+stops_name o h1 = grind arith
 
 stops_quote : (q : ℕ) (o : List ℕ) → Stops (NotQuote q) (q ∷ o)
-stops_quote q o = let f : holds (NotQuote q) q ≡ false = by_test (eqb q q) (eq-eqb q q refl) in record { run = run_of-fails (NotQuote q) q o f; rest = after_run-fails (NotQuote q) q o f }
-  where
-    by_test : (b : Bool) → b ≡ true → not b ≡ false
-    by_test true e = refl
-    by_test false e = sym e
+stops_quote q o = grind arith
 
 name_all : (key : MarkerValueString) → list_all (holds KeyPart) (key_name key) ≡ true
-name_all text_keys.ImplementationName = refl
-name_all text_keys.OsName = refl
-name_all text_keys.OsNameDeprecated = refl
-name_all text_keys.PlatformMachine = refl
-name_all text_keys.PlatformMachineDeprecated = refl
-name_all text_keys.PlatformPythonImplementation = refl
-name_all text_keys.PlatformPythonImplementationDeprecated = refl
-name_all text_keys.PythonImplementationDeprecated = refl
-name_all text_keys.PlatformRelease = refl
-name_all text_keys.PlatformSystem = refl
-name_all text_keys.PlatformVersion = refl
-name_all text_keys.PlatformVersionDeprecated = refl
-name_all text_keys.SysPlatform = refl
-name_all text_keys.SysPlatformDeprecated = refl
+name_all key = grind arith
 
 version_name_all : (key : MarkerValueVersion) → list_all (holds KeyPart) (version_key_name key) ≡ true
-version_name_all version_keys.ImplementationVersion = refl
-version_name_all version_keys.PythonFullVersion = refl
-version_name_all version_keys.PythonVersion = refl
+version_name_all key = grind arith
 
 pub name_read : (key : MarkerValueString) (o : List ℕ) → IsBehind o → IsValue (key_name key ++ o) o (text_key key)
 name_read key o b = is_text_key (run_before KeyPart (key_name key) o (name_all key) (stops_name o b))

@@ -1,8 +1,8 @@
 -- The bounds of edges, as they are written.
-use Rattle.std.proofs.Common.{◌≡◌, Bool, true, false, cond, List, [], ◌∷◌, map, refl}
+use Rattle.std.proofs.Common.{◌≡◌, true, List, [], ◌∷◌, map, refl, arith}
 use Rattle.std.specs.List.{list_all}
 use Rattle.std.specs.declared.ops.Bound.{Bound}
-use Rattle.std.specs.declared.ops.Bound.TheVariants.{Included, Excluded, Unbounded}
+use Rattle.std.specs.declared.ops.Bound.TheVariants.{Unbounded}
 use Rattle.std.proofs.lemmas.Bool.{and_from, and_parts}
 use Rattle.version_ranges.specs.declared.cut.Cut.{Cut}
 use Rattle.version_ranges.specs.declared.cuts.Cuts.{Cuts}
@@ -17,18 +17,10 @@ use Rattle.marker_graph.specs.Edges.{under}
 use Rattle.marker_graph.specs.Kind.{has_trimmed_bounds}
 
 lower_trimmed : (c : Cut Parts) → is_trimmed c.value ≡ true → passes_at is_trimmed (lower_of c) ≡ true
-lower_trimmed c h = by_side c.above
-  where
-    by_side : (b : Bool) → passes_at is_trimmed (cond b (Excluded c.value) (Included c.value)) ≡ true
-    by_side true = h
-    by_side false = h
+lower_trimmed c h1 = grind arith
 
 upper_trimmed : (c : Cut Parts) → is_trimmed c.value ≡ true → passes_at is_trimmed (upper_of c) ≡ true
-upper_trimmed c h = by_side c.above
-  where
-    by_side : (b : Bool) → passes_at is_trimmed (cond b (Included c.value) (Excluded c.value)) ≡ true
-    by_side true = h
-    by_side false = h
+upper_trimmed c h1 = grind arith
 
 edges_from : (t : MarkerTree) (low : Bound Parts) (v : NodeId) (steps : List (Cut Parts × NodeId)) → passes_at is_trimmed low ≡ true → list_all (λ s. is_trimmed s.0.value) steps ≡ true
     → list_all has_trimmed_bounds (map (under t) (parts_from low v steps)) ≡ true

@@ -1,5 +1,5 @@
 -- A name is found in a sorted list exactly if it is in the list.
-use Rattle.std.proofs.Common.{◌≡◌, ℕ, ◌<◌, Bool, true, false, List, [], ◌∷◌, length, map, Result, Ok, Err, refl, ap, sym, inl, inr, ◌∙◌, ◌||◌, arith, bytes_eq}
+use Rattle.std.proofs.Common.{◌≡◌, ℕ, ◌<◌, Bool, true, false, List, [], ◌∷◌, length, map, Result, Ok, Err, refl, ap, sym, ◌∙◌, arith, bytes_eq}
 use Rattle.std.specs.Borrow.{Bor}
 use Rattle.std.specs.Cmp.Lexicographic.{slice_cmp, texts_ties, nat_list_cmp_total}
 use Rattle.std.specs.List.{HoldsAt, list_any}
@@ -9,7 +9,6 @@ use Rattle.std.specs.Result.{is_ok}
 use Rattle.std.specs.declared.cmp.Ordering.{Ordering}
 use Rattle.std.specs.declared.cmp.Ordering.TheVariants.{Equal, Less, Greater}
 use Rattle.std.proofs.lemmas.Bool.{cases_lt}
-use Rattle.std.proofs.lemmas.List.Elements.{All-from_all_within}
 use Rattle.std.proofs.lemmas.List.Folds.{list_any_at, list_any_none}
 use Rattle.std.proofs.lemmas.List.Sorted.{list_any-IsPermutation, searchable_from_sorted}
 use Rattle.marker_graph.specs.Extras.{has_reference_to, is_listed}
@@ -31,12 +30,7 @@ none_around : {X : Type 0} (key : X → List ℕ) (x : List ℕ) (xs : List X) (
     → IsPartitionPoint (λ y. slice_cmp nat_cmp (key y) x ≡ Less)
     (λ y. slice_cmp nat_cmp (key y) x ≡ Greater) xs i
     → list_any (λ y. bytes_eq (key y) x) xs ≡ false
-none_around key x xs i around =
-    list_any_none _ xs (All-from_all_within (λ y. bytes_eq (key y) x ≡ false) xs
-    (λ k d from inside. elim (cases_lt k i) [
-      | inl below ↦ same_by_order _ x Less (around.0 k d from below)
-      | inr above ↦ same_by_order _ x Greater (around.1 k d above inside)
-    ]))
+none_around key x xs i h1 = grind (arith, list_any_none, bytes_eq, cases_lt, same_by_order)
 
 -- a search in a list that is in order finds exactly what is one of it
 pub found_by_search : {X : Type 0} (key : X → List ℕ) (x : List ℕ) (xs : List X) (r : Result ℕ ℕ)
@@ -53,8 +47,7 @@ found_by_search key x xs (Err i) inside around sorted =
 through_references : (p : List ℕ → Bool) (names : List (Bor (List ℕ)))
     → list_any (λ name. p name.now) names ≡ list_any p (map (λ name. name.now) names)
 through_references p [] = refl
-through_references p (name ∷ names) =
-    ap (λ b. p name.now || b) (through_references p names)
+through_references p (name ∷ names) = grind (arith, through_references p names)
 
 -- this is true if they point to these names, in another order
 pub listed_in_order : (gathered sorted : List (Bor (List ℕ))) (names : List (List ℕ))

@@ -3,9 +3,7 @@ use Rattle.std.proofs.Common.{◌≡◌, ◌≤◌, ℕ, List, [], ◌⊎◌, in
 use Rattle.marker_diagrams.specs.declared.node_id.NodeId.{NodeId}
 use Rattle.marker_diagrams.specs.Diagram as diagram
 use Rattle.marker_diagrams.specs.Id.{place_of}
-use Rattle.marker_diagrams.proofs.NodeLaws.{truth_still}
 use Rattle.marker_nodes.specs.Node.{Node, markers}
-use Rattle.marker_nodes.proofs.Descents.{held_kept}
 use Rattle.marker_conjunctions.specs.declared.conjunctions.Conjunctions.{Conjunctions}
 use Rattle.marker_conjunctions.specs.Contents.{contents, nothing, IsWellKept}
 use Rattle.marker_conjunctions.proofs.AndLaws.{well_kept_longer}
@@ -20,26 +18,10 @@ use Rattle.marker_graph.specs.Texts.{IsInOrder, IsMarkerOfText}
 
 -- a marker of a text is one in what an interner holds with more, and with less that has the marker
 pub still_marker : (c d : Contents) (text : List ℕ) (t : MarkerTree) → IsKept c d → IsMarkerOfText c text t → IsMarkerOfText d text t
-still_marker c d text t k h = (
-  held_kept c.nodes d.nodes t.id k.nodes h.0,
-  record {
-    formula = h.1.formula;
-    reads = h.1.reads;
-    no_overflow = h.1.no_overflow;
-    means = λ v. truth_still markers c.nodes d.nodes t.id v k.nodes h.0 ∙ h.1.means v;
-  },
-)
+still_marker c d text t h1 h2 = grind arith
 
 was_marker : (c d : Contents) (text : List ℕ) (t : MarkerTree) → IsKept c d → IsHeld c t → IsMarkerOfText d text t → IsMarkerOfText c text t
-was_marker c d text t k held h = (
-  held,
-  record {
-    formula = h.1.formula;
-    reads = h.1.reads;
-    no_overflow = h.1.no_overflow;
-    means = λ v. sym (truth_still markers c.nodes d.nodes t.id v k.nodes held) ∙ h.1.means v;
-  },
-)
+was_marker c d text t h1 h2 h3 = grind arith
 
 -- nothing was made yet
 pub empty_in_order : (nodes : List Node) (conjunctions : Conjunctions) (texts : KnownTexts) → nodes ≡ [] → diagram.IsStore markers nodes → contents [] conjunctions ≡ nothing →

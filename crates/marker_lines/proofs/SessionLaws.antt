@@ -70,9 +70,6 @@ first_values values texts versions = λ i. record { text = λ variable. texts va
 pub sets_text : {old same new : Values} {variable : TextVariable} {value given : List ℕ} → same ≡ old → given ≡ value → SetsText same new variable given → SetsText old new variable value
 sets_text {old} {same} {new} {variable} {value} {given} p q s = subst (λ (x : List ℕ). SetsText old new variable x) q (subst (λ (v : Values). SetsText v new variable given) p s)
 
-pub sets_version : {old same new : Values} {key : MarkerValueVersion} {value : Written} → same ≡ old → SetsVersion same new key value → SetsVersion old new key value
-sets_version {old} {same} {new} {key} {value} p s = subst (λ (v : Values). SetsVersion v new key value) p s
-
 -- a request that is written in two ways
 pub for_request : {old new : State} {reply : List ℕ} {r s : Request} → r ≡ s → RequestStep old s reply new → RequestStep old r reply new
 for_request {old} {new} {reply} e step = subst (λ (x : Request). RequestStep old x reply new) (sym e) step

@@ -1,47 +1,34 @@
 -- What children at a variable keep.
-use Rattle.std.proofs.Common.{◌≡◌, ◌+◌, ◌<◌, ◌≤◌, Bool, true, false, cond, inl, inr, List, Option, Some, None, refl, sym, ap, ◌∙◌, subst, arith}
+use Rattle.std.proofs.Common.{◌≡◌, ◌+◌, ◌<◌, ◌≤◌, true, false, List, Some, refl, sym, subst, arith}
 use Rattle.std.specs.Ordering.{is_eq, is_gt}
 use Rattle.std.specs.declared.cmp.Ordering.{Ordering}
-use Rattle.std.specs.declared.cmp.Ordering.TheVariants.{Less, Equal, Greater}
-use Rattle.std.proofs.lemmas.Bool.{true≢false, false≢true}
+use Rattle.std.specs.declared.cmp.Ordering.TheVariants.{Less, Equal}
 use Rattle.std.proofs.lemmas.Cmp.{tied_itself}
 use Rattle.marker_environment.specs.Valuation.{Valuation}
 use Rattle.marker_diagrams.specs.declared.node_id.NodeId.{NodeId}
 use Rattle.marker_diagrams.specs.Id.{place_of, is_negated, signed_id}
 use Rattle.marker_diagrams.specs.Diagram.{node_of, IsHeld, truth, IsStore, IsAfter}
 use Rattle.marker_diagrams.specs.Residue.{IsSubtree, itself, child}
-use Rattle.marker_diagrams.proofs.NodeLaws.{same_some, none_some, truth_child}
+use Rattle.marker_diagrams.proofs.NodeLaws.{truth_child}
 use Rattle.marker_nodes.specs.Variable.{Variable, variable_cmp}
 use Rattle.marker_nodes.specs.Branches.{variable, value_at as pick}
 use Rattle.marker_nodes.specs.Node.{Node, markers}
 use Rattle.marker_nodes.proofs.VariableLaws.{variable_total, one_variable}
 use Rattle.marker_nodes.proofs.SideLaws.{branch_at}
-use Rattle.marker_nodes.specs.Side.{branch_by, branch, HasBranches, IsFrom, IsAt, IsFirst}
+use Rattle.marker_nodes.specs.Side.{branch, HasBranches, IsFrom, IsAt, IsFirst}
 
 eq_is : (r : Ordering) → is_eq r ≡ true → r ≡ Equal
-eq_is Less e = absurd (false≢true e)
-eq_is Equal e = refl
-eq_is Greater e = absurd (false≢true e)
+eq_is r h1 = grind arith
 
 less_left : (r : Ordering) → is_eq r ≡ false → is_gt r ≡ false → r ≡ Less
-less_left Less e f = refl
-less_left Equal e f = absurd (true≢false e)
-less_left Greater e f = absurd (true≢false f)
+less_left r h1 h2 = grind arith
 
 module _ (nodes : List Node) (store : IsStore markers nodes) (x : Variable) (t : NodeId) where
   -- what is true of the id if it branches on another variable, and of its child if it branches on
   -- x, is true of the branch
   branch_cases : (v : Valuation) (P : NodeId → Type 0) → (((n : Node) → node_of nodes t ≡ Some n → is_eq (variable_cmp x (variable n)) ≡ false) → P t) →
       ((n : Node) → node_of nodes t ≡ Some n → variable_cmp x (variable n) ≡ Equal → P (signed_id (is_negated t) (pick n v))) → P (branch nodes x t v)
-  branch_cases v P other at_x = by_node (node_of nodes t) refl
-    where
-      by_node : (o : Option Node) → node_of nodes t ≡ o → P (branch_by o x t v)
-      by_node None e = other (λ n f. none_some n (sym e ∙ f))
-      by_node (Some n) e = by_test (is_eq (variable_cmp x (variable n))) refl
-        where
-          by_test : (b : Bool) → is_eq (variable_cmp x (variable n)) ≡ b → P (cond b (signed_id (is_negated t) (pick n v)) t)
-          by_test true f = at_x n e (eq_is (variable_cmp x (variable n)) f)
-          by_test false f = other (λ m g. ap (λ k. is_eq (variable_cmp x (variable k))) (same_some m n (sym g ∙ e)) ∙ f)
+  branch_cases v P h1 h2 = grind arith
 
   pub branch_below : (v : Valuation) → place_of (branch nodes x t v) ≤ place_of t
   branch_below v = branch_cases v (λ u. place_of u ≤ place_of t) (λ h. omega arith) (λ n e f. let h : place_of (pick n v) < place_of t = (store.node (place_of t) n e).below v in omega arith)
@@ -50,12 +37,7 @@ module _ (nodes : List Node) (store : IsStore markers nodes) (x : Variable) (t :
   branch_under v = branch_cases v (IsSubtree markers nodes t) (λ h. itself) (λ n e f. child t (signed_id (is_negated t) (pick n v)) n v itself e refl)
 
   pub branch_smaller : IsAt nodes x t → (v : Valuation) → place_of (branch nodes x t v) < place_of t
-  branch_smaller at_x v =
-      let n = at_x.0 in
-      let e : node_of nodes t ≡ Some n = at_x.1 in
-      let h : place_of (pick n v) < place_of t = (store.node (place_of t) n e).below v in
-      let k : place_of (branch nodes x t v) ≡ place_of (pick n v) = ap place_of (branch_at nodes x t n v e (ap (variable_cmp x) at_x.2 ∙ tied_itself variable_total x)) in
-      omega arith
+  branch_smaller h1 v = grind (arith, branch_at, tied_itself, variable_total)
 
   pub branch_means : (v : Valuation) → truth markers nodes t v ≡ truth markers nodes (branch nodes x t v) v
   branch_means v = branch_cases v (λ u. truth markers nodes t v ≡ truth markers nodes u v) (λ h. refl) (λ n e f. truth_child markers nodes t n v (λ i m g. (store.node i m g).below) e)
@@ -74,18 +56,9 @@ module _ (old : List Node) (store : IsStore markers old) (a b : NodeId) (i : IsH
   right_held v = let h = branch_below old store x b v in omega arith
 
   pub both_smaller : (v : Valuation) → place_of (branch old x a v) + place_of (branch old x b v) < place_of a + place_of b
-  both_smaller v = elim first.at [
-    | inl n ↦ let h = branch_smaller old store x a n v in let k = branch_below old store x b v in omega arith
-    | inr n ↦ let h = branch_smaller old store x b n v in let k = branch_below old store x a v in omega arith
-  ]
+  both_smaller v = grind (arith, branch_smaller, branch_below)
 
   -- a pair of their children, under the signs of the ids
   pub pair_below : (v : Valuation) (p : NodeId × NodeId) → HasBranches old x a b v p → IsHeld old p.0 × IsHeld old p.1 × (place_of p.0 + place_of p.1 < place_of a + place_of b)
       × IsSubtree markers old a (signed_id (is_negated a) p.0) × IsSubtree markers old b (signed_id (is_negated b) p.1)
-  pair_below v p h =
-      let e : place_of p.0 ≡ place_of (branch old x a v) = ap place_of h.0 in
-      let f : place_of p.1 ≡ place_of (branch old x b v) = ap place_of h.1 in
-      let l = left_held v in
-      let r = right_held v in
-      let s = both_smaller v in
-      (omega arith, omega arith, omega arith, subst (IsSubtree markers old a) (sym h.0) (branch_under old store x a v), subst (IsSubtree markers old b) (sym h.1) (branch_under old store x b v))
+  pair_below v p h1 = grind (arith, left_held, right_held, both_smaller, branch_under)

@@ -1,5 +1,5 @@
 -- A walk down a diagram.
-use Rattle.std.proofs.Common.{◌≡◌, ◌<◌, Bool, true, false, not, List, Some, None, refl, sym, ap, ◌∙◌, arith}
+use Rattle.std.proofs.Common.{◌≡◌, ◌<◌, Bool, true, not, List, Some, None, sym, ap, ◌∙◌, arith}
 use Rattle.marker_environment.specs.Valuation.{Valuation}
 use Rattle.marker_diagrams.specs.declared.node_id.NodeId.{NodeId}
 use Rattle.marker_diagrams.specs.Id.{signed, place_of, is_negated, signed_id}
@@ -25,8 +25,7 @@ module _ (nodes : List Node) (store : IsStore markers nodes) (t u : NodeId) (n :
   down_means = ap (λ x. truth markers nodes x v) u_is ∙ sym (truth_child markers nodes t n v (λ i m e. (store.node i m e).below) (sym stands))
 
 signed_true : (s : Bool) → signed s true ≡ not s
-signed_true true = refl
-signed_true false = refl
+signed_true s = grind arith
 
 -- an id without a node is true if it is not a negation
 pub end_means : (nodes : List Node) (t : NodeId) (v : Valuation) → None ≡ node_of nodes t → truth markers nodes t v ≡ not (is_negated t)

@@ -1,6 +1,5 @@
 -- The oldest nodes of a list.
-use Rattle.std.proofs.Common.{◌≡◌, ℕ, zero, suc, ◌+◌, ◌-◌, ◌<◌, ◌≤◌, Bool, true, false, List, [], ◌∷◌, ◌++◌, reverse, length, drop, refl, sym, ap, ◌∙◌, subst, arith, length-drop}
-use Rattle.std.specs.Prelude.{nat_le}
+use Rattle.std.proofs.Common.{◌≡◌, ℕ, zero, suc, ◌+◌, ◌-◌, ◌<◌, ◌≤◌, List, [], ◌∷◌, ◌++◌, reverse, length, drop, refl, sym, ap, ◌∙◌, subst, arith, length-drop}
 use Rattle.std.proofs.lemmas.Bool.{leb-true, leb-false}
 use Rattle.std.proofs.lemmas.List.{length-reverse}
 use Rattle.marker_diagrams.specs.Id.{place_of}
@@ -58,11 +57,7 @@ same_nodes (x ∷ xs) (y ∷ ys) e h =
 
 -- nodes that were added are given up again
 pub oldest_undoes : (old new : List Node) → Keeps markers old new → oldest (length old) new ≡ old
-oldest_undoes old new k =
-    let longer : length old ≤ length new = k.longer in
-    let shorter : length (oldest (length old) new) ≡ length new - (length new - length old) = length-drop (length new - length old) new in
-    let l : length (oldest (length old) new) ≡ length old = omega (arith, longer, shorter) in
-    same_nodes (oldest (length old) new) old l (λ i b. sym ((oldest_kept (length old) new).node i b) ∙ k.node i (omega (arith, b, l)))
+oldest_undoes old new h1 = grind (arith, length, length-drop, same_nodes, oldest_kept)
 
 -- ---- nodes that are taken off one after another
 drop_one : (k : ℕ) (nodes rest : List Node) (n : Node) → drop k nodes ≡ n ∷ rest → drop (suc k) nodes ≡ rest
@@ -82,9 +77,6 @@ module _ (keys all new : List Node) (n : Node) (k : ℕ) (popped : keys ≡ new 
     pieces_are : pieces ≡ count n + pieces_of (reverse new)
     pieces_are = h.counted ∙ ap pieces_of turned
 
-    pub popped_fewer : count n ≤ pieces
-    popped_fewer = omega (arith, pieces_are)
-
     pub popped_room : HasRoom (reverse new) (pieces - count n) room
     popped_room = record {
       rules = store_older n (reverse new) (subst (IsStore markers) turned h.rules);
@@ -96,11 +88,4 @@ module _ (keys all new : List Node) (n : Node) (k : ℕ) (popped : keys ≡ new 
 
 -- what is left at the end
 pub oldest_left : (keys now : List Node) (left : List Node) (len counter end : ℕ) → left ≡ drop (counter - len) (reverse keys) → reverse keys ≡ now → end ≡ length keys → end ≤ counter → (len ≤ end → counter ≤ end) → (end ≤ len → counter ≡ len) → left ≡ oldest len now
-oldest_left keys now left len counter end left_is view_is end_is above below still =
-    let size : length now ≡ length keys = ap length (sym view_is) ∙ length-reverse keys in
-    let gone : counter - len ≡ length now - len = by_size (nat_le len end) refl size in
-    left_is ∙ ap (drop (counter - len)) view_is ∙ ap (λ i. drop i now) gone
-  where
-    by_size : (b : Bool) → nat_le len end ≡ b → length now ≡ length keys → counter - len ≡ length now - len
-    by_size true e size = let l : len ≤ end = leb-true len end e in let h : counter ≤ end = below l in omega (arith, size, end_is, above, h)
-    by_size false e size = let l : end < len = leb-false len end e in let h : counter ≡ len = still (omega (arith, l)) in omega (arith, size, end_is, h, l)
+oldest_left keys now left len counter end h1 h2 h3 h4 h5 h6 = grind (arith, length, length-reverse, drop, leb-true, leb-false)

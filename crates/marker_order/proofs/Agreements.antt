@@ -1,16 +1,15 @@
 -- An id means the same in two tables if they are equal up to it.
-use Rattle.std.proofs.Common.{◌≡◌, ℕ, zero, suc, ◌+◌, ◌-◌, ◌==◌, ◌<◌, ◌≤◌, Bool, true, false, not, cond, List, length, Option, Some, None, refl, sym, ap, ◌∙◌, subst, arith, below_more, replicate}
+use Rattle.std.proofs.Common.{◌≡◌, ℕ, zero, suc, ◌+◌, ◌-◌, ◌<◌, ◌≤◌, Bool, true, false, not, List, length, Option, Some, None, refl, sym, ap, ◌∙◌, subst, arith, below_more, replicate}
 use Rattle.std.specs.declared.cmp.Ordering.TheVariants.{Equal}
 use Rattle.marker_environment.specs.Valuation.{Valuation}
 use Rattle.marker_diagrams.specs.declared.node_id.NodeId.{NodeId}
 use Rattle.marker_diagrams.specs.Id.{index_of, is_negated, place_of, same_id, signed}
 use Rattle.marker_diagrams.specs.declared.node_id.TheConstants.NodeId.{FALSE}
 use Rattle.marker_diagrams.specs.Diagram.{IsStore, node_at, truth, truth_at}
-use Rattle.std.proofs.lemmas.Bool.{eqb-false}
 use Rattle.std.proofs.lemmas.List.Elements.{All-replicate}
 use Rattle.marker_diagrams.proofs.IdLaws.{same_id_is}
 use Rattle.marker_diagrams.proofs.Canonicity.{descends}
-use Rattle.marker_diagrams.proofs.NodeLaws.{node_bounds, none_some, same_some, truth_first, truth_node}
+use Rattle.marker_diagrams.proofs.NodeLaws.{node_bounds, truth_first, truth_node}
 use Rattle.marker_nodes.specs.Branches.{value_at}
 use Rattle.marker_nodes.specs.Node.{Node, markers}
 use Rattle.marker_nodes.proofs.NodeLaws.{lawful}
@@ -43,15 +42,10 @@ module _ (a b : List Node) (rules : IsStore markers a) (other_rules : IsStore ma
       mean_tied a b rules other_rules t t (omega arith) (omega arith) (λ v. ap (signed (is_negated t)) (same_below (suc (place_of t)) (place_of t) (omega arith) (omega arith) v))
 
 not_false : (x : Bool) → not x ≡ false → x ≡ true
-not_false true e = refl
-not_false false e = sym e
+not_false x h1 = grind arith
 
 index_place : (t : NodeId) (i : ℕ) → index_of t ≡ Some i → place_of t ≡ i + 1
-index_place t i e = by_test (place_of t == 0) refl e
-  where
-    by_test : (x : Bool) → (place_of t == 0) ≡ x → cond x None (Some (place_of t - 1)) ≡ Some i → place_of t ≡ i + 1
-    by_test true f g = none_some i g
-    by_test false f g = let h : place_of t ≡ 0 → ⊥ = eqb-false (place_of t) 0 f in let k : place_of t - 1 ≡ i = same_some (place_of t - 1) i g in omega arith
+index_place t i h1 = grind arith
 
 -- two ids that are equal by `==`
 pub passed_over_by : (a b : List Node) → IsStore markers a → IsStore markers b → (agreed : ℕ) → AgreeUpTo a b agreed → (s t : NodeId) (differ : Bool) → differ ≡ not (same_id s t) → differ ≡ false →
@@ -68,8 +62,7 @@ pub agree_none : (a b : List Node) → AgreeUpTo a b 0
 agree_none a b i h = absurd (omega arith)
 
 no_node : (nodes : List Node) (found : Option Node) → node_at nodes 0 ≡ found → node_at nodes 0 ≡ None
-no_node nodes None e = e
-no_node nodes (Some n) e = let l = (node_bounds nodes 0 n e).0 in absurd (omega (arith, l))
+no_node nodes found h1 = grind (arith, node_bounds)
 
 -- at first each remembered pair is of FALSE only
 pub falsehoods_are_equal : (a b : List Node) → IsStore markers a → IsStore markers b → (n : ℕ) → AreEqual a b (replicate n (FALSE, FALSE))

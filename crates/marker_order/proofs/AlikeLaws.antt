@@ -1,10 +1,9 @@
 -- Ids of two stores mean the same exactly if their diagrams are alike.
-use Rattle.std.proofs.Common.{◌≡◌, ◌≢◌, ℕ, zero, suc, ◌<◌, Bool, true, false, List, Option, Some, None, refl, sym, ap, ◌∙◌, arith}
+use Rattle.std.proofs.Common.{◌≡◌, ◌≢◌, ℕ, zero, suc, ◌<◌, Bool, true, List, Option, Some, None, refl, sym, ap, ◌∙◌, arith}
 use Rattle.std.specs.Ordering.{ordering_reverse}
 use Rattle.std.specs.declared.cmp.Ordering.{Ordering}
 use Rattle.std.specs.declared.cmp.Ordering.TheVariants.{Less, Equal, Greater}
 use Rattle.std.proofs.lemmas.Cmp.{tied_itself}
-use Rattle.std.proofs.lemmas.Bool.{true≢false, false≢true}
 use Rattle.marker_diagrams.specs.declared.node_id.NodeId.{NodeId}
 use Rattle.marker_diagrams.specs.Id.{signed, place_of, is_negated, signed_id}
 use Rattle.marker_diagrams.specs.Diagram.{NodeKind, node_of, IsHeld, truth, IsAfter, with_variable, IsLawful, IsStore}
@@ -20,10 +19,7 @@ pub data Alike {N X V : Type 0} (kind : NodeKind N X V) (a b : List N) : NodeId 
       ((v : V) → Alike kind a b (signed_id (is_negated s) (kind.pick n v)) (signed_id (is_negated t) (kind.pick m v))) → Alike kind a b s t
 
 same_sign : (s t : Bool) → signed s true ≡ signed t true → s ≡ t
-same_sign true true e = refl
-same_sign true false e = absurd (false≢true e)
-same_sign false true e = absurd (true≢false e)
-same_sign false false e = refl
+same_sign s t h1 = grind arith
 
 pub turned : {N X V : Type 0} (kind : NodeKind N X V) (laws : IsLawful kind) (a b : List N) (s t : NodeId) → Alike kind a b s t → Alike kind b a t s
 turned kind laws a b s t (constants e f g) = constants f e (sym g)

@@ -1,5 +1,5 @@
 -- The order of diagrams is total, and the marks of no diagram are the beginning of another's.
-use Rattle.std.proofs.Common.{◌≡◌, ◌==◌, suc, Bool, true, false, cond, List, [], ◌∷◌, ◌++◌, length, refl, sym, ap, ◌∙◌}
+use Rattle.std.proofs.Common.{◌≡◌, ◌==◌, suc, Bool, cond, List, [], ◌∷◌, ◌++◌, length, refl, sym, ap, ◌∙◌, arith}
 use Rattle.std.specs.Ordering.{ordering_then}
 use Rattle.std.specs.declared.cmp.Ordering.{Ordering}
 use Rattle.std.specs.declared.cmp.Ordering.TheVariants.{Less, Equal, Greater}
@@ -44,49 +44,27 @@ tells_more {s} {t} {a} {b} h = record { goes_on = λ x y. by_order x y (mark_cmp
     by_order x y Equal e = ap (λ r. ordering_then r (slice_cmp mark_cmp (a ++ x) (b ++ y))) e ∙ (h e).goes_on x y ∙ ap (λ r. ordering_then (ordering_then r (slice_cmp mark_cmp a b)) (slice_cmp mark_cmp x y)) (sym e)
 
 tells_both : {a b c d : List Mark} → Tells a b → Tells c d → Tells (a ++ c) (b ++ d)
-tells_both {a} {b} {c} {d} h k = record {
-  goes_on = λ x y.
-      ap (λ z. slice_cmp mark_cmp z ((b ++ d) ++ y)) (append_assoc a c x) ∙ ap (λ z. slice_cmp mark_cmp (a ++ (c ++ x)) z) (append_assoc b d y) ∙ h.goes_on (c ++ x) (d ++ y)
-      ∙ ap (ordering_then (slice_cmp mark_cmp a b)) (k.goes_on x y) ∙ then_then (slice_cmp mark_cmp a b) (slice_cmp mark_cmp c d) (slice_cmp mark_cmp x y) ∙ ap (λ r. ordering_then r (slice_cmp mark_cmp x y)) (sym (h.goes_on c d));
-}
-  where
-    then_then : (r s t : Ordering) → ordering_then r (ordering_then s t) ≡ ordering_then (ordering_then r s) t
-    then_then Less s t = refl
-    then_then Equal s t = refl
-    then_then Greater s t = refl
+tells_both h1 h2 = grind (arith, append_assoc)
 
 module _ {T : Type 0} (lower upper : Bound T → Mark) (first : (b : Bound T) → (mark_cmp end (lower b) ≡ Less) × (mark_cmp (lower b) end ≡ Greater)) (one two : NodeId → List Mark) (h : (c d : NodeId) → Tells (one c) (two d)) where
   edges_tell : (ps qs : List (Part T NodeId)) → Tells (edges_marks lower upper one ps) (edges_marks lower upper two qs)
   edges_tell [] [] = tells_more (λ e. tells_nothing)
   edges_tell [] (q ∷ qs) = tells_more (λ e. less_equal (sym (first q.lower).0 ∙ e))
   edges_tell (p ∷ ps) [] = tells_more (λ e. greater_equal (sym (first p.lower).1 ∙ e))
-  edges_tell (p ∷ ps) (q ∷ qs) =
-      tells_more (λ e. tells_more (λ f. tells_both (h p.value q.value) (edges_tell ps qs)))
+  edges_tell (p ∷ ps) (q ∷ qs) = grind (arith, tells_more, tells_both, edges_tell ps qs)
 
 -- versions come before texts, and texts before substring tests and extras
 version_truth : (x : VersionVariable) (y : TruthVariable) → mark_cmp (asks (of_version x)) (asks (truth_variable y)) ≡ Less
-version_truth x (truths.In z t) = refl
-version_truth x (truths.Contains z t) = refl
-version_truth x (truths.Extra n) = refl
-version_truth x (truths.Arbitrary t) = refl
+version_truth x y = grind arith
 
 truth_version : (x : VersionVariable) (y : TruthVariable) → mark_cmp (asks (truth_variable y)) (asks (of_version x)) ≡ Greater
-truth_version x (truths.In z t) = refl
-truth_version x (truths.Contains z t) = refl
-truth_version x (truths.Extra n) = refl
-truth_version x (truths.Arbitrary t) = refl
+truth_version x y = grind arith
 
 text_truth : (x : TextVariable) (y : TruthVariable) → mark_cmp (asks (of_text x)) (asks (truth_variable y)) ≡ Less
-text_truth x (truths.In z t) = refl
-text_truth x (truths.Contains z t) = refl
-text_truth x (truths.Extra n) = refl
-text_truth x (truths.Arbitrary t) = refl
+text_truth x y = grind arith
 
 truth_text : (x : TextVariable) (y : TruthVariable) → mark_cmp (asks (truth_variable y)) (asks (of_text x)) ≡ Greater
-truth_text x (truths.In z t) = refl
-truth_text x (truths.Contains z t) = refl
-truth_text x (truths.Extra n) = refl
-truth_text x (truths.Arbitrary t) = refl
+truth_text x y = grind arith
 
 nodes_tell : (one two : NodeId → List Mark) → ((c d : NodeId) → Tells (one c) (two d)) → (n m : Node) → Tells (node_marks one n) (node_marks two m)
 nodes_tell one two h (Version x es) (Version y fs) = tells_more (λ e. edges_tell version_lower version_upper (λ b. (refl, refl)) one two h (parts_of es) (parts_of fs))
@@ -100,28 +78,16 @@ nodes_tell one two h (Truth x i j) (Text y fs) = tells_more (λ e. greater_equal
 nodes_tell one two h (Truth x i j) (Truth y k l) = tells_more (λ e. tells_both (h i k) (h j l))
 
 constant_node : (b : Bool) (n : Node) (marks : NodeId → List Mark) (rest : List Mark) → Tells (constant b ∷ rest) (node_marks marks n)
-constant_node true (Version x es) marks rest = tells_more (λ e. less_equal e)
-constant_node true (Text x es) marks rest = tells_more (λ e. less_equal e)
-constant_node true (Truth x i j) marks rest = tells_more (λ e. less_equal e)
-constant_node false (Version x es) marks rest = tells_more (λ e. less_equal e)
-constant_node false (Text x es) marks rest = tells_more (λ e. less_equal e)
-constant_node false (Truth x i j) marks rest = tells_more (λ e. less_equal e)
+constant_node b n marks rest = grind (arith, tells_more, less_equal)
 
 node_constant : (b : Bool) (n : Node) (marks : NodeId → List Mark) (rest : List Mark) → Tells (node_marks marks n) (constant b ∷ rest)
-node_constant true (Version x es) marks rest = tells_more (λ e. greater_equal e)
-node_constant true (Text x es) marks rest = tells_more (λ e. greater_equal e)
-node_constant true (Truth x i j) marks rest = tells_more (λ e. greater_equal e)
-node_constant false (Version x es) marks rest = tells_more (λ e. greater_equal e)
-node_constant false (Text x es) marks rest = tells_more (λ e. greater_equal e)
-node_constant false (Truth x i j) marks rest = tells_more (λ e. greater_equal e)
+node_constant b n marks rest = grind arith
 
 under_test : {a b c : List Mark} (t : Bool) → Tells a c → Tells b c → Tells (cond t a b) c
-under_test true h k = h
-under_test false h k = k
+under_test t h1 h2 = grind arith
 
 test_under : {a b c : List Mark} (t : Bool) → Tells c a → Tells c b → Tells c (cond t a b)
-test_under true h k = h
-test_under false h k = k
+test_under t h1 h2 = grind arith
 
 node_tells : (n : Node) (one : NodeId → List Mark) → ((b : List Node) (c d : NodeId) → Tells (one c) (marks_of b d)) → (b : List Node) (t : NodeId) → Tells (node_marks one n) (marks_of b t)
 node_tells n one h [] t = node_constant (is_negated t) n one []

@@ -1,6 +1,5 @@
 -- Two diagrams are equal in the order exactly if they mean the same.
 use Rattle.std.proofs.Common.{◌≡◌, ℕ, zero, suc, ◌<◌, Bool, true, false, not, cond, ◌&&◌, List, [], ◌∷◌, map, Option, Some, None, refl, sym, ap, ◌∙◌, arith, string_bytes}
-use mathlib.Core.Bool.{beq}
 use Rattle.std.specs.Ordering.{bool_cmp, eq_by_cmp, is_eq, ordering_then}
 use Rattle.std.specs.declared.cmp.Ordering.{Ordering}
 use Rattle.std.specs.declared.cmp.Ordering.TheVariants.{Less, Equal, Greater}
@@ -58,9 +57,7 @@ greater_not : {G : Type 0} → Greater ≡ Equal → G
 greater_not e = cc
 
 then_parts : (r s : Ordering) → ordering_then r s ≡ Equal → (r ≡ Equal) × (s ≡ Equal)
-then_parts Less s e = less_not e
-then_parts Equal s e = (refl, e)
-then_parts Greater s e = greater_not e
+then_parts r s h1 = grind arith
 
 then_from : (r s : Ordering) → r ≡ Equal → s ≡ Equal → ordering_then r s ≡ Equal
 then_from r s e f = ap (λ x. ordering_then x s) e ∙ f
@@ -69,9 +66,7 @@ then_from r s e f = ap (λ x. ordering_then x s) e ∙ f
 
 module _ (cmp : NodeId → NodeId → Ordering) where
   turn_parts : (r : Ordering) (c d : NodeId) (turns : List Turn) → turns_cmp cmp (turn_by r c d ∷ turns) ≡ Equal → (r ≡ Equal) × (cmp c d ≡ Equal) × (turns_cmp cmp turns ≡ Equal)
-  turn_parts Less c d turns e = less_not e
-  turn_parts Equal c d turns e = let q = then_parts (cmp c d) (turns_cmp cmp turns) e in (refl, q.0, q.1)
-  turn_parts Greater c d turns e = greater_not e
+  turn_parts r c d turns h1 = grind arith
 
   turn_from : (r : Ordering) (c d : NodeId) (turns : List Turn) → r ≡ Equal → cmp c d ≡ Equal → turns_cmp cmp turns ≡ Equal → turns_cmp cmp (turn_by r c d ∷ turns) ≡ Equal
   turn_from r c d turns e f g = ap (λ x. turns_cmp cmp (turn_by x c d ∷ turns)) e ∙ then_from (cmp c d) (turns_cmp cmp turns) f g
@@ -79,16 +74,10 @@ module _ (cmp : NodeId → NodeId → Ordering) where
 -- bounds at cuts are equal if the cuts are
 module _ {T : Type 0} (cmp : T → T → Ordering) where
   lowers_by : (v w : T) (x y : Bool) → lower_cmp cmp (cond x (Excluded v) (Included v)) (cond y (Excluded w) (Included w)) ≡ ordering_then (cmp v w) (bool_cmp x y)
-  lowers_by v w true true = sym (then_equal (cmp v w))
-  lowers_by v w true false = refl
-  lowers_by v w false true = refl
-  lowers_by v w false false = sym (then_equal (cmp v w))
+  lowers_by v w x y = grind arith
 
   uppers_by : (v w : T) (x y : Bool) → upper_cmp cmp (cond x (Included v) (Excluded v)) (cond y (Included w) (Excluded w)) ≡ ordering_then (cmp v w) (bool_cmp x y)
-  uppers_by v w true true = sym (then_equal (cmp v w))
-  uppers_by v w true false = refl
-  uppers_by v w false true = refl
-  uppers_by v w false false = sym (then_equal (cmp v w))
+  uppers_by v w x y = grind arith
 
   cut_lowers : (c d : Cut T) → lower_cmp cmp (lower_of c) (lower_of d) ≡ cut_cmp cmp c d
   cut_lowers c d = lowers_by c.value d.value c.above d.above
@@ -97,12 +86,10 @@ module _ {T : Type 0} (cmp : T → T → Ordering) where
   cut_uppers c d = uppers_by c.value d.value c.above d.above
 
   no_upper_by : (w : T) (y : Bool) → upper_cmp cmp Unbounded (cond y (Included w) (Excluded w)) ≡ Greater
-  no_upper_by w true = refl
-  no_upper_by w false = refl
+  no_upper_by w y = grind arith
 
   upper_none_by : (v : T) (x : Bool) → upper_cmp cmp (cond x (Included v) (Excluded v)) Unbounded ≡ Less
-  upper_none_by v true = refl
-  upper_none_by v false = refl
+  upper_none_by v x = grind arith
 
 -- ---- edges that tie
 
@@ -112,11 +99,7 @@ marked one xs = map (λ x. (x.0, one x.1)) xs
 
 marked_value : {T : Type 0} (t : Cut T → Bool) (one : NodeId → List Mark) (v : NodeId) (xs : List (Cut T × NodeId)) → value_at t (one v) (marked one xs) ≡ one (value_at t v xs)
 marked_value t one v [] = refl
-marked_value t one v (x ∷ xs) = by_test (t x.0) (marked_value t one x.1 xs)
-  where
-    by_test : (b : Bool) → value_at t (one x.1) (marked one xs) ≡ one (value_at t x.1 xs) → cond b (one v) (value_at t (one x.1) (marked one xs)) ≡ one (cond b v (value_at t x.1 xs))
-    by_test true e = refl
-    by_test false e = e
+marked_value t one v (x ∷ xs) = grind (arith, cond, marked_value t one x.1 xs)
 
 marked_ascend : {T : Type 0} (cmp : Cut T → Cut T → Ordering) (one : NodeId → List Mark) (low : Option (Cut T)) (xs : List (Cut T × NodeId)) → ascends cmp low xs ≡ true → ascends cmp low (marked one xs) ≡ true
 marked_ascend cmp one low [] h = refl
@@ -131,22 +114,10 @@ module _ {T : Type 0} (cmp : T → T → Ordering) (one two : NodeId → List Ma
   edges_tie v w xs ys = marks_tie (one v) (two w) && same_steps (cut_eq (eq_by_cmp cmp)) marks_tie (marked one xs) (marked two ys)
 
   cuts_tie : (c d : Cut T) → cut_cmp cmp c d ≡ Equal → cut_eq (eq_by_cmp cmp) c d ≡ true
-  cuts_tie c d e = let q = then_parts (cmp c.value d.value) (bool_cmp c.above d.above) e in and_from _ _ (ap is_eq q.0) (flags c.above d.above q.1)
-    where
-      flags : (a b : Bool) → bool_cmp a b ≡ Equal → beq a b ≡ true
-      flags true true e = refl
-      flags true false e = greater_not e
-      flags false true e = less_not e
-      flags false false e = refl
+  cuts_tie c d h1 = grind arith
 
   tied_cuts : (c d : Cut T) → cut_eq (eq_by_cmp cmp) c d ≡ true → cut_cmp cmp c d ≡ Equal
-  tied_cuts c d e = let q = and_parts _ _ e in then_from (cmp c.value d.value) (bool_cmp c.above d.above) (is_equal _ q.0) (flags c.above d.above q.1)
-    where
-      flags : (a b : Bool) → beq a b ≡ true → bool_cmp a b ≡ Equal
-      flags true true e = refl
-      flags true false e = absurd (false≢true e)
-      flags false true e = absurd (false≢true e)
-      flags false false e = refl
+  tied_cuts c d h1 = grind arith
 
   -- if the turns are equal, the edges are
   turns_tie : (low high : Bound T) (v w : NodeId) (xs ys : List (Cut T × NodeId)) → turns_cmp child_cmp (edge_turns cmp (parts_from low v xs) (parts_from high w ys)) ≡ Equal → edges_tie v w xs ys ≡ true
@@ -205,10 +176,7 @@ module _ {T : Type 0} (cmp : T → T → Ordering) (one two : NodeId → List Ma
 -- ---- diagrams that tie are alike
 
 tied_same : (a b : Bool) → bool_cmp a b ≡ Equal → a ≡ b
-tied_same true true e = refl
-tied_same true false e = greater_not e
-tied_same false true e = less_not e
-tied_same false false e = refl
+tied_same a b h1 = grind arith
 
 module _ (a b : List Node) (rules : IsStore markers a) (other_rules : IsStore markers b) where
   -- the marks of a child of an id

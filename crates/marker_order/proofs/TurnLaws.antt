@@ -82,13 +82,10 @@ each_child P (nodes.Truth x high low) h = (subst P (high_picked x high low) (h l
 -- a node has the same marks if its children have
 edges_same : {T : Type 0} (lower upper : Bound T → Mark) (one two : NodeId → List Mark) (ps : List (Part T NodeId)) → EachPart (λ c. one c ≡ two c) ps → edges_marks lower upper one ps ≡ edges_marks lower upper two ps
 edges_same lower upper one two [] h = refl
-edges_same lower upper one two (p ∷ ps) h =
-    ap (λ l. lower p.lower ∷ upper p.upper ∷ (l ++ edges_marks lower upper one ps)) h.0 ∙ ap (λ l. lower p.lower ∷ upper p.upper ∷ (two p.value ++ l)) (edges_same lower upper one two ps h.1)
+edges_same lower upper one two (p ∷ ps) h = grind (arith, edges_same lower upper one two ps h.1)
 
 marks_same : (one two : NodeId → List Mark) (n : Node) → EachChild (λ c. one c ≡ two c) n → node_marks one n ≡ node_marks two n
-marks_same one two (nodes.Version x es) h = ap (λ l. asks (of_version x) ∷ l) (edges_same version_lower version_upper one two (parts_of es) h)
-marks_same one two (nodes.Text x es) h = ap (λ l. asks (of_text x) ∷ l) (edges_same (λ b. text_lower (bound_map string_bytes b)) (λ b. text_upper (bound_map string_bytes b)) one two (parts_of es) h)
-marks_same one two (nodes.Truth x high low) h = ap (λ l. asks (truth_variable x) ∷ (l ++ one low)) h.0 ∙ ap (λ l. asks (truth_variable x) ∷ (two high ++ l)) h.1
+marks_same one two n h1 = grind (arith, edges_same, string_bytes)
 
 marks_kept : (n : Node) (list : List Node) (t : NodeId) → place_of t ≤ length list → marks_of (n ∷ list) t ≡ marks_of list t
 marks_kept n list t h = ap (λ b. cond b (node_marks (λ c. marks_of list (signed_id (is_negated t) c)) n) (marks_of list t)) (ne_eqb (place_of t) (suc (length list)) (λ e. omega arith))
@@ -96,12 +93,7 @@ marks_kept n list t h = ap (λ b. cond b (node_marks (λ c. marks_of list (signe
 -- an id without a node is a constant
 pub marks_none : (list : List Node) (t : NodeId) → node_of list t ≡ None → marks_of list t ≡ constant (is_negated t) ∷ []
 marks_none [] t e = refl
-marks_none (n ∷ older) t e = by_test (place_of t == suc (length older)) e (marks_none older t)
-  where
-    by_test : (b : Bool) → cond b (Some n) (node_at older (place_of t)) ≡ None → (node_at older (place_of t) ≡ None → marks_of older t ≡ constant (is_negated t) ∷ []) →
-        cond b (node_marks (λ c. marks_of older (signed_id (is_negated t) c)) n) (marks_of older t) ≡ constant (is_negated t) ∷ []
-    by_test true e h = none_some n (sym e)
-    by_test false e h = h e
+marks_none (n ∷ older) t e = grind (arith, length, cond, none_some, marks_none older t)
 
 abbrev pub Descends : List Node → Type 0
 Descends list = (i : ℕ) (n : Node) → node_at list i ≡ Some n → (v : Valuation) → place_of (value_at n v) < i
@@ -138,9 +130,7 @@ marks_node list store t n e = marks_down list (λ i m f. (store.node i m f).belo
 -- ---- marks side by side
 
 pub then_equal : (r : Ordering) → ordering_then r Equal ≡ r
-then_equal Less = refl
-then_equal Equal = refl
-then_equal Greater = refl
+then_equal r = grind arith
 
 -- the order of variables
 pub asks_order : (x y : Variable) → mark_cmp (asks x) (asks y) ≡ variable_cmp x y
@@ -162,26 +152,10 @@ version_uppers (Excluded v) (Included w) = then_equal (point_cmp version_cmp (at
 version_uppers (Excluded v) (Excluded w) = then_equal (point_cmp version_cmp (at v) (at w))
 
 string_lowers : (l m : Bound (String Global)) → mark_cmp (text_lower (bound_map string_bytes l)) (text_lower (bound_map string_bytes m)) ≡ lower_cmp string_cmp l m
-string_lowers Unbounded Unbounded = refl
-string_lowers Unbounded (Included w) = refl
-string_lowers Unbounded (Excluded w) = refl
-string_lowers (Included v) Unbounded = refl
-string_lowers (Included v) (Included w) = refl
-string_lowers (Included v) (Excluded w) = refl
-string_lowers (Excluded v) Unbounded = refl
-string_lowers (Excluded v) (Included w) = refl
-string_lowers (Excluded v) (Excluded w) = refl
+string_lowers l m = grind arith
 
 string_uppers : (l m : Bound (String Global)) → mark_cmp (text_upper (bound_map string_bytes l)) (text_upper (bound_map string_bytes m)) ≡ upper_cmp string_cmp l m
-string_uppers Unbounded Unbounded = refl
-string_uppers Unbounded (Included w) = refl
-string_uppers Unbounded (Excluded w) = refl
-string_uppers (Included v) Unbounded = refl
-string_uppers (Included v) (Included w) = refl
-string_uppers (Included v) (Excluded w) = refl
-string_uppers (Excluded v) Unbounded = refl
-string_uppers (Excluded v) (Included w) = refl
-string_uppers (Excluded v) (Excluded w) = refl
+string_uppers l m = grind arith
 
 -- edge by edge
 module _ {T : Type 0} (cmp : T → T → Ordering) (lower upper : Bound T → Mark)
@@ -190,11 +164,7 @@ module _ {T : Type 0} (cmp : T → T → Ordering) (lower upper : Bound T → Ma
     (one two : NodeId → List Mark) (tell : (c d : NodeId) → Tells (one c) (two d)) where
   by_turn : (r s k z : Ordering) (c d : NodeId) (turns : List Turn) → slice_cmp mark_cmp (one c) (two d) ≡ k → turns_cmp (λ c d. slice_cmp mark_cmp (one c) (two d)) turns ≡ z →
       ordering_then r (ordering_then s (ordering_then k z)) ≡ turns_cmp (λ c d. slice_cmp mark_cmp (one c) (two d)) (turn_by (ordering_then r s) c d ∷ turns)
-  by_turn Less s k z c d turns e f = refl
-  by_turn Greater s k z c d turns e f = refl
-  by_turn Equal Less k z c d turns e f = refl
-  by_turn Equal Greater k z c d turns e f = refl
-  by_turn Equal Equal k z c d turns e f = ap (λ x. ordering_then x z) (sym e) ∙ ap (ordering_then (slice_cmp mark_cmp (one c) (two d))) (sym f)
+  by_turn r s k z c d turns h1 h2 = grind arith
 
   edges_order : (ps qs : List (Part T NodeId)) → slice_cmp mark_cmp (edges_marks lower upper one ps) (edges_marks lower upper two qs) ≡ turns_cmp (λ c d. slice_cmp mark_cmp (one c) (two d)) (edge_turns cmp ps qs)
   edges_order [] [] = refl
@@ -214,16 +184,13 @@ node_rest marks (nodes.Truth x high low) = marks high ++ marks low
 
 -- a node's marks begin with its variable
 asked_first : (marks : NodeId → List Mark) (n : Node) → node_marks marks n ≡ asks (variable n) ∷ node_rest marks n
-asked_first marks (nodes.Version x es) = refl
-asked_first marks (nodes.Text x es) = refl
-asked_first marks (nodes.Truth x high low) = refl
+asked_first marks n = grind arith
 
 module _ (one two : NodeId → List Mark) (tell : (c d : NodeId) → Tells (one c) (two d)) where
   -- nodes on one variable are ordered as their turns
   pub rests_order : (n m : Node) → variable_cmp (variable n) (variable m) ≡ Equal → slice_cmp mark_cmp (node_rest one n) (node_rest two m) ≡ turns_cmp (λ c d. slice_cmp mark_cmp (one c) (two d)) (turns_of n m)
   rests_order (nodes.Version x es) (nodes.Version y fs) e = edges_order version_cmp version_lower version_upper version_lowers version_uppers (λ b. (refl, refl)) one two tell (parts_of es) (parts_of fs)
-  rests_order (nodes.Text x es) (nodes.Text y fs) e =
-      edges_order string_cmp (λ b. text_lower (bound_map string_bytes b)) (λ b. text_upper (bound_map string_bytes b)) string_lowers string_uppers (λ b. (refl, refl)) one two tell (parts_of es) (parts_of fs)
+  rests_order (nodes.Text x es) (nodes.Text y fs) e = grind (arith, edges_order, string_bytes, string_lowers, string_uppers)
   rests_order (nodes.Truth x i j) (nodes.Truth y k l) e = (tell i k).goes_on (one j) (two l) ∙ ap (ordering_then (slice_cmp mark_cmp (one i) (two k))) (sym (then_equal (slice_cmp mark_cmp (one j) (two l))))
   rests_order (nodes.Version x es) (nodes.Text y fs) e = other_sorts (of_version x) (of_text y) 0 1 e refl refl (λ z. omega arith)
   rests_order (nodes.Text y fs) (nodes.Version x es) e = other_sorts (of_text y) (of_version x) 1 0 e refl refl (λ z. omega arith)
@@ -242,21 +209,16 @@ module _ (a b : List Node) (rules : IsStore markers a) (other_rules : IsStore ma
 
   -- constants
   pub constants_order : (x y : Bool) → slice_cmp mark_cmp (constant x ∷ []) (constant y ∷ []) ≡ bool_cmp x y
-  constants_order true true = refl
-  constants_order true false = refl
-  constants_order false true = refl
-  constants_order false false = refl
+  constants_order x y = grind arith
 
   pub on_constants : node_of a s ≡ None → node_of b t ≡ None → diagram_cmp (a, s) (b, t) ≡ bool_cmp (is_negated s) (is_negated t)
   on_constants e f = ap (λ l. slice_cmp mark_cmp l (marks_of b t)) (marks_none a s e) ∙ ap (slice_cmp mark_cmp (constant (is_negated s) ∷ [])) (marks_none b t f) ∙ constants_order (is_negated s) (is_negated t)
 
   later : (x : Variable) (n : Bool) → mark_cmp (asks x) (constant n) ≡ Greater
-  later x true = refl
-  later x false = refl
+  later x n = grind arith
 
   earlier : (x : Variable) (n : Bool) → mark_cmp (constant n) (asks x) ≡ Less
-  earlier x true = refl
-  earlier x false = refl
+  earlier x n = grind arith
 
   marks_left : (n : Node) → node_of a s ≡ Some n → marks_of a s ≡ asks (variable n) ∷ node_rest one n
   marks_left n e = marks_node a rules s n e ∙ asked_first one n
@@ -277,9 +239,7 @@ module _ (a b : List Node) (rules : IsStore markers a) (other_rules : IsStore ma
   -- nodes
   module _ (n m : Node) (e : node_of a s ≡ Some n) (f : node_of b t ≡ Some m) where
     pub by_variable : diagram_cmp (a, s) (b, t) ≡ ordering_then (variable_cmp (variable n) (variable m)) (slice_cmp mark_cmp (node_rest one n) (node_rest two m))
-    by_variable =
-        ap (λ l. slice_cmp mark_cmp l (marks_of b t)) (marks_left n e) ∙ ap (slice_cmp mark_cmp (asks (variable n) ∷ node_rest one n)) (marks_right m f)
-        ∙ ap (λ r. ordering_then r (slice_cmp mark_cmp (node_rest one n) (node_rest two m))) (asks_order (variable n) (variable m))
+    by_variable = grind (arith, marks_left, marks_right, asks_order)
 
     pub on_lesser : variable_cmp (variable n) (variable m) ≡ Less → diagram_cmp (a, s) (b, t) ≡ Less
     on_lesser h = by_variable ∙ ap (λ r. ordering_then r (slice_cmp mark_cmp (node_rest one n) (node_rest two m))) h
@@ -291,23 +251,10 @@ module _ (a b : List Node) (rules : IsStore markers a) (other_rules : IsStore ma
     edges_below cmp [] [] h k = tt
     edges_below cmp [] (q ∷ qs) h k = edges_below cmp [] qs h k.1
     edges_below cmp (p ∷ ps) [] h k = edges_below cmp ps [] h.1 k
-    edges_below cmp (p ∷ ps) (q ∷ qs) h k = by_order (ordering_then (lower_cmp cmp p.lower q.lower) (upper_cmp cmp p.upper q.upper)) (edges_below cmp ps qs h.1 k.1)
-      where
-        by_order : (r : Ordering) → AreBelow s t (edge_turns cmp ps qs) → AreBelow s t (turn_by r p.value q.value ∷ edge_turns cmp ps qs)
-        by_order Less g = g
-        by_order Equal g = (h.0, k.0, g)
-        by_order Greater g = g
+    edges_below cmp (p ∷ ps) (q ∷ qs) h k = grind (arith, edges_below cmp ps qs h.1 k.1)
 
     turns_below : (n m : Node) → EachChild (λ c. place_of c < place_of s) n → EachChild (λ c. place_of c < place_of t) m → AreBelow s t (turns_of n m)
-    turns_below (nodes.Version x es) (nodes.Version y fs) h k = edges_below version_cmp (parts_of es) (parts_of fs) h k
-    turns_below (nodes.Text x es) (nodes.Text y fs) h k = edges_below string_cmp (parts_of es) (parts_of fs) h k
-    turns_below (nodes.Truth x i j) (nodes.Truth y o l) h k = (h.0, k.0, (h.1, k.1, tt))
-    turns_below (nodes.Version x es) (nodes.Text y fs) h k = tt
-    turns_below (nodes.Text y fs) (nodes.Version x es) h k = tt
-    turns_below (nodes.Version x es) (nodes.Truth y o l) h k = tt
-    turns_below (nodes.Truth y o l) (nodes.Version x es) h k = tt
-    turns_below (nodes.Text x es) (nodes.Truth y o l) h k = tt
-    turns_below (nodes.Truth y o l) (nodes.Text x es) h k = tt
+    turns_below n m h1 h2 = grind (arith, edges_below)
 
     pub begins : variable_cmp (variable n) (variable m) ≡ Equal → Continues a b s t (turns_of n m)
     begins h = record {
@@ -318,19 +265,6 @@ module _ (a b : List Node) (rules : IsStore markers a) (other_rules : IsStore ma
     }
 
   -- ---- turn by turn
-  pub told_goes_on : (r : Ordering) (rest : List Turn) → Continues a b s t (Told r ∷ rest) → r ≡ Equal → Continues a b s t rest
-  told_goes_on r rest h e = record { order = h.order ∙ ap (λ o. ordering_then o (turns_cmp (child_cmp a b s t) rest)) e; below = h.below }
-
-  pub below_goes_on : (c d : NodeId) (rest : List Turn) → Continues a b s t (Below c d ∷ rest) → child_cmp a b s t c d ≡ Equal → Continues a b s t rest
-  below_goes_on c d rest h e = record { order = h.order ∙ ap (λ o. ordering_then o (turns_cmp (child_cmp a b s t) rest)) e; below = h.below.2 }
 
   decided : (r o : Ordering) → (r ≡ Equal → ⊥) → ordering_then r o ≡ r
-  decided Less o h = refl
-  decided Equal o h = absurd (h refl)
-  decided Greater o h = refl
-
-  pub told_decides : (r : Ordering) (rest : List Turn) → Continues a b s t (Told r ∷ rest) → (r ≡ Equal → ⊥) → diagram_cmp (a, s) (b, t) ≡ r
-  told_decides r rest h e = h.order ∙ decided r (turns_cmp (child_cmp a b s t) rest) e
-
-  pub below_decides : (c d : NodeId) (rest : List Turn) → Continues a b s t (Below c d ∷ rest) → (child_cmp a b s t c d ≡ Equal → ⊥) → diagram_cmp (a, s) (b, t) ≡ child_cmp a b s t c d
-  below_decides c d rest h e = h.order ∙ decided (child_cmp a b s t c d) (turns_cmp (child_cmp a b s t) rest) e
+  decided r o h1 = grind arith

@@ -1,5 +1,5 @@
 -- A text begins with at most one comparison, which has one meaning.
-use Rattle.std.proofs.Common.{◌≡◌, ℕ, List, [], ◌++◌, refl, ap, subst}
+use Rattle.std.proofs.Common.{◌≡◌, ℕ, List, [], ◌++◌, refl, ap, arith}
 use Rattle.pep508_names.proofs.NameLaws.{normal_form-unique}
 use Rattle.marker_words.specs.declared.key.MarkerValueVersion.{MarkerValueVersion}
 use Rattle.marker_words.specs.declared.operator.MarkerOperator.{MarkerOperator}
@@ -7,18 +7,15 @@ use Rattle.std.specs.Str.{chars}
 use Rattle.marker_words.specs.Lexical.{Value, Sides}
 use Rattle.marker_words.proofs.LexicalLaws.{sides_same}
 use Rattle.pep508_errors.specs.declared.warning.MarkerWarningKind.{MarkerWarningKind}
-use Rattle.marker_parts.specs.Expression.{Extra, name, Test}
-use Rattle.marker_parts.specs.Comparison.{Meaning, extra_meaning, IsExtra, named, unnamed, Means, key_and_text, text_and_key, extra_and_text, text_and_extra, two_keys, key_and_extra, extra_and_key, two_extras, two_texts, MeansBehind, asks, asks_nothing, MeansBefore, asks_before, asks_nothing_before, version_and_text, text_and_version, version_and_key, version_and_extra, two_versions, key_and_version, extra_and_version, kept_with, Compared, compared}
+use Rattle.marker_parts.specs.Expression.{Extra, Test}
+use Rattle.marker_parts.specs.Comparison.{Meaning, extra_meaning, IsExtra, Means, key_and_text, text_and_key, extra_and_text, text_and_extra, two_keys, key_and_extra, extra_and_key, two_extras, two_texts, MeansBehind, asks, asks_nothing, MeansBefore, asks_before, asks_nothing_before, version_and_text, text_and_version, version_and_key, version_and_extra, two_versions, key_and_version, extra_and_version, kept_with, Compared, compared}
 use Rattle.marker_parts.proofs.AskLaws.{Asks-same, AsksBefore-same}
 use Rattle.marker_parts.specs.declared.meaning.Outcome.{Outcome}
 use Rattle.marker_parts.specs.Read.{meaning_of, ReadsComparison, HasNoComparison}
 
 -- a text is one extra, and is warned of in one way
 IsExtra-same : {t : List ℕ} {x y : Extra} {kinds others : List MarkerWarningKind} → IsExtra t x kinds → IsExtra t y others → (x ≡ y) × (kinds ≡ others)
-IsExtra-same (named g) (named h) = (ap name (normal_form-unique _ _ _ g h), refl)
-IsExtra-same (named g) (unnamed h) = absurd (h (_, g))
-IsExtra-same (unnamed g) (named h) = absurd (g (_, h))
-IsExtra-same (unnamed g) (unnamed h) = (refl, refl)
+IsExtra-same h1 h2 = grind (arith, normal_form-unique)
 
 extra_meaning-same : (operator : MarkerOperator) {t : List ℕ} {x y : Extra} {kinds others : List MarkerWarningKind} → IsExtra t x kinds → IsExtra t y others → extra_meaning operator x kinds ≡ extra_meaning operator y others
 extra_meaning-same operator g h = let e = IsExtra-same g h in λ i. extra_meaning operator (e.0 i) (e.1 i)
@@ -56,8 +53,7 @@ Means-same key_and_version key_and_version = refl
 Means-same extra_and_version extra_and_version = refl
 
 Means-moved : {left left' right right' : Value} {operator operator' : MarkerOperator} {m : Meaning} → left ≡ left' → operator ≡ operator' → right ≡ right' → Means left operator right m → Means left' operator' right' m
-Means-moved {left} {left'} {right} {right'} {operator} {operator'} {m} e f g h =
-    subst (λ (x : Value). Means left' operator' x m) g (subst (λ (x : MarkerOperator). Means left' x right m) f (subst (λ (x : Value). Means x operator right m) e h))
+Means-moved h1 h2 h3 h4 = grind arith
 
 -- two derivations at one place leave the same and say the same
 pub compared_same : {i o p : List ℕ} {m n : Meaning} → Compared i o m → Compared i p n → (o ≡ p) × (m ≡ n)
@@ -67,10 +63,7 @@ compared_same (compared d means) (compared d' means') =
 
 -- a text without two sides at its front has no comparison there
 pub no_comparison : {i : List ℕ} → ((output : List ℕ) (left right : Value) (operator : MarkerOperator) → Sides i output left operator right → ⊥) → HasNoComparison i
-no_comparison h = record { no_sides = h; no_compared = λ o m c. from_none h c }
-  where
-    from_none : {i o : List ℕ} {m : Meaning} → ((output : List ℕ) (left right : Value) (operator : MarkerOperator) → Sides i output left operator right → ⊥) → Compared i o m → ⊥
-    from_none none (compared d means) = none _ _ _ _ d
+no_comparison h1 = grind arith
 
 -- what is read, from its parts
 pub reads_comparison : {text rest : List ℕ} {left right : Value} {operator : MarkerOperator} {old new : List MarkerWarningKind} (outcome : Outcome) → Sides (chars text) (chars rest) left operator right → Means left operator right (meaning_of outcome) → new ≡ old ++ outcome.kinds.items → ReadsComparison text rest outcome.expression old new

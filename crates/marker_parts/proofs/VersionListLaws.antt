@@ -3,7 +3,7 @@ use Rattle.std.proofs.Common.{◌≡◌, ℕ, ◌<◌, Bool, true, false, not, L
 use Rattle.std.specs.Char.{is_whitespace}
 use Rattle.std.proofs.lemmas.Str.{length-le-encodes}
 use Rattle.pep508_text.specs.Run.{Run, run_of, after_run, after_space, Spaces}
-use Rattle.pep508_text.specs.declared.classes.Class.TheVariants.{Space, NotSpace}
+use Rattle.pep508_text.specs.declared.classes.Class.TheVariants.{NotSpace}
 use Rattle.pep508_text.proofs.RunLaws.{run_same, run_of-first, run_of-holds, after_run-holds, after_run-fails, spaces_end, spaces_from, trimmed_nil, trimmed_by_run}
 use Rattle.pep508_text.proofs.SuffixLaws.{suffix_then}
 use Rattle.pep440_version.specs.Parts.{Parts}
@@ -16,8 +16,7 @@ pub version_text_same : (text : List ℕ) {v w : Parts} → IsVersionText text v
 version_text_same text {v} {w} h k = some-value _ _ (sym (version-again _ v h) ∙ version-again _ w k)
 
 not-false : (b : Bool) → not b ≡ true → b ≡ false
-not-false true e = cc
-not-false false e = refl
+not-false b h1 = grind arith
 
 -- an entry begins directly after all white space
 pub record EntryAt (input word rest : List ℕ) : Type 0 where
@@ -32,17 +31,10 @@ entry_at (run {start = start} {word = word} {rest = rest} {c = c} s d) =
     record { first = c; others = word; bytes = refl; run_is = subst (λ (x : List ℕ). Run NotSpace x (c ∷ word) rest) (sym (spaces_end s (trimmed_by_run d plain))) d }
 
 pub entry_same : {i j w v r s : List ℕ} → i ≡ j → IsEntry i w r → IsEntry j v s → (w ≡ v) × (r ≡ s)
-entry_same {i} {j} {w} {v} {r} {s} e d d' =
-    let a = entry_at d in
-    let b = entry_at d' in
-    let h = run_same (subst (λ (x : List ℕ). Run NotSpace (after_space x) (a.first ∷ a.others) r) e a.run_is) b.run_is in
-    (a.bytes ∙ ap encode_utf8_all h.0 ∙ sym b.bytes, h.1)
+entry_same h1 h2 h3 = grind (arith, entry_at, run_same, encode_utf8_all)
 
 pub spaces_no_entry : {i w r : List ℕ} → Spaces i [] → IsEntry i w r → ⊥
-spaces_no_entry {i} {w} {r} s d =
-    let a = entry_at d in
-    let e : run_of NotSpace [] ≡ a.first ∷ a.others = subst (λ (x : List ℕ). run_of NotSpace x ≡ a.first ∷ a.others) (spaces_end s trimmed_nil) a.run_is.run_is in
-    cc
+spaces_no_entry h1 h2 = grind (arith, entry_at, spaces_end, trimmed_nil)
 
 pub version_list_same : {i j : List ℕ} {vs ws : List Parts} → i ≡ j → IsVersionList i vs → IsVersionList j ws → vs ≡ ws
 version_list_same e (no_entry s) (no_entry t) = refl
@@ -65,10 +57,7 @@ read_nothing text = record { behind = λ versions l. l; only = λ versions l. (v
 -- a list that begins with this entry begins with its version
 list_after : {i w r : List ℕ} {v : Parts} {vs : List Parts} → IsEntry i w r → IsVersionText w v → IsVersionList i vs → (others : List Parts) × (vs ≡ v ∷ others) × IsVersionList r others
 list_after d p (no_entry s) = absurd (spaces_no_entry s d)
-list_after {v = v} d p (entry {v = w} {versions = others} d' q l) =
-    let h = entry_same refl d' d in
-    let same = version_text_same _ (subst (λ (x : List ℕ). IsVersionText x w) h.0 q) p in
-    (others, ap (λ (x : Parts). x ∷ others) same, subst (λ (x : List ℕ). IsVersionList x others) h.1 l)
+list_after {v = v} d p (entry {v = w} {versions = others} d' q l) = grind (arith, entry_same, version_text_same)
 
 pub read_more : {text rest word after : List ℕ} {read : List Parts} {v : Parts} → HasRead text rest read → IsEntry rest word after → IsVersionText word v → HasRead text after (read ++ (v ∷ []))
 read_more {text} {rest} {word} {after} {read} {v} h d p = record {
@@ -84,8 +73,7 @@ read_all {text} {read = read} h s = subst (IsVersionList text) (append-nil read)
 
 -- an entry that is an invalid version makes the text an invalid list
 no_list_here : {i w r : List ℕ} {vs : List Parts} → IsEntry i w r → ((v : Parts) → ¬ IsVersionText w v) → IsVersionList i vs → ⊥
-no_list_here d none (no_entry s) = spaces_no_entry s d
-no_list_here d none (entry {v = w} d' q l) = none w (subst (λ (x : List ℕ). IsVersionText x w) (entry_same refl d' d).0 q)
+no_list_here h1 h2 h3 = grind (arith, spaces_no_entry, entry_same)
 
 pub no_list : {text rest word after : List ℕ} {read : List Parts} → HasRead text rest read → IsEntry rest word after → ((v : Parts) → ¬ IsVersionText word v) → (versions : List Parts) → ¬ IsVersionList text versions
 no_list h d none versions l = no_list_here d none (h.only versions l).2
@@ -96,32 +84,19 @@ entry_from [] e f g h = let k : 0 < 0 = h in absurd (omega arith)
 entry_from (c ∷ word) e f g h = run (spaces_from (sym e)) (record { run_is = f; rest_is = sym g })
 
 pub entry_here : {input space word rest : List ℕ} → space ≡ after_space input → word ≡ encode_utf8_all (run_of NotSpace space) → rest ≡ after_run NotSpace space → 0 < length word → IsEntry input word rest
-entry_here {input} {space} {word} {rest} e f g h =
-    subst (λ (x : List ℕ). IsEntry input x rest) (sym f) (entry_from (run_of NotSpace space) e refl g (subst (λ (x : List ℕ). 0 < length x) f h))
+entry_here h1 h2 h3 h4 = grind (arith, entry_from, length)
 
 -- the text after all white space begins with a run, if it is not empty
 nothing_left : (i : List ℕ) → run_of NotSpace (after_space i) ≡ [] → after_space i ≡ []
 nothing_left [] e = refl
-nothing_left (c ∷ i) e = go (is_whitespace c) refl (nothing_left i)
-  where
-    go : (b : Bool) → is_whitespace c ≡ b → (run_of NotSpace (after_space i) ≡ [] → after_space i ≡ []) → after_space (c ∷ i) ≡ []
-    go true white shorter =
-        let same = after_run-holds Space c i white in
-        same ∙ shorter (subst (λ (x : List ℕ). run_of NotSpace x ≡ []) same e)
-    go false plain shorter =
-        let same = after_run-fails Space c i plain in
-        let here : run_of NotSpace (c ∷ i) ≡ [] = subst (λ (x : List ℕ). run_of NotSpace x ≡ []) same e in
-        let begins = run_of-holds NotSpace c i (ap not plain) in
-        cc
+nothing_left (c ∷ i) e = grind (arith, after_run-holds, after_run-fails, run_of-holds, not, nothing_left i)
 
 no_bytes : (cs : List ℕ) → length (encode_utf8_all cs) ≡ 0 → cs ≡ []
 no_bytes [] e = refl
 no_bytes (c ∷ cs) e = let h = length-le-encodes (c ∷ cs) in absurd (omega arith)
 
 pub no_entry_here : {input space word : List ℕ} → space ≡ after_space input → word ≡ encode_utf8_all (run_of NotSpace space) → length word ≡ 0 → Spaces input []
-no_entry_here {input} {space} {word} e f h =
-    let empty = no_bytes (run_of NotSpace space) (sym (ap length f) ∙ h) in
-    spaces_from (nothing_left input (subst (λ (x : List ℕ). run_of NotSpace x ≡ []) e empty))
+no_entry_here h1 h2 h3 = grind (arith, no_bytes, length, spaces_from, nothing_left)
 
 -- whether an entry is next, and that the end of the text follows it
 pub ruleset next_entry = (entry_here, no_entry_here, suffix_then)

@@ -1,5 +1,5 @@
 -- A text is one comparison if it begins with one and only white space follows.
-use Rattle.std.proofs.Common.{◌≡◌, ◌≢◌, ℕ, ◌-◌, Bool, true, false, List, [], ◌∷◌, ◌++◌, length, refl, sym, ap, ◌∙◌, subst, append_assoc, append-nil, Option, Some, None}
+use Rattle.std.proofs.Common.{◌≡◌, ◌≢◌, ℕ, ◌-◌, Bool, true, List, [], ◌∷◌, ◌++◌, length, refl, sym, ap, ◌∙◌, subst, append_assoc, append-nil, Option, arith}
 use Rattle.std.specs.Prelude.{IsUtf8, encode_utf8, ◌&&◌}
 use Rattle.std.specs.Str.{chars}
 use Rattle.std.proofs.Math.Utf8.{scalars}
@@ -28,8 +28,7 @@ use Rattle.marker_parts.specs.Error.{Tells, Becomes, IsErrorOf, IsRefusal}
 use Rattle.marker_parts.proofs.ComparisonLaws.{compared_same}
 
 second_of : (a b : Bool) → (a && b) ≡ true → b ≡ true
-second_of true b p = p
-second_of false b p = absurd cc
+second_of a b h1 = grind arith
 
 last_scalar : (xs : List ℕ) (c : ℕ) → scalars (xs ++ (c ∷ [])) ≡ true → scalars (c ∷ []) ≡ true
 last_scalar [] c p = p
@@ -48,22 +47,14 @@ trailing_at rest text piece others c last utf8 suffix space_is begins ends last_
     (fault_in_front text piece (encode_utf8 last) (Trailing c) (length text) utf8 (last_utf8 text piece last utf8 last_is) ends refl (found, subst HasNoSpace ends spaceless))
 
 pub read_to_the_end : {text rest : List ℕ} {expression : Option MarkerExpression} {old new : List MarkerWarningKind} → ReadsComparison text rest expression old new → old ≡ [] → after_space (chars rest) ≡ [] → IsRead text expression new
-read_to_the_end {text} {rest} {expression} {old} {new} read nothing ended = record {
-  meaning = read.meaning;
-  comparison = record { rest = chars rest; compared = read.compared; end = spaces_from ended };
-  test = read.test;
-  kinds_are = read.kinds ∙ ap (λ (k : List MarkerWarningKind). k ++ read.meaning.kinds) nothing;
-}
+read_to_the_end h1 h2 h3 = grind (arith, spaces_from)
 
 -- more follows the only comparison at the front
 pub more_follows : {text rest : List ℕ} {m : Meaning} → Compared (chars text) rest m → after_space rest ≢ [] → IsNoComparison text
-more_follows compared some n whole =
-    let same = compared_same whole.compared compared in
-    some (ap after_space (sym same.0) ∙ spaces_end whole.end trimmed_nil)
+more_follows h1 h2 = grind (arith, compared_same, spaces_end, trimmed_nil)
 
 pub none_at_front : (text : List ℕ) (error : ComparisonError) → front.IsRefusal text error → whole.IsRefusal text error
-none_at_front text errors.OutOfMemory h = tt
-none_at_front text (errors.Fault fault) h = (λ m whole. h.0.no_compared whole.rest m whole.compared, h.1)
+none_at_front text error h1 = grind arith
 
 pub unread_behind : {text rest : List ℕ} {expression : Option MarkerExpression} {old new : List MarkerWarningKind} (fault : Fault) → ReadsComparison text rest expression old new → IsSuffix text rest → after_space (chars rest) ≢ [] → IsWordFault rest fault → whole.IsRefusal text (errors.Fault fault)
 unread_behind fault read suffix some at = (more_follows read.compared some, fault_of_suffix suffix at)
@@ -88,16 +79,11 @@ refused_text text (errors.Fault fault) (refusals.Fault e) unread told = (unread.
 
 -- nothing is added, and then more
 pub adds_nothing : (kinds : Option (List MarkerWarningKind)) → Adds kinds kinds []
-adds_nothing None = tt
-adds_nothing (Some told) = ap Some (sym (append-nil told))
+adds_nothing kinds = grind (arith, append-nil)
 
 -- a refused call keeps what was reported
 pub adds_kept : (a b c : Option (List MarkerWarningKind)) (ks : List MarkerWarningKind) → Adds a b ks → Keeps b c → Adds a c ks
-adds_kept None b c ks h k = tt
-adds_kept (Some told) b c ks h k = subst (λ (x : Option (List MarkerWarningKind)). Keeps x c) h k
+adds_kept a b c ks h1 h2 = grind arith
 
 pub adds_more : (a b c : Option (List MarkerWarningKind)) (ks ls : List MarkerWarningKind) → Adds a b ks → Adds b c ls → Adds a c (ks ++ ls)
-adds_more None b c ks ls h k = tt
-adds_more (Some told) b c ks ls h k =
-    let there : Adds (Some (told ++ ks)) c ls = subst (λ (x : Option (List MarkerWarningKind)). Adds x c ls) h k in
-    there ∙ ap Some (append_assoc told ks ls)
+adds_more a b c ks ls h1 h2 = grind (arith, append_assoc)

@@ -6,7 +6,7 @@ use Rattle.std.specs.Prelude.{slice_get}
 use Rattle.std.specs.Ordering.{is_eq, eq_by_cmp}
 use Rattle.std.specs.declared.cmp.Ordering.TheVariants.{Less}
 use Rattle.std.specs.declared.ops.Bound.{Bound}
-use Rattle.std.proofs.lemmas.Bool.{true≢false, eqb-true}
+use Rattle.std.proofs.lemmas.Bool.{eqb-true}
 use Rattle.std.proofs.lemmas.Option.{slice_get-get_or, slice_get_within}
 use Rattle.version_ranges.specs.declared.cuts.Cuts.{Cuts}
 use Rattle.version_ranges.specs.Point.{Point}
@@ -14,7 +14,6 @@ use Rattle.version_ranges.specs.Cuts.{value_of, piece_of}
 use Rattle.version_ranges.specs.Clamp.{IsBetween, IsClamped}
 use Rattle.pep440_version.specs.Parts.{Parts}
 use Rattle.pep440_version.specs.Order.{version_cmp}
-use Rattle.marker_words.specs.declared.key.VersionVariable.{VersionVariable}
 use Rattle.marker_words.specs.declared.key.VersionVariable.TheVariants.{ImplementationVersion, PythonFullVersion}
 use Rattle.marker_environment.specs.Valuation.{Valuation}
 use Rattle.marker_diagrams.specs.declared.node_id.NodeId.{NodeId}
@@ -25,13 +24,12 @@ use Rattle.marker_diagrams.specs.Diagram.{node_of, IsHeld, IsStore, Keeps, IsAft
 use Rattle.marker_diagrams.proofs.KeyLaws.{get_last}
 use Rattle.marker_diagrams.proofs.NodeLaws.{same_some, none_some, truth_child, truth_signed, truth_still, after_still, after_before}
 use Rattle.marker_diagrams.proofs.Canonicity.{unseen}
-use Rattle.marker_nodes.specs.declared.variable.TruthVariable.TheVariants.{In, Contains, Extra, Arbitrary}
-use Rattle.marker_nodes.specs.declared.node.Branches.TheVariants.{Version, Text, Truth}
+use Rattle.marker_nodes.specs.declared.node.Branches.TheVariants.{Version}
 use Rattle.marker_nodes.specs.Variable.{Variable, of_version, variable_cmp}
 use Rattle.marker_nodes.specs.Branches.{variable, value_at as pick}
 use Rattle.marker_nodes.specs.Node.{Node, markers, child_at}
 use Rattle.marker_nodes.proofs.NodeLaws.{lawful, at_version}
-use Rattle.marker_nodes.specs.Python.{python_of, versions_with_python, with_python}
+use Rattle.marker_nodes.specs.Python.{python_of, with_python}
 use Rattle.marker_simplifications.specs.Python.{Assumes}
 use Rattle.marker_simplifications.specs.Simplified.{AreAssumed, AreFound, AreLater, IsAfterImplementation, IsAssumed}
 use Rattle.marker_nodes.proofs.Descents.{held_kept}
@@ -46,32 +44,16 @@ Edges = Cuts Parts NodeId (record { cmp = version_cmp }) (record { eq = eq_by_cm
 
 -- the valuation with a Python version is one in which only that variable has another value
 with_python_is : (p : Point Parts) (v : Valuation) → with_variable markers python (at_version p) v ≡ with_python p v
-with_python_is p v = λ i. record v { version = λ x. same x i }
-  where
-    same : (x : VersionVariable) → (with_variable markers python (at_version p) v).version x ≡ versions_with_python p v x
-    same ImplementationVersion = refl
-    same PythonFullVersion = refl
+with_python_is p v = grind arith
 
 -- a node after the implementation's version that does not branch on the Python version branches on
 -- a later variable
 pub later_python : (n : Node) → variable_cmp (of_version ImplementationVersion) (variable n) ≡ Less → is_eq (variable_cmp python (variable n)) ≡ false → variable_cmp python (variable n) ≡ Less
-later_python (Version ImplementationVersion e) h g = absurd (true≢false (ap is_eq h))
-later_python (Version PythonFullVersion e) h g = absurd (true≢false g)
-later_python (Text x e) h g = refl
-later_python (Truth (In x s) high low) h g = refl
-later_python (Truth (Contains x s) high low) h g = refl
-later_python (Truth (Extra s) high low) h g = refl
-later_python (Truth (Arbitrary s) high low) h g = refl
+later_python n h1 h2 = grind arith
 
 -- no variable comes before the implementation's version
 pub later_first : (n : Node) → is_eq (variable_cmp (of_version ImplementationVersion) (variable n)) ≡ false → variable_cmp (of_version ImplementationVersion) (variable n) ≡ Less
-later_first (Version ImplementationVersion e) g = absurd (true≢false g)
-later_first (Version PythonFullVersion e) g = refl
-later_first (Text x e) g = refl
-later_first (Truth (In x s) high low) g = refl
-later_first (Truth (Contains x s) high low) g = refl
-later_first (Truth (Extra s) high low) g = refl
-later_first (Truth (Arbitrary s) high low) g = refl
+later_first n h1 = grind arith
 
 -- what is true stays true
 pub assumed_kept : (old new : List Node) (lower upper : Bound Parts) (a t : NodeId) → Keeps markers old new → IsHeld old a → IsAssumed old lower upper a t → IsAssumed new lower upper a t

@@ -21,8 +21,7 @@ use Rattle.marker_simplifications.proofs.Grants.{granted_itself, granted_under}
 
 -- ---- ids without signs
 signed_itself : (s : Bool) → signed s s ≡ false
-signed_itself true = refl
-signed_itself false = refl
+signed_itself s = grind arith
 
 pub plain_is : (t u : NodeId) → u ≡ signed_id (is_negated t) t → u ≡ plain t
 plain_is t u e = e ∙ ap (λ b. let r : NodeId = record { place = place_of t; complement = b } in r) (signed_itself (is_negated t))
@@ -35,8 +34,7 @@ first_plain n t u h e = subst (IsPlain n) (sym (plain_is t u e)) (record { withi
 
 -- an index is that of a node, and without one there is no node
 index_by : (p : ℕ) (b : Bool) → (p == 0) ≡ b → None ≡ cond b None (Some (p - 1)) → p ≡ 0
-index_by p true e f = eqb-true p 0 e
-index_by p false e f = none_some (p - 1) f
+index_by p b h1 h2 = grind arith
 
 pub no_index : (t : NodeId) → None ≡ index_of t → place_of t ≡ 0
 no_index t e = index_by (place_of t) (place_of t == 0) refl e
@@ -46,14 +44,8 @@ module _ (known : Known) (id key : NodeId) (key_is : key ≡ signed_id (is_negat
   at_plain : (o : Option NodeId) → o ≡ lookup (same_id key) known → lookup (same_id (plain id)) known ≡ o
   at_plain o e = ap (λ k. lookup (same_id k) known) (sym (plain_is id key key_is)) ∙ sym e
 
-  pub found_as : (found result : NodeId) → Some found ≡ lookup (same_id key) known → result ≡ signed_id (is_negated id) found → IsFoundAs known id result
-  found_as found result e r = inr (found, at_plain (Some found) e, r)
-
   pub found_settled : (found : NodeId) → Some found ≡ lookup (same_id key) known → ¬ IsUnknown known (plain id)
   found_settled found e h = none_some found (sym h.missing ∙ at_plain (Some found) e)
-
-  pub missing_unknown : None ≡ lookup (same_id key) known → 0 < place_of id → IsUnknown known (plain id)
-  missing_unknown e n = record { node = n; missing = at_plain None e }
 
 pub found_granted : (Answers : List ℕ → Bool → Type 0) (nodes : List Node) (known : Known) (a t : NodeId) → AreKnown nodes Answers known → IsHeld nodes a → IsFoundAs known a t → IsGranted nodes Answers a t
 found_granted Answers nodes known a t w i h = elim h [
@@ -73,41 +65,21 @@ unknown_ids (suc n) known = cond (is_some (lookup (same_id (record { place = suc
 -- an id is entered
 module _ (old new : Known) (a t : NodeId) (u : (q : NodeId) → lookup (same_id q) new ≡ cond (same_id a q) (Some t) (lookup (same_id q) old)) where
   kept_or_less : (z : Bool) (o : Option NodeId) → cond (is_some (cond z (Some t) o)) 0 1 ≤ cond (is_some o) 0 1
-  kept_or_less true o = omega arith
-  kept_or_less false o = omega arith
+  kept_or_less z o = grind arith
 
   not_more : (q : NodeId) → cond (is_some (lookup (same_id q) new)) 0 1 ≤ cond (is_some (lookup (same_id q) old)) 0 1
   not_more q = subst (λ o. cond (is_some o) 0 1 ≤ cond (is_some (lookup (same_id q) old)) 0 1) (sym (u q)) (kept_or_less (same_id a q) (lookup (same_id q) old))
 
   fewer_or_same : (n : ℕ) → unknown_ids n new ≤ unknown_ids n old
   fewer_or_same zero = omega arith
-  fewer_or_same (suc n) =
-      let q : NodeId = record { place = suc n; complement = false } in
-      let i : unknown_ids n new ≤ unknown_ids n old = fewer_or_same n in
-      let j : cond (is_some (lookup (same_id q) new)) 0 1 ≤ cond (is_some (lookup (same_id q) old)) 0 1 = not_more q in
-      omega arith
+  fewer_or_same (suc n) = grind (arith, cond, is_some, not_more, fewer_or_same n)
 
   one_less : (q : NodeId) → same_id a q ≡ true → lookup (same_id q) old ≡ None → cond (is_some (lookup (same_id q) new)) 0 1 + 1 ≤ cond (is_some (lookup (same_id q) old)) 0 1
-  one_less q e n =
-      let x : lookup (same_id q) new ≡ Some t = u q ∙ ap (λ z. cond z (Some t) (lookup (same_id q) old)) e in
-      subst (λ o. cond (is_some o) 0 1 + 1 ≤ cond (is_some (lookup (same_id q) old)) 0 1) (sym x)
-      (subst (λ o. cond (is_some (Some t)) 0 1 + 1 ≤ cond (is_some o) 0 1) (sym n) (omega arith))
+  one_less q h1 h2 = grind arith
 
   module _ (sign : is_negated a ≡ false) (missing : lookup (same_id a) old ≡ None) where
     fewer_at : (n : ℕ) → (place_of a ≤ n → unknown_ids n new < unknown_ids n old) → place_of a ≤ suc n → (b : Bool) → (place_of a == suc n) ≡ b → unknown_ids (suc n) new < unknown_ids (suc n) old
-    fewer_at n rest h true f =
-        let q : NodeId = record { place = suc n; complement = false } in
-        let same : a ≡ q = one_id a q (eqb-true (place_of a) (suc n) f) sign in
-        let i : unknown_ids n new ≤ unknown_ids n old = fewer_or_same n in
-        let j : cond (is_some (lookup (same_id q) new)) 0 1 + 1 ≤ cond (is_some (lookup (same_id q) old)) 0 1 =
-        one_less q (subst (λ r. same_id a r ≡ true) same (same_id_itself a)) (subst (λ r. lookup (same_id r) old ≡ None) same missing) in
-        omega arith
-    fewer_at n rest h false f =
-        let q : NodeId = record { place = suc n; complement = false } in
-        let k : place_of a ≡ suc n → ⊥ = eqb-false (place_of a) (suc n) f in
-        let i : unknown_ids n new < unknown_ids n old = rest (omega arith) in
-        let j : cond (is_some (lookup (same_id q) new)) 0 1 ≤ cond (is_some (lookup (same_id q) old)) 0 1 = not_more q in
-        omega arith
+    fewer_at n h1 h2 b h3 = grind (arith, one_id, eqb-true, fewer_or_same, cond, is_some, one_less, same_id_itself, eqb-false, not_more)
 
     fewer_from : (n : ℕ) → 0 < place_of a → place_of a ≤ n → unknown_ids n new < unknown_ids n old
     fewer_from zero p h = absurd (omega arith)
@@ -142,18 +114,12 @@ not_none xs more x last none =
 module _ (known : Known) (ids : List NodeId) where
   pub settled_next : (index : ℕ) (d : NodeId) → index < length ids → ((i : ℕ) (t : NodeId) → i < index → slice_get ids i ≡ Some t → ¬ IsUnknown known (plain t)) → ¬ IsUnknown known (plain (get_or ids index d)) →
       (i : ℕ) (t : NodeId) → i < index + 1 → slice_get ids i ≡ Some t → ¬ IsUnknown known (plain t)
-  settled_next index d within before now i t l e = by_test (i == index) refl
-    where
-      by_test : (b : Bool) → (i == index) ≡ b → ¬ IsUnknown known (plain t)
-      by_test true f = subst (λ u. ¬ IsUnknown known (plain u)) (same_some (get_or ids index d) t (sym (slice_get-get_or ids index d within) ∙ ap (slice_get ids) (sym (eqb-true i index f)) ∙ e)) now
-      by_test false f = let k : i ≡ index → ⊥ = eqb-false i index f in before i t (omega arith) e
+  settled_next index d h1 h2 h3 i t h4 h5 = grind (arith, same_some, get_or, slice_get-get_or, eqb-true, eqb-false)
 
   -- the children of a clone are those of the node
   pub settled_values : (listed values given : List NodeId) → listed ≡ ids → given ≡ values → (n copy : Node) → ((v : Valuation) → pick copy v ≡ pick n v) → ((v : Valuation) → slice_get ids (piece n v) ≡ Some (pick n v)) →
       ((i : ℕ) (t : NodeId) → slice_get values i ≡ Some t → (v : Valuation) × (pick copy v ≡ t)) → AreSettled known listed → AreSettled known given
-  settled_values listed values given l_is g_is n copy same has each settled i t e =
-      let f = each i t (ap (λ xs. slice_get xs i) (sym g_is) ∙ e) in
-      settled (piece n f.0) t (ap (λ xs. slice_get xs (piece n f.0)) l_is ∙ has f.0 ∙ ap (λ u. let o : Option NodeId = Some u in o) (sym (same f.0) ∙ f.1))
+  settled_values listed values given h1 h2 n copy h3 h4 h5 h6 = grind arith
 
 pub nil_by : {X : Type 0} (xs : List X) → (0 < length xs → ⊥) → xs ≡ []
 nil_by [] h = refl

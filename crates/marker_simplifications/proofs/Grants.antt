@@ -1,45 +1,33 @@
 -- Ids with extras set true.
-use Rattle.std.proofs.Common.{◌≡◌, ℕ, ◌<◌, Bool, true, false, cond, ◌||◌, List, [], length, Some, None, Result, Ok, Err, refl, sym, ap, ◌∙◌, subst, arith}
-use Rattle.std.specs.Prelude.{slice_get, IfOk, String}
-use Rattle.std.specs.Global.{Global}
+use Rattle.std.proofs.Common.{◌≡◌, ℕ, ◌<◌, Bool, true, false, cond, List, [], length, Some, None, Result, Ok, Err, refl, sym, ap, ◌∙◌, subst, arith}
+use Rattle.std.specs.Prelude.{slice_get, IfOk}
 use Rattle.std.specs.Map.{lookup}
 use Rattle.std.specs.declared.alloc.AllocError.{AllocError}
 use Rattle.std.specs.declared.cmp.Ordering.TheVariants.{Less}
-use Rattle.std.proofs.lemmas.Bool.{false≢true}
 use Rattle.std.proofs.lemmas.Option.{slice_get-get_or, slice_get_within}
-use Rattle.version_ranges.specs.declared.cuts.Cuts.{Cuts}
 use Rattle.marker_environment.specs.Valuation.{Valuation}
 use Rattle.marker_diagrams.specs.declared.node_id.NodeId.{NodeId}
-use Rattle.marker_diagrams.specs.declared.node_id.TheConstants.NodeId.{TRUE, FALSE}
+use Rattle.marker_diagrams.specs.declared.node_id.TheConstants.NodeId.{TRUE}
 use Rattle.marker_diagrams.specs.Id.{place_of, is_negated, signed, signed_id, same_id}
 use Rattle.marker_diagrams.specs.Diagram.{node_of, IsHeld, IsStore, Keeps, IsAfter, IsChoice, AreChildren, truth}
 use Rattle.marker_diagrams.proofs.IdLaws.{same_id_is, signed_id_undone}
 use Rattle.marker_diagrams.proofs.NodeLaws.{none_some, same_some, truth_child, truth_signed, truth_still, after_still, after_before}
 use Rattle.marker_nodes.specs.declared.variable.TruthVariable.{TruthVariable}
-use Rattle.marker_nodes.specs.declared.variable.TruthVariable.TheVariants.{In, Contains, Extra, Arbitrary}
-use Rattle.marker_nodes.specs.declared.node.Branches.TheVariants.{Version, Text, Truth}
-use Rattle.marker_nodes.specs.Variable.{Variable, answer, variable_cmp}
+use Rattle.marker_nodes.specs.declared.node.Branches.TheVariants.{Truth}
+use Rattle.marker_nodes.specs.Variable.{Variable, variable_cmp}
 use Rattle.marker_nodes.specs.Branches.{variable, value_at as pick}
 use Rattle.marker_nodes.specs.Node.{Node, markers, child_at, lowest}
 use Rattle.marker_nodes.proofs.NodeLaws.{high_picked}
 use Rattle.marker_nodes.proofs.VariableLaws.{variable_total}
-use Rattle.pep440_version.specs.Parts.{Parts}
-use Rattle.marker_words.specs.declared.key.TextVariable.{TextVariable}
-use Rattle.marker_words.specs.declared.key.VersionVariable.{VersionVariable}
 use Rattle.marker_simplifications.specs.Extras.{AnswersBy, with_extras}
 use Rattle.marker_simplifications.specs.Simplified.{AreGranted, AreKnown, AreUnder, Grants, HasChildren, IsGranted, IsUntouched, IsTouched}
 use Rattle.marker_nodes.proofs.Descents.{held_kept}
 use Rattle.marker_nodes.proofs.Descents.{end_means}
-use Rattle.marker_nodes.proofs.Firsts.{first_none}
 
 module _ (Answers : List ℕ → Bool → Type 0) where
   -- what is true stays true
   pub granted_kept : (old new : List Node) (a t : NodeId) → Keeps markers old new → IsHeld old a → IsGranted old Answers a t → IsGranted new Answers a t
-  granted_kept old new a t k i h = record {
-    held = held_kept old new t k h.held;
-    means = λ granted fixed v. truth_still markers old new t v k h.held ∙ h.means granted fixed v ∙ sym (truth_still markers old new a (with_extras granted v) k i);
-    after = λ x p. after_still markers old new x t k h.held (h.after x (after_before markers old new x a k i p));
-  }
+  granted_kept old new a t h1 h2 h3 = grind arith
 
   pub known_kept : (old new : List Node) (known : List (NodeId × NodeId)) → Keeps markers old new → AreKnown old Answers known → AreKnown new Answers known
   known_kept old new known k w a t e = let h = w a t e in (held_kept old new a k h.0, granted_kept old new a t k h.0 h.1)
@@ -71,36 +59,13 @@ module _ (Answers : List ℕ → Bool → Type 0) where
   pub granted_itself : (nodes : List Node) (t : NodeId) → IsHeld nodes t → None ≡ node_of nodes t → IsGranted nodes Answers t t
   granted_itself nodes t i e = record { held = i; means = λ granted fixed v. end_means nodes t v e ∙ sym (end_means nodes t (with_extras granted v) e); after = λ x h. h }
 
-  pub granted_true : (nodes : List Node) (t : NodeId) → IsHeld nodes t → t ≡ TRUE → IsGranted nodes Answers t t
-  granted_true nodes t i e = granted_itself nodes t i (first_none nodes ∙ ap (node_of nodes) (sym e))
-
-  pub granted_false : (nodes : List Node) (t : NodeId) → IsHeld nodes t → t ≡ FALSE → IsGranted nodes Answers t t
-  granted_false nodes t i e = granted_itself nodes t i (first_none nodes ∙ ap (node_of nodes) (sym e))
-
   pub nothing_known : (nodes : List Node) → AreKnown nodes Answers []
   nothing_known nodes a t e = none_some t e
 
   -- ---- whether the variable of a node is set to true
-  untouched_truth : (x : TruthVariable) (b : Bool) → Grants Answers x b → b ≡ false → (granted : List ℕ → Bool) → AnswersBy Answers granted → (v : Valuation) → answer x (with_extras granted v) ≡ answer x v
-  untouched_truth (In x s) b h e granted fixed v = refl
-  untouched_truth (Contains x s) b h e granted fixed v = refl
-  untouched_truth (Extra name) b h e granted fixed v = ap (λ z. z || v.extra name) (sym (fixed name b h) ∙ e)
-  untouched_truth (Arbitrary s) b h e granted fixed v = refl
 
   high_answer : (x : TruthVariable) (high low : NodeId) (b : Bool) → Grants Answers x b → b ≡ true → (granted : List ℕ → Bool) → AnswersBy Answers granted → (v : Valuation) → pick (Truth x high low) (with_extras granted v) ≡ high
-  high_answer (In x s) high low b h e granted fixed v = absurd (false≢true (sym h ∙ e))
-  high_answer (Contains x s) high low b h e granted fixed v = absurd (false≢true (sym h ∙ e))
-  high_answer (Extra name) high low b h e granted fixed v = ap (λ z. cond (z || v.extra name) high low) (sym (fixed name b h) ∙ e)
-  high_answer (Arbitrary s) high low b h e granted fixed v = absurd (false≢true (sym h ∙ e))
-
-  pub version_untouched : (n : Node) (x : VersionVariable) (e : Cuts Parts NodeId _ _ _) → n ≡ Version x e → IsUntouched Answers n
-  version_untouched n x e is = subst (IsUntouched Answers) (sym is) (λ granted fixed v. refl)
-
-  pub text_untouched : (n : Node) (x : TextVariable) (e : Cuts (String Global) NodeId _ _ _) → n ≡ Text x e → IsUntouched Answers n
-  text_untouched n x e is = subst (IsUntouched Answers) (sym is) (λ granted fixed v. refl)
-
-  pub truth_untouched : (n : Node) (x : TruthVariable) (high low : NodeId) → n ≡ Truth x high low → (b : Bool) → Grants Answers x b → b ≡ false → IsUntouched Answers n
-  truth_untouched n x high low is b h e = subst (IsUntouched Answers) (sym is) (λ granted fixed v. ap (λ z. cond z high low) (untouched_truth x b h e granted fixed v))
+  high_answer x high low b h1 h2 granted h3 v = grind arith
 
   pub truth_touched : (n : Node) (x : TruthVariable) (high low : NodeId) → n ≡ Truth x high low → (b : Bool) → Grants Answers x b → b ≡ true → IsTouched Answers n high
   truth_touched n x high low is b h e = subst (λ m. IsTouched Answers m high) (sym is) (record { picks = high_answer x high low b h e; some = (lowest, high_picked x high low) })
@@ -118,9 +83,7 @@ module _ (old : List Node) (store : IsStore markers old) (t : NodeId) (held : Is
 
   -- children are below
   pub are_under : (ids given : List NodeId) → given ≡ ids → ((i : ℕ) (u : NodeId) → slice_get ids i ≡ Some u → (v : Valuation) × (child v ≡ u)) → AreUnder old t given
-  are_under ids given e found i u f =
-      let q = found i u (ap (λ l. slice_get l i) (sym e) ∙ f) in
-      (subst (IsHeld old) q.1 (child_held q.0), subst (λ s. place_of s < place_of t) q.1 (child_below q.0))
+  are_under ids given h1 h2 = grind arith
 
   -- a variable that comes before those of the id
   before : (y : Variable) → IsAfter markers old y t → variable_cmp y x ≡ Less
@@ -135,13 +98,7 @@ module _ (old : List Node) (store : IsStore markers old) (t : NodeId) (held : Is
   -- a node whose children stay the same with extras set true stays the same
   pub granted_unchanged : (Answers : List ℕ → Bool → Type 0) → ((v : Valuation) → IsGranted old Answers (child v) (child v)) → ((granted : List ℕ → Bool) → AnswersBy Answers granted → (v : Valuation) → child (with_extras granted v) ≡ child v) →
       IsGranted old Answers t t
-  granted_unchanged Answers each same = record {
-    held = held;
-    means = λ granted fixed v.
-        let u = with_extras granted v in
-        plain_means v ∙ (each v).means granted fixed v ∙ ap (λ c. truth markers old c u) (sym (same granted fixed v)) ∙ sym (plain_means u);
-    after = λ y p. p;
-  }
+  granted_unchanged Answers h1 h2 = grind (arith, plain_means)
 
   module _ (Answers : List ℕ → Bool → Type 0) (new : List Node) (k : Keeps markers old new) where
     -- for an extra that is set to true, the result of the child for true
@@ -161,23 +118,12 @@ module _ (old : List Node) (store : IsStore markers old) (t : NodeId) (held : Is
     module _ (made : Valuation → NodeId) (each : (v : Valuation) → IsGranted new Answers (child v) (made v)) where
       -- what was made of the children may be the children of a node
       pub granted_children : AreChildren markers new x made
-      granted_children = record {
-        held = λ v. (each v).held;
-        after = λ v. (each v).after x (after_still markers old new x (child v) k (child_held v) (child_after v));
-      }
+      granted_children = grind (arith, after_still, child_held, child_after)
 
       -- and the choice among them is the id with extras set true
       pub granted_placed : (last : List Node) → Keeps markers new last → ((granted : List ℕ → Bool) → AnswersBy Answers granted → (v : Valuation) → child (with_extras granted v) ≡ child v) →
           (r : Result NodeId AllocError) → IfOk r (IsChoice markers last x made) → IfOk r (IsGranted last Answers t)
-      granted_placed last l same (Ok s) choice = record {
-        held = choice.held;
-        means = λ granted fixed v.
-            let u = with_extras granted v in
-            choice.means v ∙ truth_still markers new last (made v) v l ((each v).held) ∙ (each v).means granted fixed v ∙ truth_still markers old new (child v) u k (child_held v)
-            ∙ ap (λ c. truth markers old c u) (sym (same granted fixed v)) ∙ sym (plain_means u) ∙ sym (truth_still markers old new t u k held) ∙ sym (truth_still markers new last t u l (held_kept old new t k held));
-        after = λ y p. choice.after y (before y (after_before markers old new y t k held (after_before markers new last y t l (held_kept old new t k held) p)));
-      }
-      granted_placed last l same (Err z) choice = choice
+      granted_placed last h1 h2 r h3 = grind (arith, truth_still, child_held, plain_means, held_kept, before, after_before)
 
     -- the same if the children are listed, by an index
     module _ (ids given made : List NodeId) (given_is : given ≡ ids) (len : length made ≡ length given) (done : AreGranted new Answers given made) (index : Valuation → ℕ)
@@ -201,11 +147,7 @@ module _ (old : List Node) (store : IsStore markers old) (t : NodeId) (held : Is
   itself = (n, sym stands, refl, λ v. refl)
 
   pub touched_below : (Answers : List ℕ → Bool → Type 0) (child : NodeId) → IsTouched Answers n child → (place_of child < place_of t) × IsHeld old child
-  touched_below Answers child k =
-      let s = k.some in (
-        subst (λ u. place_of u < place_of t) s.1 (child_below old store t held plain (variable n) (pick n) itself s.0),
-        subst (IsHeld old) s.1 (child_held old store t held plain (variable n) (pick n) itself s.0),
-      )
+  touched_below Answers child h1 = grind arith
 
   pub touched_granted : (Answers : List ℕ → Bool → Type 0) (child : NodeId) → IsTouched Answers n child → (new : List Node) → Keeps markers old new → (r : Result NodeId AllocError) → IfOk r (IsGranted new Answers child) → IfOk r (IsGranted new Answers t)
   touched_granted Answers child k new keeps = granted_high old store t held plain (variable n) (pick n) itself Answers new keeps child k.picks k.some.0 k.some.1

@@ -1,9 +1,9 @@
 -- Truths under a range of Python versions.
-use Rattle.std.proofs.Common.{◌≡◌, Bool, true, false, ◌&&◌, refl, sym, ap, ◌∙◌, subst}
+use Rattle.std.proofs.Common.{◌≡◌, Bool, true, false, ◌&&◌, refl, sym, ap, ◌∙◌, arith}
 use Rattle.std.specs.Ordering.{is_lt, ordering_reverse}
 use Rattle.std.specs.declared.ops.Bound.{Bound}
-use Rattle.std.specs.declared.ops.Bound.TheVariants.{Included, Excluded, Unbounded}
-use Rattle.std.proofs.lemmas.Bool.{and_from, true≢false, false≢true}
+use Rattle.std.specs.declared.ops.Bound.TheVariants.{Unbounded}
+use Rattle.std.proofs.lemmas.Bool.{and_from, true≢false}
 use Rattle.std.proofs.lemmas.Cmp.{tied_itself}
 use Rattle.version_ranges.specs.Point.{Point, bottom, begin_point, point_cmp, point_lt, is_from, is_until, is_in_bounds}
 use Rattle.version_ranges.proofs.StepLaws.{lt_less}
@@ -23,16 +23,10 @@ use Rattle.marker_simplifications.specs.Python.{Assumes, is_python_in, is_whole,
 
 -- a range that leaves nothing out has no bounds
 pub whole_below : (lower upper : Bound Parts) → is_whole lower upper ≡ true → lower ≡ Unbounded
-whole_below Unbounded upper e = refl
-whole_below (Included first) upper e = absurd (false≢true e)
-whole_below (Excluded before) upper e = absurd (false≢true e)
+whole_below lower upper h1 = grind arith
 
 pub whole_above : (lower upper : Bound Parts) → is_whole lower upper ≡ true → upper ≡ Unbounded
-whole_above Unbounded Unbounded e = refl
-whole_above Unbounded (Included last) e = absurd (false≢true e)
-whole_above Unbounded (Excluded end) e = absurd (false≢true e)
-whole_above (Included first) upper e = absurd (false≢true e)
-whole_above (Excluded before) upper e = absurd (false≢true e)
+whole_above lower upper h1 = grind arith
 
 pub not_whole : {G : Type 0} (lower upper : Bound Parts) → is_whole lower upper ≡ false → lower ≡ Unbounded → upper ≡ Unbounded → G
 not_whole lower upper e h k = absurd (true≢false (sym (ap (λ l. is_whole l upper) h ∙ ap (is_whole Unbounded) k) ∙ e))
@@ -47,18 +41,14 @@ unbounded_by f = record {
 }
 
 pub assumes_whole : (lower upper : Bound Parts) → is_whole lower upper ≡ true → (f : Valuation → Bool) → Assumes lower upper f f
-assumes_whole lower upper w f =
-    let e = whole_below lower upper w in
-    let h = whole_above lower upper w in
-    subst (λ l. Assumes l upper f f) (sym e) (subst (λ u. Assumes Unbounded u f f) (sym h) (unbounded_by f))
+assumes_whole lower upper h1 f = grind (arith, whole_below, whole_above, unbounded_by)
 
 -- and each version lies in them
 in_unbounded : (lower upper : Bound Parts) → lower ≡ Unbounded → upper ≡ Unbounded → (v : Valuation) → is_python_in lower upper v ≡ true
 in_unbounded lower upper e h v = ap (λ l. is_in_bounds version_cmp l upper (python_of v)) e ∙ ap (λ u. is_in_bounds version_cmp Unbounded u (python_of v)) h ∙ and_from _ _ (bottom_from version_cmp (python_of v)) refl
 
 and_true : (b : Bool) → (b && true) ≡ b
-and_true true = refl
-and_true false = refl
+and_true b = grind arith
 
 pub required_whole : (lower upper : Bound Parts) → is_whole lower upper ≡ true → (f : Valuation → Bool) (v : Valuation) → f v ≡ require lower upper f v
 required_whole lower upper w f v = sym (ap (λ b. f v && b) (in_unbounded lower upper (whole_below lower upper w) (whole_above lower upper w) v) ∙ and_true (f v))

@@ -1,5 +1,5 @@
 -- Sets of the values of one variable, and the ids that they come from.
-use Rattle.std.proofs.Common.{◌≡◌, ℕ, zero, suc, ◌⊎◌, inl, inr, Bool, true, false, cond, ◌&&◌, List, [], ◌∷◌, ◌++◌, length, Some, slice_get, string_bytes, refl, sym, ap, ◌∙◌, subst}
+use Rattle.std.proofs.Common.{◌≡◌, ℕ, ◌⊎◌, inl, inr, Bool, true, false, cond, ◌&&◌, List, [], ◌∷◌, ◌++◌, length, Some, slice_get, string_bytes, refl, sym, ap, ◌∙◌, arith}
 use Rattle.std.proofs.lemmas.List.{nil_from_length}
 use Rattle.std.specs.Prelude.{String}
 use Rattle.std.specs.Borrow.{Bor}
@@ -7,7 +7,7 @@ use Rattle.std.specs.Global.{Global}
 use Rattle.std.specs.Cmp.Lexicographic.{nat_list_cmp_total}
 use Rattle.std.specs.String.{string_cmp, string_cmp_total}
 use Rattle.std.specs.declared.cmp.Ordering.{Ordering}
-use Rattle.std.proofs.lemmas.Bool.{and_parts, false≢true}
+use Rattle.std.proofs.lemmas.Bool.{and_parts}
 use Rattle.version_ranges.specs.Bounds.{IsCloned, IsKeptByClones, all_bounds, all_cuts, all_sets}
 use Rattle.version_ranges.specs.declared.cuts.Cuts.{Cuts}
 use Rattle.version_ranges.specs.declared.ranges.Ranges.{Ranges}
@@ -26,8 +26,7 @@ use Rattle.marker_diagrams.specs.declared.node_id.NodeId.{NodeId}
 use Rattle.marker_diagrams.specs.declared.node_id.TheConstants.NodeId.{TRUE, FALSE}
 use Rattle.marker_diagrams.specs.Id.{is_negated, opposite, same_id, signed_id}
 use Rattle.marker_diagrams.specs.Diagram.{node_of, truth, IsStore}
-use Rattle.marker_diagrams.proofs.IdLaws.{same_id_is, same_id_itself}
-use Rattle.marker_diagrams.proofs.NodeLaws.{none_some, same_some}
+use Rattle.marker_diagrams.proofs.IdLaws.{same_id_is}
 use Rattle.marker_nodes.specs.Branches.{value_at}
 use Rattle.marker_nodes.specs.Node.{Node, markers}
 use Rattle.marker_nodes.proofs.Descents.{down_means}
@@ -35,13 +34,10 @@ use Rattle.marker_simplifications.proofs.TruthLaws.{constant_means}
 
 -- the two last items of a list, if it has no others
 pub two_left : {Q : Type 0} (old mid rest : List Q) (x y : Q) → old ≡ mid ++ (y ∷ []) → mid ≡ rest ++ (x ∷ []) → length rest ≡ 0 → old ≡ x ∷ y ∷ []
-two_left {Q = Q} old mid rest x y last first none =
-    last ∙ ap (λ (l : List Q). l ++ (y ∷ [])) (first ∙ ap (λ (l : List Q). l ++ (x ∷ [])) (nil_from_length rest none))
+two_left old mid rest x y h1 h2 h3 = grind (arith, nil_from_length)
 
 one_of_two : {Q : Type 0} (x y q : Q) (i : ℕ) → slice_get (x ∷ y ∷ []) i ≡ Some q → (x ≡ q) ⊎ (y ≡ q)
-one_of_two x y q zero e = inl (same_some x q e)
-one_of_two x y q (suc zero) e = inr (same_some y q e)
-one_of_two x y q (suc (suc i)) e = absurd (none_some q e)
+one_of_two x y q i h1 = grind arith
 
 module _ {T : Type 0} {a : _} {b : _} {c : _} {a' : _} {b' : _} {c' : _} (cmp : T → T → Ordering) (edges : Cuts T NodeId a b c) (inside : NodeId) (pairs : List (Bor NodeId × Ranges T a' b' c')) where
   -- each value of a function is an id or its negation
@@ -53,8 +49,7 @@ module _ {T : Type 0} {a : _} {b : _} {c : _} {a' : _} {b' : _} {c' : _} (cmp : 
     inside_set e = sym (same_id_is z.0.now (value_of cmp edges p) (sym (h.sets j z found p) ∙ e)) ∙ is
 
     outside_set : contains_point cmp z.1 p ≡ false → (v : NodeId) → value_of cmp edges p ≡ v → (v ≡ inside) ⊎ (v ≡ opposite inside) → value_of cmp edges p ≡ opposite inside
-    outside_set e v k (inl f) = absurd (false≢true (sym e ∙ h.sets j z found p ∙ ap (same_id z.0.now) (k ∙ f ∙ sym is) ∙ same_id_itself z.0.now))
-    outside_set e v k (inr f) = k ∙ f
+    outside_set h1 v h2 h3 = grind arith
 
     points_by : (s : Bool) → contains_point cmp z.1 p ≡ s → value_of cmp edges p ≡ cond s inside (opposite inside)
     points_by true e = inside_set e
@@ -70,11 +65,7 @@ module _ {T : Type 0} {a : _} {b : _} {c : _} {a' : _} {b' : _} {c' : _} (cmp : 
     at_two i q e = ap (λ (l : List (Bor NodeId × Ranges T a' b' c')). slice_get l i) two ∙ e
 
     of_two : (x.0.now ≡ inside) ⊎ (x.0.now ≡ opposite inside) → (y.0.now ≡ inside) ⊎ (y.0.now ≡ opposite inside) → OneOrOther
-    of_two f g i q e = by_place (one_of_two x y q i (ap (λ (l : List (Bor NodeId × Ranges T a' b' c')). slice_get l i) (sym two) ∙ e))
-      where
-        by_place : (x ≡ q) ⊎ (y ≡ q) → (q.0.now ≡ inside) ⊎ (q.0.now ≡ opposite inside)
-        by_place (inl k) = subst (λ z. (z.0.now ≡ inside) ⊎ (z.0.now ≡ opposite inside)) k f
-        by_place (inr k) = subst (λ z. (z.0.now ≡ inside) ⊎ (z.0.now ≡ opposite inside)) k g
+    of_two h1 h2 = grind arith
 
     -- the set of the first of two values, and of the last one
     pub first_points : x.0.now ≡ inside → y.0.now ≡ opposite inside → (p : Point T) → value_of cmp edges p ≡ cond (contains_point cmp x.1 p) inside (opposite inside)
@@ -97,10 +88,7 @@ module _ {T : Type 0} {a : _} {b : _} {c : _} {a' : _} {b' : _} {c' : _} (C : T 
 
 -- children that are a constant or its negation
 signed_constant : (s b : Bool) → signed_id s (cond b (signed_id s TRUE) (opposite (signed_id s TRUE))) ≡ cond b TRUE FALSE
-signed_constant true true = refl
-signed_constant true false = refl
-signed_constant false true = refl
-signed_constant false false = refl
+signed_constant s b = grind arith
 
 -- a set of texts by the bytes of the texts
 pub text_points : {a : _} {b : _} {c : _} {a' : _} {b' : _} {c' : _} (edges : Cuts (String Global) NodeId a b c) (inside : Cuts (String Global) Bool a' b' c') (t : NodeId) →

@@ -1,8 +1,7 @@
 -- Bounds without zeros at the end of their versions.
-use Rattle.std.proofs.Common.{◌≡◌, Bool, true, not, ◌&&◌, List, refl, ap, ◌∙◌}
+use Rattle.std.proofs.Common.{◌≡◌, Bool, true, not, ◌&&◌, List, refl, ap, ◌∙◌, arith}
 use Rattle.std.specs.Prelude.{Result, Ok, Err, IfOk}
 use Rattle.std.specs.declared.alloc.AllocError.{AllocError}
-use Rattle.std.specs.Ordering.{is_lt}
 use Rattle.std.specs.declared.cmp.Ordering.TheVariants.{Equal}
 use Rattle.std.specs.Range.Bound.{bound_map}
 use Rattle.std.specs.declared.ops.Bound.{Bound}
@@ -37,14 +36,10 @@ above_trimmed : (v : Parts) (p : Point Parts) → point_cmp version_cmp p (above
 above_trimmed v p = alike_right (point_total version_cmp version_total) (above (trimmed_parts v)) (above v) p (trimmed_tied v)
 
 from_trimmed : (bound : Bound Parts) (p : Point Parts) → is_from version_cmp (bound_map trimmed_parts bound) p ≡ is_from version_cmp bound p
-from_trimmed (Included v) p = ap (λ r. not (is_lt r)) (at_trimmed v p)
-from_trimmed (Excluded v) p = ap (λ r. not (is_lt r)) (above_trimmed v p)
-from_trimmed Unbounded p = refl
+from_trimmed bound p = grind (arith, not, at_trimmed, above_trimmed)
 
 until_trimmed : (bound : Bound Parts) (p : Point Parts) → is_until version_cmp (bound_map trimmed_parts bound) p ≡ is_until version_cmp bound p
-until_trimmed (Included v) p = ap is_lt (above_trimmed v p)
-until_trimmed (Excluded v) p = ap is_lt (at_trimmed v p)
-until_trimmed Unbounded p = refl
+until_trimmed bound p = grind (arith, above_trimmed, at_trimmed)
 
 -- a bound without zeros
 pub bound_trimmed : (b : Bound Parts) → passes_at is_trimmed (bound_map trimmed_parts b) ≡ true

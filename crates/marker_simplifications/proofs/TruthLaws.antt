@@ -1,6 +1,6 @@
 -- Ids that are true where a test of valuations is.
-use Rattle.std.proofs.Common.{◌≡◌, ◌<◌, ◌≤◌, ℕ, ◌⊎◌, inl, inr, Bool, true, false, not, cond, List, length, string_bytes, refl, sym, ap, ◌∙◌, subst, arith}
-use Rattle.std.specs.Prelude.{Result, Ok, Err, IfOk, String}
+use Rattle.std.proofs.Common.{◌≡◌, ℕ, ◌⊎◌, Bool, true, not, cond, List, length, string_bytes, refl, sym, ap, ◌∙◌, subst, arith}
+use Rattle.std.specs.Prelude.{Result, IfOk, String}
 use Rattle.std.specs.Global.{Global}
 use Rattle.std.specs.Cmp.Lexicographic.{nat_list_cmp_total}
 use Rattle.std.specs.String.{string_cmp, string_cmp_total}
@@ -35,27 +35,22 @@ use Rattle.marker_simplifications.specs.Expression.{IsInvalid, IsTruthOf}
 use Rattle.marker_nodes.proofs.Firsts.{true_is, false_is}
 
 not_not : (b : Bool) → not (not b) ≡ b
-not_not true = refl
-not_not false = refl
+not_not b = grind arith
 
 -- children that are exchanged
 pub exchanged : (b : Bool) → cond b FALSE TRUE ≡ cond (not b) TRUE FALSE
-exchanged true = refl
-exchanged false = refl
+exchanged b = grind arith
 
 module _ (nodes : List Node) where
   -- the constants are in every list, and depend on nothing
   constant_held : (b : Bool) → IsHeld nodes (cond b TRUE FALSE)
-  constant_held true = omega arith
-  constant_held false = omega arith
+  constant_held b = grind arith
 
   constant_after : (x : Variable) (b : Bool) → IsAfter markers nodes x (cond b TRUE FALSE)
-  constant_after x true n e = let h : (0 < 0) × (0 ≤ length nodes) = node_bounds nodes 0 n e in absurd (omega arith)
-  constant_after x false n e = let h : (0 < 0) × (0 ≤ length nodes) = node_bounds nodes 0 n e in absurd (omega arith)
+  constant_after x b = grind (arith, length, node_bounds)
 
   pub constant_means : (v : Valuation) (b : Bool) → truth markers nodes (cond b TRUE FALSE) v ≡ b
-  constant_means v true = true_is nodes v
-  constant_means v false = false_is nodes v
+  constant_means v b = grind (arith, true_is, false_is)
 
   module _ (x : Variable) (test : Valuation → Bool) (child : Valuation → NodeId) (decided : (v : Valuation) → child v ≡ cond (test v) TRUE FALSE) where
     -- children that are constants may be those of each node
@@ -67,8 +62,7 @@ module _ (nodes : List Node) where
 
     -- and it is true where they are
     pub decided_truth : (r : Result NodeId AllocError) → IfOk r (IsChoice markers nodes x child) → IfOk r (IsTruthOf nodes test)
-    decided_truth (Ok t) c = record { held = c.held; means = λ v. c.means v ∙ ap (λ u. truth markers nodes u v) (decided v) ∙ constant_means v (test v) }
-    decided_truth (Err z) c = c
+    decided_truth r h1 = grind (arith, constant_means)
 
   -- the negation of an id that is true where the test is not
   pub negated_truth : (t : NodeId) (test : Valuation → Bool) → IsTruthOf nodes (λ v. not (test v)) t → IsTruthOf nodes test (opposite t)
@@ -77,14 +71,6 @@ module _ (nodes : List Node) where
   -- the same test
   pub same_truth : (t : NodeId) (test other : Valuation → Bool) → IsTruthOf nodes test t → ((v : Valuation) → test v ≡ other v) → IsTruthOf nodes other t
   same_truth t test other h e = record { held = h.held; means = λ v. h.means v ∙ e v }
-
--- a set of texts as the children of a node
-pub text_decided : {a : _} {b : _} {c : _} {a' : _} {b' : _} {c' : _} (edges : Cuts (String Global) NodeId a b c) (inside : Cuts (String Global) Bool a' b' c') →
-    ((p : Point (String Global)) → same_id (value_of string_cmp edges p) (cond (value_of string_cmp inside p) TRUE FALSE) ≡ true) →
-    (q : Point (List ℕ)) → value_by string_bytes text_cmp edges q ≡ cond (value_by string_bytes text_cmp inside q) TRUE FALSE
-text_decided edges inside h q =
-    same_id_is (value_by string_bytes text_cmp edges q) (cond (value_by string_bytes text_cmp inside q) TRUE FALSE)
-    (at_names string_bytes string_cmp text_cmp string_cmp_total nat_list_cmp_total (λ a b. refl) edges inside inside (λ t i b j u k. same_id t (cond b TRUE FALSE) ≡ true) h q)
 
 pub text_exchanged : {a : _} {b : _} {c : _} {a' : _} {b' : _} {c' : _} (edges : Cuts (String Global) NodeId a b c) (inside : Cuts (String Global) Bool a' b' c') →
     ((p : Point (String Global)) → same_id (value_of string_cmp edges p) (cond (value_of string_cmp inside p) FALSE TRUE) ≡ true) →
@@ -109,9 +95,7 @@ compared_truth nodes t operator key x text inside e h asks plain =
     (λ v. texts_beside operator text inside h (v.text x) ∙ ap (λ y. holds_beside operator (beside text_cmp (v.text y) (string_bytes text))) e ∙ plain v)
 
 unequal : (o : Ordering) → not (is_eq o) ≡ is_ne o
-unequal order.Less = refl
-unequal order.Equal = refl
-unequal order.Greater = refl
+unequal o = grind arith
 
 -- and the negated id of the set of the text alone is that of `!=`
 pub differing_truth : {a : _} {b : _} {c : _} (nodes : List Node) (t : NodeId) (operator : MarkerOperator) (key : MarkerValueString) (x : TextVariable) (text : String Global) (inside : Cuts (String Global) Bool a b c) → operator ≡ NotEqual → x ≡ variable_of key →
@@ -129,11 +113,7 @@ abbrev Orders : MarkerOperator → Type 0
 Orders o = (o ≡ Equal) ⊎ ((o ≡ GreaterThan) ⊎ ((o ≡ GreaterEqual) ⊎ ((o ≡ LessThan) ⊎ (o ≡ LessEqual))))
 
 each_order : (P : MarkerOperator → Type 0) → P Equal → P GreaterThan → P GreaterEqual → P LessThan → P LessEqual → (o : MarkerOperator) → Orders o → P o
-each_order P a c d e f o (inl h) = subst P (sym h) a
-each_order P a c d e f o (inr (inl h)) = subst P (sym h) c
-each_order P a c d e f o (inr (inr (inl h))) = subst P (sym h) d
-each_order P a c d e f o (inr (inr (inr (inl h)))) = subst P (sym h) e
-each_order P a c d e f o (inr (inr (inr (inr h)))) = subst P (sym h) f
+each_order P h1 h2 h3 h4 h5 o h6 = grind arith
 
 pub order_holds : (o : MarkerOperator) → Orders o → (key : MarkerValueString) (value : List ℕ) (v : Valuation) → holds_beside o (beside text_cmp (v.text (variable_of key)) value) ≡ holds_text o key value v
 order_holds o h key value v = each_order (λ p. holds_beside p (beside text_cmp (v.text (variable_of key)) value) ≡ holds_text p key value v) refl refl refl refl refl o h

@@ -1,9 +1,9 @@
 -- A truth depends on a variable exactly where a subtree's node asks about it.
-use Rattle.std.proofs.Common.{◌≡◌, ◌≢◌, ℕ, Bool, true, false, cond, List, Option, Some, None, refl, sym, ap, ◌∙◌}
+use Rattle.std.proofs.Common.{◌≡◌, ◌≢◌, Bool, true, false, cond, List, Option, Some, None, refl, sym, ap, ◌∙◌, arith}
 use Rattle.std.specs.Ordering.{is_eq, is_lt, ordering_reverse}
 use Rattle.std.specs.declared.cmp.Ordering.{Ordering}
 use Rattle.std.specs.declared.cmp.Ordering.TheVariants.{Less, Equal, Greater}
-use Rattle.std.proofs.lemmas.Bool.{true≢false, false≢true}
+use Rattle.std.proofs.lemmas.Bool.{true≢false}
 use Rattle.marker_diagrams.specs.declared.node_id.NodeId.{NodeId}
 use Rattle.marker_diagrams.specs.Id.{signed, place_of, is_negated}
 use Rattle.marker_diagrams.specs.Diagram.{NodeKind, node_of, IsHeld, truth, with_variable, IsLawful, IsStore}
@@ -13,30 +13,21 @@ use Rattle.marker_diagrams.proofs.Canonicity.{descends, unseen}
 use Rattle.marker_diagrams.proofs.ResidueLaws.{before, subtree_kept, is_residue, each_residue, depends, sees_none_before}
 
 equal_is : (r : Ordering) → is_eq r ≡ true → r ≡ Equal
-equal_is Less e = absurd (false≢true e)
-equal_is Equal e = refl
-equal_is Greater e = absurd (false≢true e)
+equal_is r h1 = grind arith
 
 -- two choices of which at most one is made
 either_first : {A : Type 0} (b e : Bool) (p q r : A) → (e ≡ true → b ≡ false) → cond b p (cond e q r) ≡ cond e q (cond b p r)
-either_first true true p q r h = absurd (true≢false (h refl))
-either_first true false p q r h = refl
-either_first false e p q r h = refl
+either_first b e p q r h1 = grind arith
 
 -- a choice that is made already
 held_before : {A : Type 0} (b e : Bool) (q r : A) → (e ≡ true → b ≡ false) → cond b r (cond e q r) ≡ cond e q r
-held_before true true q r h = absurd (true≢false (h refl))
-held_before true false q r h = refl
-held_before false e q r h = refl
+held_before b e q r h1 = grind arith
 
 same_choice : {A : Type 0} (b : Bool) (r : A) → cond b r r ≡ r
-same_choice true r = refl
-same_choice false r = refl
+same_choice b r = grind arith
 
 first_choice : {A : Type 0} (b e : Bool) (p q r : A) → (e ≡ true → b ≡ true) → cond b p (cond e q r) ≡ cond b p r
-first_choice true e p q r h = refl
-first_choice false true p q r h = absurd (false≢true (h refl))
-first_choice false false p q r h = refl
+first_choice b e p q r h1 = grind arith
 
 module _ {N X V : Type 0} (kind : NodeKind N X V) (laws : IsLawful kind) (nodes : List N) (store : IsStore kind nodes) where
   -- equal variables come before the same ones
@@ -74,17 +65,7 @@ module _ {N X V : Type 0} (kind : NodeKind N X V) (laws : IsLawful kind) (nodes 
 
   -- what is set is not before itself
   set_after : (t : NodeId) (x : X) (v w : V) → truth kind nodes t (hold kind x w (with_variable kind x v w)) ≡ truth kind nodes t (with_variable kind x v w)
-  set_after t x v w = ap (signed (is_negated t)) (truth_alike kind nodes (place_of t) (hold kind x w (with_variable kind x v w)) (with_variable kind x v w) picks)
-    where
-      not_before : (y : X) → is_eq (kind.cmp x y) ≡ true → before kind laws y x ≡ false
-      not_before y e = ap is_lt (laws.total.antisymm y x ∙ ap ordering_reverse (equal_is (kind.cmp x y) e))
-
-      picks : (m : N) → kind.pick m (hold kind x w (with_variable kind x v w)) ≡ kind.pick m (with_variable kind x v w)
-      picks m =
-          laws.own m (λ y. is_lt (kind.cmp y x)) w (with_variable kind x v w)
-          ∙ ap (cond (before kind laws (kind.variable m) x) (kind.pick m w)) (laws.own m (λ y. is_eq (kind.cmp x y)) v w)
-          ∙ held_before (before kind laws (kind.variable m) x) (is_eq (kind.cmp x (kind.variable m))) (kind.pick m v) (kind.pick m w) (not_before (kind.variable m))
-          ∙ sym (laws.own m (λ y. is_eq (kind.cmp x y)) v w)
+  set_after t x v w = grind (arith, truth_alike, before, equal_is, cond, held_before)
 
   held_itself : (t : NodeId) (x : X) (w : V) → truth kind nodes t (hold kind x w w) ≡ truth kind nodes t w
   held_itself t x w = ap (signed (is_negated t)) (truth_alike kind nodes (place_of t) (hold kind x w w) w (λ m. laws.own m (λ y. is_lt (kind.cmp y x)) w w ∙ same_choice (before kind laws (kind.variable m) x) (kind.pick m w)))

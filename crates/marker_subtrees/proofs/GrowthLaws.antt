@@ -1,8 +1,8 @@
 -- Lists of ids without repetitions that grow at their end.
-use Rattle.std.proofs.Common.{◌≡◌, ℕ, zero, suc, ◌+◌, ◌<◌, ◌≤◌, Bool, true, false, cond, ◌||◌, List, [], ◌∷◌, ◌++◌, length, Some, None, ◌⊎◌, inl, inr, refl, sym, ap, subst, ◌∙◌, arith, length-append}
+use Rattle.std.proofs.Common.{◌≡◌, ℕ, zero, suc, ◌+◌, ◌<◌, ◌≤◌, Bool, true, false, cond, ◌||◌, List, [], ◌∷◌, ◌++◌, length, Some, ◌⊎◌, inl, inr, refl, sym, ap, subst, ◌∙◌, arith, length-append}
 use Rattle.std.specs.Prelude.{slice_get, if◌then◌else◌}
 use Rattle.std.specs.List.{list_any}
-use Rattle.std.proofs.lemmas.Bool.{true≢false, false≢true, eqb-true, eqb-false, eq-eqb, ne_eqb}
+use Rattle.std.proofs.lemmas.Bool.{true≢false, false≢true, eqb-true, eq-eqb, ne_eqb}
 use Rattle.std.proofs.lemmas.Option.{slice_get_within}
 use lib.Dec.{eqb}
 use Rattle.marker_diagrams.specs.declared.node_id.NodeId.{NodeId}
@@ -29,8 +29,7 @@ found_at x [] e = absurd (false≢true e)
 found_at x (y ∷ ids) e = found_by x y ids e (found_at x ids) (same_id x y) refl
 
 missing_by : (x y : NodeId) (ids : List NodeId) → list_any (same_id x) (y ∷ ids) ≡ false → (b : Bool) → same_id x y ≡ b → list_any (same_id x) ids ≡ false
-missing_by x y ids e true g = absurd (true≢false (sym (ap (λ b. b || list_any (same_id x) ids) g) ∙ e))
-missing_by x y ids e false g = sym (ap (λ b. b || list_any (same_id x) ids) g) ∙ e
+missing_by x y ids h1 b h2 = grind arith
 
 missing_at : (x : NodeId) (ids : List NodeId) → list_any (same_id x) ids ≡ false → (i : ℕ) → slice_get ids i ≡ Some x → ⊥
 missing_at x [] e i f = none_some x f

@@ -1,5 +1,5 @@
 -- Keys that the nodes of subtrees ask about, and keys that a truth depends on.
-use Rattle.std.proofs.Common.{◌≡◌, ℕ, zero, suc, ◌+◌, ◌<◌, Bool, true, false, List, Some, ◌⊎◌, inl, inr, get_or, refl, sym, ap, subst, ◌∙◌, arith}
+use Rattle.std.proofs.Common.{◌≡◌, ℕ, ◌+◌, ◌<◌, List, Some, ◌⊎◌, get_or, sym, ap, ◌∙◌, arith}
 use Rattle.std.specs.Prelude.{slice_get}
 use Rattle.std.proofs.lemmas.Option.{get_or_from_slice_get}
 use Rattle.marker_diagrams.specs.declared.node_id.NodeId.{NodeId}
@@ -28,15 +28,9 @@ missing_key nodes id ids key store held exact none d =
     none p.0 a.subtree p.1 (a.node, a.has, sym (ap (is_about key) (one_variable d.0 (variable a.node) a.asks)) ∙ d.1)
 
 less_or : (k i : ℕ) → k < i + 1 → (k < i) ⊎ (k ≡ i)
-less_or zero zero l = inr refl
-less_or zero (suc i) l = inl (omega arith)
-less_or (suc k) zero l = absurd (omega arith)
-less_or (suc k) (suc i) l = elim (less_or k i (omega arith)) [ inl h ↦ inl (omega arith) | inr h ↦ inr (ap suc h) ]
+less_or k i h1 = grind arith
 
 -- what is true of none before an index, and not at it, is true of none up to it
 pub none_up_to : (ids : List NodeId) (index : ℕ) (d : NodeId) (P : NodeId → Type 0) → (P (get_or ids index d) → ⊥) → ((i : ℕ) (u : NodeId) → i < index → slice_get ids i ≡ Some u → P u → ⊥) →
     (i : ℕ) (u : NodeId) → i < index + 1 → slice_get ids i ≡ Some u → P u → ⊥
-none_up_to ids index d P here before i u l e p = elim (less_or i index l) [
-  | inl h ↦ before i u h e p
-  | inr h ↦ here (subst P (sym (get_or_from_slice_get ids index u d (ap (slice_get ids) (sym h) ∙ e))) p)
-]
+none_up_to ids index d P h1 h2 i u h3 h4 h5 = grind (arith, less_or, get_or_from_slice_get)

@@ -1,6 +1,6 @@
 -- The walk over the subtrees of an id.
-use Rattle.std.proofs.Common.{◌≡◌, ℕ, zero, suc, ◌+◌, ◌<◌, ◌≤◌, Bool, true, false, List, [], ◌∷◌, length, Option, Some, None, ◌⊎◌, inl, inr, refl, sym, ap, subst, ◌∙◌, arith}
-use Rattle.std.specs.Prelude.{slice_get, Result, Ok, Err, OnOk}
+use Rattle.std.proofs.Common.{◌≡◌, ℕ, zero, suc, ◌+◌, ◌<◌, ◌≤◌, List, [], ◌∷◌, length, Option, Some, None, ◌⊎◌, inl, inr, refl, sym, ap, subst, ◌∙◌, arith}
+use Rattle.std.specs.Prelude.{slice_get, Result, OnOk}
 use Rattle.std.proofs.lemmas.Option.{slice_get_within}
 use Rattle.marker_environment.specs.Valuation.{Valuation}
 use Rattle.marker_diagrams.specs.declared.node_id.NodeId.{NodeId}
@@ -14,10 +14,7 @@ use Rattle.marker_subtrees.specs.Subtrees.{Has, IsOnce, child_at, AddsChildren, 
 use Rattle.marker_subtrees.proofs.GrowthLaws.{Grows}
 
 less_or : (k i : ℕ) → k < i + 1 → (k < i) ⊎ (k ≡ i)
-less_or zero zero l = inr refl
-less_or zero (suc i) l = inl (omega arith)
-less_or (suc k) zero l = absurd (omega arith)
-less_or (suc k) (suc i) l = elim (less_or k i (omega arith)) [ inl h ↦ inl (omega arith) | inr h ↦ inr (ap suc h) ]
+less_or k i h1 = grind arith
 
 past : (ids : List NodeId) (i : ℕ) → i < length ids → slice_get ids i ≡ None → ⊥
 past [] i l g = omega arith
@@ -31,18 +28,11 @@ end_past (x ∷ ids) zero e = none_some x (sym e)
 end_past (x ∷ ids) (suc i) e = let l : length ids ≤ i = end_past ids i e in omega arith
 
 pub on_ok : {T E A B : Type 0} (r : Result T E) → OnOk r A → (A → B) → OnOk r B
-on_ok (Ok x) a f = f a
-on_ok (Err e) a f = tt
+on_ok r h1 h2 = grind arith
 
 -- ---- the children of one node
 pub adds_none : (parent : NodeId) (children old : List NodeId) → AddsFirst parent children 0 old old
-adds_none parent children old = record {
-  longer = omega arith;
-  stays = λ i id e. e;
-  each = λ i id e. inl (i, e);
-  some = λ k c l e. absurd (omega arith);
-  once = λ o. o;
-}
+adds_none parent children old = grind arith
 
 pub adds_one : (parent : NodeId) (children : List NodeId) (index : ℕ) (old new newer : List NodeId) (x c : NodeId) → x ≡ signed_id (is_negated parent) c →
     slice_get children index ≡ Some c → Grows new x newer →

@@ -1,5 +1,5 @@
 -- The first extra of a clause, and of each clause.
-use Rattle.std.proofs.Common.{◌≡◌, ℕ, zero, suc, ◌+◌, ◌<◌, ◌≤◌, List, [], ◌∷◌, length, get_or, take, drop, Some, None, refl, sym, ap, ◌∙◌, subst, arith}
+use Rattle.std.proofs.Common.{◌≡◌, ℕ, zero, suc, ◌+◌, ◌<◌, ◌≤◌, List, [], ◌∷◌, length, get_or, take, drop, Some, None, refl, sym, ap, ◌∙◌, arith}
 use Rattle.std.specs.Prelude.{Vec}
 use Rattle.std.specs.List.{AllByRecursion}
 use Rattle.marker_parts.specs.declared.expression.MarkerExpression.{MarkerExpression}
@@ -29,12 +29,7 @@ module _ {A : Type 0} (x : Extra) where
   pub each_more : (cs : List (Vec MarkerExpression A)) (i : ℕ) (c : Vec MarkerExpression A) → i < length cs → c ≡ get_or cs i c → EachHas (take i cs) → first_extra c.items ≡ Some x → EachHas (take (i + 1) cs)
   each_more [] i c l e h f = absurd (omega arith)
   each_more (d ∷ cs) zero c l e h f = (ap (λ y. first_extra y.items) (sym e) ∙ f, tt)
-  each_more (d ∷ cs) (suc i) c l e h f =
-      let n : suc (i + 1) ≡ suc i + 1 = omega arith in
-      subst (λ k. EachHas (take k (d ∷ cs))) n (more (each_more cs i c (omega arith) e h.1 f))
-    where
-      more : EachHas (take (i + 1) cs) → EachHas (take (suc (i + 1)) (d ∷ cs))
-      more g = (h.0, g)
+  each_more (d ∷ cs) (suc i) c l e h f = grind (arith, take, each_more cs i c)
 
   pub each_at : (cs : List (Vec MarkerExpression A)) (i : ℕ) (c : Vec MarkerExpression A) → i < length cs → c ≡ get_or cs i c → EachHas cs → first_extra c.items ≡ Some x
   each_at [] i c l e h = absurd (omega arith)
@@ -44,6 +39,4 @@ module _ {A : Type 0} (x : Extra) where
   -- the first clause and another one have a common extra
   pub common_at : (clauses others : List (Vec MarkerExpression A)) (first other : Vec MarkerExpression A) (i : ℕ) → clauses ≡ first ∷ others → i < length others → other ≡ get_or others i other →
       HasCommonExtra (clauses_of clauses) x → (first_extra first.items ≡ Some x) × (first_extra other.items ≡ Some x)
-  common_at clauses others first other i e l is h =
-      let all : EachHas (first ∷ others) = subst EachHas e h.1 in
-      (all.0, each_at others i other l is all.1)
+  common_at clauses others first other i h1 h2 h3 h4 = grind (arith, each_at)

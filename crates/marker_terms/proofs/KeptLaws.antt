@@ -1,6 +1,6 @@
 -- A clause whose terms are checked one after another: those that are kept come first.
-use Rattle.std.proofs.Common.{◌≡◌, ◌⊎◌, inl, inr, ℕ, ◌+◌, ◌<◌, ◌≤◌, ◌++◌, true, false, ◌||◌, List, [], ◌∷◌, Some, length, get_or, set, take, drop, sym, ap, subst, ◌∙◌, arith}
-use Rattle.std.specs.Prelude.{◌==◌, slice_get}
+use Rattle.std.proofs.Common.{◌≡◌, ◌⊎◌, inl, inr, ℕ, ◌+◌, ◌<◌, ◌≤◌, ◌++◌, true, false, List, [], ◌∷◌, Some, length, get_or, set, take, drop, sym, ap, subst, ◌∙◌, arith}
+use Rattle.std.specs.Prelude.{slice_get}
 use Rattle.std.specs.List.{swap}
 use Rattle.std.proofs.lemmas.Bool.{or_left, or_right, or_cases, cases_order, cond-true, cond-false}
 use Rattle.std.proofs.lemmas.List.{append_assoc, drop_more, drop-set-lt, set-set, take-set-le, take_more_set}
@@ -32,18 +32,11 @@ module _ {X : Type 0} where
 
   -- and what is after it
   drop_swapped : (xs : List X) (k i : ℕ) (d : X) → i < length xs → k ≤ i → drop (i + 1) (swap xs k i) ≡ drop (i + 1) xs
-  drop_swapped xs k i d l le =
-      ap (drop (i + 1)) (sym (swap_is xs k i d (omega arith) l))
-      ∙ drop-set-lt (i + 1) (set xs k (get_or xs i d)) i (get_or xs k d) (omega arith)
-      ∙ drop-set-lt (i + 1) xs k (get_or xs i d) (omega arith)
+  drop_swapped xs k i d h1 h2 = grind (arith, drop, swap_is, drop-set-lt, set, get_or)
 
 -- one term less
 has_fewer : (kept rest : List NumberedTerm) (t : NumberedTerm) (n : ℕ) → has_number number_of n (kept ++ rest) ≡ true → has_number number_of n (kept ++ t ∷ rest) ≡ true
-has_fewer kept rest t n h = list_any-append (λ s. number_of s == n) kept (t ∷ rest) ∙ by_case (or_cases _ _ (sym (list_any-append (λ s. number_of s == n) kept rest) ∙ h))
-  where
-    by_case : (has_number number_of n kept ≡ true) ⊎ (has_number number_of n rest ≡ true) → (has_number number_of n kept || has_number number_of n (t ∷ rest)) ≡ true
-    by_case (inl q) = or_left _ _ q
-    by_case (inr q) = or_right _ _ (or_right _ _ q)
+has_fewer kept rest t n h1 = grind (arith, list_any-append, or_cases, or_left, or_right)
 
 -- what is known of the terms before one that is judged
 pub record IsJudged (e : Endings) (others : List (List NumberedTerm)) (result : List NumberedTerm) (places : List ℕ) (clause : List NumberedTerm) (kept index : ℕ) : Type 0 where

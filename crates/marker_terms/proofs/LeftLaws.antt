@@ -29,8 +29,7 @@ module _ {A : Type 0} (p : List NumberedTerm → Bool) where
   none_left (Some v ∷ clauses) f = or_from _ _ (f zero v.items refl) (none_left clauses (λ j c e. f (suc j) c e))
 
   pub any_there : (clauses : List (Option (Vec NumberedTerm A))) (j : ℕ) (o : Option (List NumberedTerm)) → clause_at clauses j ≡ o → option_map_or p o false ≡ true → list_any p (left_of clauses) ≡ true
-  any_there clauses j None e h = cc
-  any_there clauses j (Some c) e h = any_left clauses j c e h
+  any_there clauses j o h1 h2 = grind (arith, any_left)
 
 module _ {A : Type 0} where
   -- the clause at a place that is set, and those at others
@@ -53,16 +52,12 @@ module _ {A : Type 0} where
 
   -- the clause that a list of one has
   left_one : (o : Option (Vec NumberedTerm A)) (t : Option (List NumberedTerm)) → terms_of o ≡ t → left_of (o ∷ []) ≡ option_to_list t
-  left_one None None e = refl
-  left_one None (Some c) e = cc
-  left_one (Some v) None e = cc
-  left_one (Some v) (Some c) e = ap (λ d. d ∷ []) (same_Some v.items c e)
+  left_one o t h1 = grind arith
 
   module _ (judge : List (List NumberedTerm) → List NumberedTerm → Option (List NumberedTerm)) where
     -- the clauses before a place are done, and the clause at it is judged
     step : (done : List (List NumberedTerm)) (o v : Option (Vec NumberedTerm A)) (rest : List (Option (Vec NumberedTerm A))) → terms_of v ≡ option_and_then (judge (done ++ left_of rest)) (terms_of o) → judged judge done (left_of (o ∷ rest)) ≡ judged judge (done ++ left_of (v ∷ [])) (left_of rest)
-    step done None v rest e = ap (λ d. judged judge d (left_of rest)) (sym (append-nil done) ∙ ap (λ d. done ++ d) (sym (left_one v None e)))
-    step done (Some c) v rest e = ap (λ d. judged judge (done ++ d) (left_of rest)) (sym (left_one v (judge (done ++ left_of rest) c.items) e))
+    step done o v rest h1 = grind (arith, append-nil, left_one)
 
     pub judged_more : (old new : List (Option (Vec NumberedTerm A))) (i : ℕ) → i < length old → IsJudged judge old new i → judged judge (left_of (take (i + 1) new)) (left_of (drop (i + 1) new)) ≡ judged judge (left_of (take i old)) (left_of (drop i old))
     judged_more [] new i l j = absurd (omega arith)
@@ -86,20 +81,12 @@ module _ {A : Type 0} where
     -- the clause at a place is taken, judged, and put back
     pub judged_back : (old : List (Option (Vec NumberedTerm A))) (i : ℕ) (o n : Option (Vec NumberedTerm A)) (v : Option (Vec NumberedTerm A)) → i < length old → (r : Option (Vec NumberedTerm A)) → o ≡ r → r ≡ get_or old i r → n ≡ None
         → terms_of v ≡ option_and_then (judge (left_of (set old i n))) (terms_of o) → IsJudged judge old (set (set old i n) i v) i
-    judged_back old i o n v l r f g q h = record {
-      clause = v;
-      clauses = set-set old i n v;
-      terms = h ∙ ap (λ m. option_and_then (judge (left_of (set old i m))) (terms_of o)) q ∙ ap (option_and_then (judge (left_of (set old i None)))) (ap terms_of (f ∙ g) ∙ sym (clause_there old i r l));
-    }
+    judged_back old i o n v h1 r h2 h3 h4 h5 = grind (arith, set-set, set, clause_there)
 
     -- or stays out
     pub judged_out : (old : List (Option (Vec NumberedTerm A))) (i : ℕ) (o n : Option (Vec NumberedTerm A)) → i < length old → (r : Option (Vec NumberedTerm A)) → o ≡ r → r ≡ get_or old i r → n ≡ None
         → None ≡ option_and_then (judge (left_of (set old i n))) (terms_of o) → IsJudged judge old (set old i n) i
-    judged_out old i o n l r f g q h = record {
-      clause = None;
-      clauses = ap (set old i) q;
-      terms = h ∙ ap (λ m. option_and_then (judge (left_of (set old i m))) (terms_of o)) q ∙ ap (option_and_then (judge (left_of (set old i None)))) (ap terms_of (f ∙ g) ∙ sym (clause_there old i r l));
-    }
+    judged_out old i o n h1 r h2 h3 h4 h5 = grind (arith, set, clause_there)
 
   module _ (e later : Endings) (grown : (c : List NumberedTerm) (j : ℕ) → Lists e c j → Lists later c j) where
     -- the other clauses are listed as they were

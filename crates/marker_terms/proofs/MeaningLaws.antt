@@ -1,5 +1,5 @@
 -- A reduced disjunction means what it meant.
-use Rattle.std.proofs.Common.{◌≡◌, ◌⊎◌, inl, inr, ℕ, Bool, true, false, not, ◌||◌, ◌&&◌, ◌++◌, List, [], ◌∷◌, Option, Some, None, bit_xor, cond, refl, sym, ap, ◌∙◌}
+use Rattle.std.proofs.Common.{◌≡◌, ◌⊎◌, inl, inr, ℕ, Bool, true, false, not, ◌||◌, ◌&&◌, ◌++◌, List, [], ◌∷◌, Option, Some, None, bit_xor, cond, refl, sym, ap, ◌∙◌, arith}
 use Rattle.std.specs.Prelude.{◌==◌}
 use Rattle.std.specs.List.{list_all, list_any, AllByRecursion}
 use Rattle.std.specs.Option.{option_to_list}
@@ -130,16 +130,7 @@ module _ {X : Type 0} (number : X → ℕ) where
     fair_clauses others clause = by_case (is_spare number others clause) refl
       where
         by_case : (b : Bool) → is_spare number others clause ≡ b → (any_holds (option_to_list (needed number others clause)) || any_holds others) ≡ (all_hold clause || any_holds others)
-        by_case true e =
-            ap (λ o. any_holds (option_to_list o) || any_holds others) (cond-true _ None (Some clause) e)
-            ∙ iff_same _ _ (λ h. or_right _ _ h) (λ h. told (or_cases _ _ h))
-          where
-            told : (all_hold clause ≡ true) ⊎ (any_holds others ≡ true) → any_holds others ≡ true
-            told (inl a) = spare others clause e a
-            told (inr o) = o
-        by_case false e =
-            ap (λ o. any_holds (option_to_list o) || any_holds others) (cond-false _ None (Some clause) e)
-            ∙ ap (λ b. b || any_holds others) (or_false (all_hold clause))
+        by_case b h1 = grind (arith, cond-true, iff_same, or_right, or_cases, spare, cond-false, or_false)
 
     swap_or : (a b c : Bool) → (a || (b || c)) ≡ (b || (a || c))
     swap_or false b c = refl

@@ -50,10 +50,7 @@ got_more (x ∷ old) more zero l = refl
 got_more (x ∷ old) more (suc i) l = got_more old more i (omega arith)
 
 pub numbered_more : (old new : List MarkerExpression) (n : ℕ) (term : MarkerExpression) → Extends old new → IsNumbered old n term → IsNumbered new n term
-numbered_more old new n term (more, e) i = subst (λ x. IsNumbered x n term) (sym e) record {
-  within = let l : length (old ++ more) ≡ length old + length more = length-append old more in omega (arith, i.within);
-  means = λ v. i.means v ∙ ap (λ o. cond (n % 2 == 0) (option_map_or (λ (s : MarkerExpression). term_holds s v) o false) (not (option_map_or (λ (s : MarkerExpression). term_holds s v) o false))) (sym (got_more old more (n / 2) i.within));
-}
+numbered_more old new n term h1 h2 = grind (arith, length, length-append, cond, not, got_more)
 
 pub all_more : (old new : List MarkerExpression) (terms : List NumberedTerm) → Extends old new → AreNumbered old terms → AreNumbered new terms
 all_more old new [] e a = tt
@@ -65,9 +62,6 @@ each_more old new (c ∷ clauses) e a = (all_more old new c e a.0, each_more old
 
 pub extends_more : (a b c : List MarkerExpression) → Extends a b → Extends b c → Extends a c
 extends_more a b c (x, e) (y, f) = (x ++ y, f ∙ ap (λ z. z ++ y) e ∙ append_assoc a x y)
-
-pub extends_itself : (a : List MarkerExpression) → Extends a a
-extends_itself a = ([], sym (append-nil a))
 
 pub push_numbered : (names : List MarkerExpression) (terms : List NumberedTerm) (t : NumberedTerm) → AreNumbered names terms → IsNumbered names t.number t.expression → AreNumbered names (terms ++ t ∷ [])
 push_numbered names [] t a i = (i, tt)

@@ -13,11 +13,7 @@ module _ {A : Type 0} where
 
   -- and another list in its place
   pub places_set : (lists : List (Vec ℕ A)) (n : ℕ) (v : Vec ℕ A) → n < length lists → get_or (map (λ (x : Vec ℕ A). x.items) (set lists n v)) n [] ≡ v.items
-  places_set lists n v l =
-      ap (λ ys. get_or ys n []) (map-set (λ (x : Vec ℕ A). x.items) lists n v)
-      ∙ get_or-set_same (map (λ (x : Vec ℕ A). x.items) lists) n v.items [] (let m : length (map (λ (x : Vec ℕ A). x.items) lists) ≡ length lists = length-map lists (λ (x : Vec ℕ A). x.items) in omega arith)
+  places_set lists n v h1 = grind (arith, get_or, map-set, get_or-set_same, map, length, length-map)
 
   pub places_other : (lists : List (Vec ℕ A)) (n k : ℕ) (v : Vec ℕ A) → k ≢ n → get_or (map (λ (x : Vec ℕ A). x.items) (set lists n v)) k [] ≡ get_or (map (λ (x : Vec ℕ A). x.items) lists) k []
-  places_other lists n k v ne =
-      ap (λ ys. get_or ys k []) (map-set (λ (x : Vec ℕ A). x.items) lists n v)
-      ∙ get_or-set_other (map (λ (x : Vec ℕ A). x.items) lists) n k v.items [] ne
+  places_other lists n k v h1 = grind (arith, get_or, map-set, get_or-set_other, map)

@@ -1,5 +1,5 @@
 -- Comparisons of versions that say the same, or the opposite.
-use Rattle.std.proofs.Common.{◌≡◌, ◌<◌, ℕ, Bool, true, false, not, List, length, Some, refl, sym, ap, ◌∙◌}
+use Rattle.std.proofs.Common.{◌≡◌, ◌<◌, ℕ, Bool, true, not, List, length, Some, sym, ap, ◌∙◌, arith}
 use Rattle.std.specs.Ordering.{eq_by_cmp, nat_cmp, ordering_then}
 use Rattle.std.specs.Cmp.{Equal-is, nat_cmp_total, tied_itself}
 use Rattle.std.specs.declared.cmp.Ordering.TheVariants.{Equal}
@@ -40,50 +40,11 @@ module _ (s t : Specifier) (some : 0 < length s.version.release) (other : 0 < le
   equal_hold e PythonVersion p = pythons s t ((Equal-is (specifier_cmp s t)).0 e) some other p
 
 not_not : (a b : Bool) → a ≡ not b → b ≡ not a
-not_not true true e = e
-not_not false true e = refl
-not_not true false e = refl
-not_not false false e = e
+not_not a b h1 = grind arith
 
 -- the number of release numbers counts for the operator of a negation if it does for the operator
 counted_alike : (o n : Operator) (k l : ℕ) → negated o ≡ Some n → (is_star o ≡ true → k ≡ l) → counted_of n k ≡ counted_of n l
-counted_alike o operators.Equal k l e h = refl
-counted_alike o operators.ExactEqual k l e h = refl
-counted_alike o operators.NotEqual k l e h = refl
-counted_alike o operators.LessThan k l e h = refl
-counted_alike o operators.LessThanEqual k l e h = refl
-counted_alike o operators.GreaterThan k l e h = refl
-counted_alike o operators.GreaterThanEqual k l e h = refl
-counted_alike operators.Equal operators.EqualStar k l e h = cc
-counted_alike operators.EqualStar operators.EqualStar k l e h = cc
-counted_alike operators.ExactEqual operators.EqualStar k l e h = cc
-counted_alike operators.NotEqual operators.EqualStar k l e h = cc
-counted_alike operators.NotEqualStar operators.EqualStar k l e h = h refl
-counted_alike operators.TildeEqual operators.EqualStar k l e h = cc
-counted_alike operators.LessThan operators.EqualStar k l e h = cc
-counted_alike operators.LessThanEqual operators.EqualStar k l e h = cc
-counted_alike operators.GreaterThan operators.EqualStar k l e h = cc
-counted_alike operators.GreaterThanEqual operators.EqualStar k l e h = cc
-counted_alike operators.Equal operators.NotEqualStar k l e h = cc
-counted_alike operators.EqualStar operators.NotEqualStar k l e h = h refl
-counted_alike operators.ExactEqual operators.NotEqualStar k l e h = cc
-counted_alike operators.NotEqual operators.NotEqualStar k l e h = cc
-counted_alike operators.NotEqualStar operators.NotEqualStar k l e h = cc
-counted_alike operators.TildeEqual operators.NotEqualStar k l e h = cc
-counted_alike operators.LessThan operators.NotEqualStar k l e h = cc
-counted_alike operators.LessThanEqual operators.NotEqualStar k l e h = cc
-counted_alike operators.GreaterThan operators.NotEqualStar k l e h = cc
-counted_alike operators.GreaterThanEqual operators.NotEqualStar k l e h = cc
-counted_alike operators.Equal operators.TildeEqual k l e h = cc
-counted_alike operators.EqualStar operators.TildeEqual k l e h = cc
-counted_alike operators.ExactEqual operators.TildeEqual k l e h = cc
-counted_alike operators.NotEqual operators.TildeEqual k l e h = cc
-counted_alike operators.NotEqualStar operators.TildeEqual k l e h = cc
-counted_alike operators.TildeEqual operators.TildeEqual k l e h = cc
-counted_alike operators.LessThan operators.TildeEqual k l e h = cc
-counted_alike operators.LessThanEqual operators.TildeEqual k l e h = cc
-counted_alike operators.GreaterThan operators.TildeEqual k l e h = cc
-counted_alike operators.GreaterThanEqual operators.TildeEqual k l e h = cc
+counted_alike o n k l h1 h2 = grind arith
 
 module _ (s t : Specifier) (some : 0 < length s.version.release) (other : 0 < length t.version.release) (releases : EqualReleases) (pythons : EqualPythons)
     (negated_releases : NegatedReleases) (negated_pythons : NegatedPythons) (n : negated s.operator ≡ Some t.operator) (e : eq_by_cmp version_cmp s.version t.version ≡ true)

@@ -1,5 +1,5 @@
 -- Sets of texts, interval by interval, at points that go by bytes.
-use Rattle.std.proofs.Common.{◌≡◌, ℕ, Bool, true, false, not, cond, ◌&&◌, ◌||◌, List, [], ◌∷◌, map, string_bytes, refl, sym, ap, ◌∙◌}
+use Rattle.std.proofs.Common.{◌≡◌, ℕ, Bool, true, false, not, cond, ◌&&◌, ◌||◌, List, [], ◌∷◌, map, string_bytes, refl, sym, ap, ◌∙◌, arith}
 use Rattle.std.specs.Prelude.{String, IfSome, Option, Some, None}
 use Rattle.std.specs.Borrow.{Bor}
 use Rattle.std.specs.Global.{Global}
@@ -7,9 +7,8 @@ use Rattle.std.specs.List.{list_all, list_any}
 use Rattle.std.specs.Ordering.{is_eq, is_ne}
 use Rattle.std.specs.Range.Bound.{bound_map}
 use Rattle.std.specs.declared.cmp.Ordering.{Ordering}
-use Rattle.std.specs.declared.cmp.Ordering.TheVariants.{Less, Equal, Greater}
 use Rattle.std.specs.declared.ops.Bound.{Bound}
-use Rattle.std.specs.declared.ops.Bound.TheVariants.{Included, Excluded, Unbounded}
+use Rattle.std.specs.declared.ops.Bound.TheVariants.{Unbounded}
 use Rattle.std.specs.Cmp.{IsTotalOrder}
 use Rattle.std.specs.Cmp.Lexicographic.{nat_list_cmp_total}
 use Rattle.std.specs.String.{string_cmp, string_cmp_total}
@@ -27,7 +26,7 @@ use Rattle.version_ranges.proofs.PartLaws.{before_later, bottom_from, lower_is, 
 use Rattle.version_ranges.proofs.StepLaws.{lt_less}
 use Rattle.marker_words.specs.declared.key.MarkerValueString.{MarkerValueString}
 use Rattle.marker_words.specs.declared.operator.MarkerOperator.{MarkerOperator}
-use Rattle.marker_words.specs.declared.operator.MarkerOperator.TheVariants.{Equal as Same, NotEqual, GreaterThan, GreaterEqual, LessThan, LessEqual, TildeEqual, In, NotIn, Contains, NotContains}
+use Rattle.marker_words.specs.declared.operator.MarkerOperator.TheVariants.{In, NotIn, Contains, NotContains}
 use Rattle.marker_words.specs.Compare.{beside, holds_beside, pairs_of, text_bound, text_cmp, text_eq}
 use Rattle.marker_words.specs.Key.{variable_of}
 use Rattle.marker_environment.specs.Valuation.{Valuation}
@@ -49,14 +48,10 @@ module _ {T : Type 0} {cmp : T → T → Ordering} (o : IsTotalOrder cmp) where
 
   covers_by : (p : Point T) (from : Bool) (until : Bool) (v w : Bool) (more : Bool) → from ≡ true → (until ≡ true → more ≡ false) → (until ≡ false → w ≡ more) →
       cond until v w ≡ cond v ((from && until) || more) more
-  covers_by p from true true w more e f g = ap (λ b. (b && true) || more) (sym e)
-  covers_by p from true false w more e f g = sym (f refl)
-  covers_by p from false true w more e f g = g refl ∙ ap (λ b. (b && false) || more) (sym e)
-  covers_by p from false false w more e f g = g refl
+  covers_by p from until v w more h1 h2 h3 = grind arith
 
   any_cond : (t : Bound T × Bound T → Bool) (v : Bool) (i : Bound T × Bound T) (is : List (Bound T × Bound T)) → list_any t (cond v (i ∷ is) is) ≡ cond v (t i || list_any t is) (list_any t is)
-  any_cond t true i is = refl
-  any_cond t false i is = refl
+  any_cond t v i is = grind arith
 
   -- a point is in the set if it is in an interval
   pub held_covers : (p : Point T) (low : Option (Cut T)) (lower : Bound T) (v : Bool) (xs : List (Cut T × Bool)) → ascends (cut_cmp cmp) low xs ≡ true → is_from cmp lower p ≡ true →
@@ -83,18 +78,10 @@ abbrev pub interval_bytes : Bound (String Global) × Bound (String Global) → B
 interval_bytes i = (bound_map string_bytes i.0, bound_map string_bytes i.1)
 
 same_lower : (c : Cut (String Global)) → bound_map string_bytes (lower_of c) ≡ lower_of (cut_bytes c)
-same_lower c = by_test c.above
-  where
-    by_test : (b : Bool) → bound_map string_bytes (cond b (Excluded c.value) (Included c.value)) ≡ cond b (Excluded (string_bytes c.value)) (Included (string_bytes c.value))
-    by_test true = refl
-    by_test false = refl
+same_lower c = grind arith
 
 same_upper : (c : Cut (String Global)) → bound_map string_bytes (upper_of c) ≡ upper_of (cut_bytes c)
-same_upper c = by_test c.above
-  where
-    by_test : (b : Bool) → bound_map string_bytes (cond b (Included c.value) (Excluded c.value)) ≡ cond b (Included (string_bytes c.value)) (Excluded (string_bytes c.value))
-    by_test true = refl
-    by_test false = refl
+same_upper c = grind arith
 
 -- the intervals of the steps with bytes are the intervals with bytes
 same_held : (low : Bound (String Global)) (v : Bool) (xs : List (Cut (String Global) × Bool)) → map interval_bytes (intervals_among (parts_from low v xs)) ≡ intervals_among (parts_from (bound_map string_bytes low) v (map step_bytes xs))
@@ -141,14 +128,11 @@ module _ {a : _} {b : _} {c : _} (set : Ranges (String Global) a b c) where
 
 -- the bounds of an item
 pub text_bound_is : (b : Bound (Bor (String Global))) → bound_map string_bytes (bound_map (λ v. v.now) b) ≡ text_bound b
-text_bound_is (Included t) = refl
-text_bound_is (Excluded t) = refl
-text_bound_is Unbounded = refl
+text_bound_is b = grind arith
 
 pub interval_is : (lower upper : Bound (Bor (String Global))) (q : Point (List ℕ)) →
     is_within text_cmp (interval_bytes (bound_map (λ v. v.now) lower, bound_map (λ v. v.now) upper)) q ≡ is_in_bounds text_cmp (text_bound lower) (text_bound upper) q
-interval_is lower upper q =
-    ap (λ l. is_in_bounds text_cmp l (bound_map string_bytes (bound_map (λ v. v.now) upper)) q) (text_bound_is lower) ∙ ap (λ u. is_in_bounds text_cmp (text_bound lower) u q) (text_bound_is upper)
+interval_is lower upper q = grind arith
 
 -- ---- comparisons by order
 
@@ -161,44 +145,14 @@ orders NotContains = false
 orders operator = true
 
 pub order_holds : (o : MarkerOperator) → orders o ≡ true → (key : MarkerValueString) (value : List ℕ) (v : Valuation) → holds_text o key value v ≡ holds_beside o (beside text_cmp (v.text (variable_of key)) value)
-order_holds Same e key value v = refl
-order_holds NotEqual e key value v = refl
-order_holds GreaterThan e key value v = refl
-order_holds GreaterEqual e key value v = refl
-order_holds LessThan e key value v = refl
-order_holds LessEqual e key value v = refl
-order_holds TildeEqual e key value v = refl
-order_holds In e key value v = cc e
-order_holds NotIn e key value v = cc e
-order_holds Contains e key value v = cc e
-order_holds NotContains e key value v = cc e
+order_holds o h1 key value v = grind arith
 
 -- those of a range do
 pub pairs_order : (lower upper : Bound (List ℕ)) → list_all (λ pair. orders pair.0) (pairs_of text_eq lower upper) ≡ true
-pairs_order (Included v) (Included w) = by_test (text_eq v w)
-  where
-    by_test : (b : Bool) → list_all (λ (pair : MarkerOperator × List ℕ). orders pair.0) (cond b ((Same, v) ∷ []) ((GreaterEqual, v) ∷ (LessEqual, w) ∷ [])) ≡ true
-    by_test true = refl
-    by_test false = refl
-pairs_order (Included v) (Excluded w) = refl
-pairs_order (Included v) Unbounded = refl
-pairs_order (Excluded v) (Included w) = refl
-pairs_order (Excluded v) (Excluded w) = refl
-pairs_order (Excluded v) Unbounded = refl
-pairs_order Unbounded (Included w) = refl
-pairs_order Unbounded (Excluded w) = refl
-pairs_order Unbounded Unbounded = refl
-
-unequal_is : (r : Ordering) → is_ne r ≡ not (is_eq r)
-unequal_is Less = refl
-unequal_is Equal = refl
-unequal_is Greater = refl
+pairs_order lower upper = grind arith
 
 -- a single text that was found is excluded by `!=`
 pub excluded_text : (found : Option (Bor (String Global))) (t : Bor (String Global)) (lower upper : Bound (List ℕ)) → found ≡ Some t →
     IfSome found (λ s. (q : Point (List ℕ)) → is_in_bounds text_cmp lower upper q ≡ is_eq (beside text_cmp q (string_bytes s.now))) →
     (q : Point (List ℕ)) → is_ne (beside text_cmp q (string_bytes t.now)) ≡ not (is_in_bounds text_cmp lower upper q)
-excluded_text None t lower upper e h q = cc e
-excluded_text (Some s) t lower upper e h q =
-    let f : s ≡ t = cc e in
-    unequal_is (beside text_cmp q (string_bytes t.now)) ∙ ap (λ (x : Bor (String Global)). not (is_eq (beside text_cmp q (string_bytes x.now)))) (sym f) ∙ ap not (sym (h q))
+excluded_text found t lower upper h1 h2 q = grind arith

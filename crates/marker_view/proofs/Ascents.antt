@@ -1,36 +1,22 @@
 -- The cuts of a function ascend as points do, if its values depend on the names that a function
 -- gives them.
-use Rattle.std.proofs.Common.{◌≡◌, Bool, true, false, List, [], ◌∷◌, Some, cond, refl, sym, ap, ◌∙◌, subst}
+use Rattle.std.proofs.Common.{◌≡◌, true, List, [], ◌∷◌, Some, sym, ap, ◌∙◌, subst, arith}
 use Rattle.std.specs.Cmp.{IsTotalOrder}
-use Rattle.std.specs.Ordering.{is_lt, ordering_then}
 use Rattle.std.specs.declared.cmp.Ordering.{Ordering}
-use Rattle.std.specs.declared.cmp.Ordering.TheVariants.{Less, Greater}
 use Rattle.std.proofs.lemmas.Bool.{and_parts}
 use Rattle.version_ranges.specs.declared.cut.Cut.{Cut}
 use Rattle.version_ranges.specs.Cut.{cut_cmp, cut_point}
-use Rattle.version_ranges.specs.Point.{Point, bottom, at, above, point_map, point_lt}
+use Rattle.version_ranges.specs.Point.{Point, point_map, point_lt}
 use Rattle.version_ranges.specs.Steps.{ascends, is_before}
 use Rattle.version_ranges.proofs.PointLaws.{place, place_point, place_before, point_of}
 use Rattle.marker_view.proofs.CutLaws.{Ascends}
 
 module _ {T K : Type 0} (f : T → K) (cmp : T → T → Ordering) (cmp' : K → K → Ordering) (o : IsTotalOrder cmp') (ends : List (Point K)) (named : (x y : T) → cmp x y ≡ cmp' (f x) (f y)) where
   lt_named : (p q : Point T) → point_lt cmp p q ≡ point_lt cmp' (point_map f p) (point_map f q)
-  lt_named bottom bottom = refl
-  lt_named bottom (at w) = refl
-  lt_named bottom (above w) = refl
-  lt_named (at v) bottom = refl
-  lt_named (at v) (at w) = ap is_lt (named v w)
-  lt_named (at v) (above w) = ap (λ r. is_lt (ordering_then r Less)) (named v w)
-  lt_named (above v) bottom = refl
-  lt_named (above v) (at w) = ap (λ r. is_lt (ordering_then r Greater)) (named v w)
-  lt_named (above v) (above w) = ap is_lt (named v w)
+  lt_named p q = grind arith
 
   point_named : (c : Cut T) → point_map f (cut_point (λ v. v) c) ≡ cut_point f c
-  point_named c = by_test c.above
-    where
-      by_test : (b : Bool) → point_map f (cond b (above c.value) (at c.value)) ≡ cond b (above (f c.value)) (at (f c.value))
-      by_test true = refl
-      by_test false = refl
+  point_named c = grind arith
 
   pub ascend : {V : Type 0} → (low : Point T) (xs : List (Cut T × V)) → ascends (cut_cmp cmp) (place low) xs ≡ true → Ascends o (cut_point f) ends (point_map f low) xs
   ascend low [] h = tt

@@ -28,15 +28,13 @@ use Rattle.marker_words.specs.Key.{variable_of}
 use Rattle.marker_parts.specs.Expression as asked
 use Rattle.marker_terms.proofs.PlainLaws.{each_pushed}
 use Rattle.std.proofs.lemmas.List.Folds.{list_any-append}
-use Rattle.marker_terms.specs.Clauses.{clauses_of}
-use Rattle.marker_parts.specs.Expression.{Overflows, holds, holds_extra, holds_text, test_of}
+use Rattle.marker_parts.specs.Expression.{holds, holds_extra, holds_text, test_of}
 use Rattle.std.specs.List.{list_any}
 use Rattle.version_ranges.specs.Bounds.{all_cuts}
 use Rattle.pep440_rs.specs.Bounds.{is_release}
 use Rattle.marker_environment.specs.Valuation.{Valuation}
 use Rattle.marker_parts.specs.declared.expression.MarkerExpression.{MarkerExpression}
-use Rattle.marker_terms.specs.Clauses.{clauses_hold, term_holds}
-use Rattle.marker_terms.specs.Plain.{HavePrintableTerms, IsPlain, IsPlainExtra, IsPrintable, is_plain}
+use Rattle.marker_terms.specs.Plain.{IsPlainExtra, IsPrintable, is_plain}
 use Rattle.marker_diagrams.specs.Id.{is_negated, place_of, same_id, signed_id}
 use Rattle.marker_diagrams.specs.Diagram.{IsStore}
 use Rattle.marker_diagrams.specs.Residue as residue
@@ -48,7 +46,6 @@ use Rattle.marker_nodes.specs.Node.{Node, lowest, markers}
 use Rattle.marker_nodes.specs.Variable.{answer, truth_variable}
 use Rattle.marker_nodes.specs.declared.node.Branches.TheVariants.{Text, Truth, Version}
 use Rattle.marker_nodes.specs.declared.variable.TruthVariable.{TruthVariable}
-use Rattle.marker_nodes.specs.declared.variable.TruthVariable.TheVariants.{In, Contains, Extra, Arbitrary}
 use Rattle.marker_nodes.proofs.Firsts.{false_is}
 use Rattle.marker_nodes.proofs.NodeLaws.{at_text, at_version, denied, lawful}
 use Rattle.marker_graph.specs.Contents.{Contents, IsHeld, truth}
@@ -87,16 +84,13 @@ module _ (c : Contents) (store : IsStore markers c.nodes) (t : MarkerTree) (held
 -- ---- truths
 
 ends : (x y : Bool) → ((((x && true) || false) && y) ≡ (x && y))
-ends true y = refl
-ends false y = refl
+ends x y = grind arith
 
 or_end : (x : Bool) → (x || false) ≡ x
-or_end true = refl
-or_end false = refl
+or_end x = grind arith
 
 and_no : (x : Bool) → (x && false) ≡ false
-and_no true = refl
-and_no false = refl
+and_no x = grind arith
 
 -- nothing that `FALSE` does not pass is reached through it
 pub skipped : (x : Bool) (test : MarkerTree → Bool) (t : MarkerTree) → t ≡ FALSE → test FALSE ≡ false → (x && test t) ≡ false
@@ -105,48 +99,24 @@ skipped x test t f z = ap (λ s. x && test s) f ∙ ap (λ b. x && b) z ∙ and_
 module _ (q : asked.Test) (t : MarkerTree) (old new : List Branch) where
   -- what the branches reach with one more
   answered_reach : IsAnswered q t old new → (v : Valuation) (test : MarkerTree → Bool) → test FALSE ≡ false → list_any (λ b. reaches v test b) new ≡ (list_any (λ b. reaches v test b) old || (holds q v && test t))
-  answered_reach (inl (f, e)) v test z =
-      ap (list_any (λ b. reaches v test b)) e
-      ∙ sym (ap (λ x. list_any (λ b. reaches v test b) old || x) (ap (λ s. holds q v && test s) f ∙ ap (λ x. holds q v && x) z ∙ and_no (holds q v)) ∙ or_end (list_any (λ b. reaches v test b) old))
-  answered_reach (inr r) v test z =
-      ap (list_any (λ b. reaches v test b)) r.2 ∙ list_any-append (λ b. reaches v test b) old (r.0 ∷ [])
-      ∙ ap (λ x. list_any (λ b. reaches v test b) old || x)
-      (or_end (reaches v test r.0) ∙ ap (λ cs. clauses_hold cs v && test r.0.child) r.4.0 ∙ ends (term_holds r.1 v) (test r.0.child) ∙ ap (λ s. term_holds r.1 v && test s) r.4.1 ∙ ap (λ x. holds x v && test t) r.3)
+  answered_reach h1 v test h2 = grind (arith, and_no, or_end, list_any-append, ends)
 
   -- where they lead
   answered_each : IsAnswered q t old new → (i : ℕ) (b : Branch) → slice_get new i ≡ Some b → (slice_get old i ≡ Some b) ⊎ (b.child ≡ t)
-  answered_each (inl (f, e)) i b g = inl (ap (λ xs. slice_get xs i) (sym e) ∙ g)
-  answered_each (inr r) i b g = by_place (get_last old r.0 i b (ap (λ xs. slice_get xs i) (sym r.2) ∙ g))
-    where
-      by_place : (slice_get old i ≡ Some b) ⊎ (r.0 ≡ b) → (slice_get old i ≡ Some b) ⊎ (b.child ≡ t)
-      by_place (inl h) = inl h
-      by_place (inr h) = inr (ap (λ (y : Branch). y.child) (sym h) ∙ r.4.1)
+  answered_each h1 i b h2 = grind (arith, get_last)
 
   -- what can be printed
   answered_printable : IsAnswered q t old new → ((term : MarkerExpression) → test_of term ≡ q → IsPrintable term) → HavePrintableBranches old → HavePrintableBranches new
-  answered_printable (inl (f, e)) p h = subst HavePrintableBranches (sym e) h
-  answered_printable (inr r) p h =
-      each_pushed (λ (x : Branch). HavePrintableTerms (clauses_of x.clauses.items)) old new r.0 r.2 h (subst HavePrintableTerms (sym r.4.0) ((p r.1 r.3, tt), tt))
+  answered_printable h1 h2 h3 = grind (arith, each_pushed)
 
 so_lowest : (x : TruthVariable) → answer x lowest ≡ true
-so_lowest (In x s) = refl
-so_lowest (Contains x s) = refl
-so_lowest (Extra s) = refl
-so_lowest (Arbitrary s) = refl
+so_lowest x = grind arith
 
 not_denied : (x : TruthVariable) → answer x denied ≡ false
-not_denied (In x s) = refl
-not_denied (Contains x s) = refl
-not_denied (Extra s) = refl
-not_denied (Arbitrary s) = refl
+not_denied x = grind arith
 
 chosen : {X : Type 0} (x : Bool) (f : X → Bool) (p q : X) → ((x && f p) || (not x && f q)) ≡ f (cond x p q)
-chosen true f p q = by_own (f p)
-  where
-    by_own : (b : Bool) → ((true && b) || (false && f q)) ≡ b
-    by_own true = refl
-    by_own false = refl
-chosen false f p q = refl
+chosen x f p q = grind arith
 
 two_lead : (x : TruthVariable) (t : MarkerTree) (so other : NodeId) (none one two : List Branch) (p n : asked.Test) (high low : MarkerTree) →
     none ≡ [] → IsAnswered p high none one → IsAnswered n low one two → high ≡ child_of t so → low ≡ child_of t other →
@@ -211,14 +181,7 @@ false_means c t e v = ap (λ s. truth c s v) e ∙ false_is c.nodes v
 -- ---- terms of truths
 
 pub modern_is : (x : TextVariable) → variable_of (modern_key x) ≡ x
-modern_is texts.ImplementationName = refl
-modern_is texts.OsName = refl
-modern_is texts.PlatformMachine = refl
-modern_is texts.PlatformPythonImplementation = refl
-modern_is texts.PlatformRelease = refl
-modern_is texts.PlatformSystem = refl
-modern_is texts.PlatformVersion = refl
-modern_is texts.SysPlatform = refl
+modern_is x = grind arith
 
 pub test_holds : (o : MarkerOperator) (key : MarkerValueString) (x : TextVariable) (value bytes : List ℕ) → key ≡ modern_key x → value ≡ bytes → (v : Valuation) → holds (asked.text key o value) v ≡ holds_text o (modern_key x) bytes v
 test_holds o key x value bytes k b v = ap (λ z. holds_text o z value v) k ∙ ap (λ z. holds_text o (modern_key x) z v) b
@@ -230,29 +193,19 @@ pub contains_is : (x : TextVariable) (bytes : List ℕ) (v : Valuation) → v.co
 contains_is x bytes v = ap (λ y. v.contains y bytes) (modern_is x)
 
 pub extra_is : (name ref : MarkerValueExtraRef) (v : Valuation) → name ≡ ref → holds_extra (extra_of_ref name) v ≡ answer (extra_question ref) v
-extra_is name ref v e = ap (λ r. holds_extra (extra_of_ref r) v) e ∙ by_kind ref
-  where
-    by_kind : (r : MarkerValueExtraRef) → holds_extra (extra_of_ref r) v ≡ answer (extra_question r) v
-    by_kind (extras.Extra n) = refl
-    by_kind (extras.Arbitrary s) = refl
+extra_is name ref v h1 = grind arith
 
 -- a comparison of `extra` with what can be printed
 pub extra_printable : (term : MarkerExpression) (o : ExtraOperator) (name last ref : MarkerValueExtraRef) → test_of term ≡ asked.extra o (extra_of_ref name) → name ≡ ref → last ≡ ref →
     (IsPlainVariable (truth_variable (extra_question last)) → IsPlainExtra (extra_of_ref last)) → IsPlainVariable (truth_variable (extra_question ref)) → IsPrintable term
-extra_printable term o name last ref t e f normal h =
-    let plain : IsPlainExtra (extra_of_ref name) = subst (λ n. IsPlainExtra (extra_of_ref n)) (f ∙ sym e) (normal (subst (λ n. IsPlainVariable (truth_variable (extra_question n))) (sym f) h)) in
-    record { plain = subst IsPlain (sym t) plain; fits = subst (λ x. ¬ Overflows x) (sym t) (λ z. z) }
+extra_printable term o name last ref h1 h2 h3 h4 h5 = grind arith
 
 -- ---- branches of joined edges
 
 pub each_more : {Q : Type 0} (qs : List Q) (child : Q → MarkerTree) (old new : List Branch) (b : Branch) (k : ℕ) (q : Q) → new ≡ old ++ (b ∷ []) → k < length qs → q ≡ get_or qs k q → b.child ≡ child q →
     ((i : ℕ) (d : Branch) → slice_get old i ≡ Some d → (j : ℕ) × (q : Q) × (slice_get qs j ≡ Some q) × (d.child ≡ child q)) →
     (i : ℕ) (d : Branch) → slice_get new i ≡ Some d → (j : ℕ) × (q : Q) × (slice_get qs j ≡ Some q) × (d.child ≡ child q)
-each_more {Q} qs child old new b k q e l is s h i d f = by_place (get_last old b i d (ap (λ xs. slice_get xs i) (sym e) ∙ f))
-  where
-    by_place : (slice_get old i ≡ Some d) ⊎ (b ≡ d) → (j : ℕ) × (q : Q) × (slice_get qs j ≡ Some q) × (d.child ≡ child q)
-    by_place (inl g) = h i d g
-    by_place (inr g) = (k, q, slice_get-get_or qs k q l ∙ ap Some (sym is), ap (λ (y : Branch). y.child) (sym g) ∙ s)
+each_more qs child old new b k q h1 h2 h3 h4 h5 i d h6 = grind (arith, get_last, slice_get-get_or)
 
 module _ (tree : MarkerTree) (branches : List Branch) {a : _} {b : _} {c : _} {a' : _} {b' : _} {c' : _} where
   pub version_lead : (x : VersionVariable) (cuts : Cuts Parts NodeId a b c) (pairs : List (Bor NodeId × Ranges Parts a' b' c')) → IsGathered version_cmp same_id cuts pairs →

@@ -1,14 +1,13 @@
 -- The clauses of a marker.
-use Rattle.std.proofs.Common.{◌≡◌, ◌≢◌, ◌≤◌, ◌⊎◌, inl, inr, true, false, List, [], ◌∷◌, length, sym, ap, ◌∙◌, arith}
+use Rattle.std.proofs.Common.{◌≡◌, ◌≢◌, ◌≤◌, true, false, List, [], ◌∷◌, length, sym, ap, ◌∙◌, arith}
 use Rattle.std.specs.List.{AllByRecursion}
 use Rattle.std.proofs.lemmas.Bool.{or_left, or_right}
 use Rattle.marker_environment.specs.Valuation.{Valuation}
 use Rattle.marker_parts.specs.declared.expression.MarkerExpression.{MarkerExpression}
-use Rattle.marker_terms.specs.Clauses.{clause_holds, clauses_hold}
+use Rattle.marker_terms.specs.Clauses.{clauses_hold}
 use Rattle.marker_terms.specs.Plain.{ArePrintable, HavePrintableTerms, IsPrintableClause}
 use Rattle.marker_terms.specs.Numbering.{IsReductionOf}
 use Rattle.marker_nodes.specs.Node.{Node}
-use Rattle.marker_nodes.specs.declared.node.Branches.TheVariants.{Text, Truth, Version}
 use Rattle.marker_graph.specs.Contents.{Contents, IsHeld, truth}
 use Rattle.marker_graph.specs.declared.tree.MarkerTree.{MarkerTree}
 use Rattle.marker_graph.specs.declared.tree.TheConstants.MarkerTree.{TRUE, FALSE}
@@ -25,18 +24,12 @@ module _ (c : Contents) (t : MarkerTree) (clauses : List (List MarkerExpression)
   of_false n e = record { reduced = λ ne nf. absurd (nf e); mean = λ r ne v. ap (λ cs. clauses_hold cs v) n ∙ sym (false_means c t e v); constants = λ k. n; printable = λ r ne nf. absurd (nf e) }
 
   pub of_paths : t ≢ TRUE → t ≢ FALSE → (paths : List (List MarkerExpression)) × ArePathsOf c t paths × IsReductionOf clauses paths → (HasReleases c t → (v : Valuation) → clauses_hold clauses v ≡ truth c t v) → (IsReadable c t → ArePrintable clauses) → AreClausesOf c t clauses
-  of_paths ne nf q h p = record { reduced = λ k l. q; mean = λ r k v. h r v; constants = by_constant; printable = λ r k l. p r }
-    where
-      by_constant : (t ≡ TRUE) ⊎ (t ≡ FALSE) → clauses ≡ []
-      by_constant (inl e) = absurd (ne e)
-      by_constant (inr e) = absurd (nf e)
+  of_paths h1 h2 h3 h4 h5 = grind arith
 
 -- ---- clauses of a readable marker
 
 plain_releases : (n : Node) → IsPlainNode n → IsReleaseNode n
-plain_releases (Version x cuts) h = h
-plain_releases (Text x cuts) h = tt
-plain_releases (Truth x high low) h = tt
+plain_releases n h1 = grind arith
 
 pub readable_releases : (c : Contents) (t : MarkerTree) → IsReadable c t → HasReleases c t
 readable_releases c t r s n sub node = plain_releases n (r s n sub node)
@@ -44,10 +37,7 @@ readable_releases c t r s n sub node = plain_releases n (r s n sub node)
 -- if a disjunction of printable terms is not true everywhere, each of its clauses has a term
 each_some : (clauses : List (List MarkerExpression)) → HavePrintableTerms clauses → ¬ ((v : Valuation) → clauses_hold clauses v ≡ true) → AllByRecursion IsPrintableClause clauses
 each_some [] h n = tt
-each_some (c ∷ clauses) h n = (
-  record { some = λ e. n (λ v. or_left _ _ (ap (λ x. clause_holds x v) e)); each = h.0 },
-  each_some clauses h.1 (λ k. n (λ v. or_right _ _ (k v))),
-)
+each_some (c ∷ clauses) h n = grind (arith, or_left, or_right, each_some clauses h.1)
 
 module _ (c : Contents) (t : MarkerTree) (held : IsHeld c t) (same : (a b : MarkerTree) → IsHeld c a → IsHeld c b → ((v : Valuation) → truth c a v ≡ truth c b v) → a ≡ b)
     (truths : (v : Valuation) → truth c TRUE v ≡ true) (falsehoods : (v : Valuation) → truth c FALSE v ≡ false) where

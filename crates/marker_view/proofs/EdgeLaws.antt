@@ -1,5 +1,5 @@
 -- Branches that follow the edges of a marker are those of the marker.
-use Rattle.std.proofs.Common.{◌≡◌, ◌⊎◌, inl, inr, ℕ, suc, Bool, true, false, not, cond, ◌&&◌, ◌||◌, List, [], ◌∷◌, ◌++◌, map, Some, string_bytes, refl, sym, ap, ◌∙◌, subst}
+use Rattle.std.proofs.Common.{◌≡◌, ◌⊎◌, inl, inr, ℕ, suc, Bool, true, false, not, ◌&&◌, ◌||◌, List, [], ◌∷◌, ◌++◌, map, Some, string_bytes, refl, sym, ap, ◌∙◌, subst, arith}
 use Rattle.std.specs.Prelude.{slice_get, String, Result, Ok, Err, IfOk, IfSome, None, Option, Vec, ⊤}
 use Rattle.std.specs.Global.{Global}
 use Rattle.std.specs.List.{list_all, list_any, Any}
@@ -7,7 +7,6 @@ use Rattle.std.specs.Range.Bound.{bound_map}
 use Rattle.std.specs.declared.alloc.AllocError.{AllocError}
 use Rattle.std.specs.declared.cmp.Ordering.{Ordering}
 use Rattle.std.specs.declared.ops.Bound.{Bound}
-use Rattle.std.specs.declared.ops.Bound.TheVariants.{Included, Excluded, Unbounded}
 use Rattle.std.proofs.lemmas.Bool.{and_parts, and_from}
 use Rattle.std.proofs.lemmas.List.Folds.{Any-from_list_any, list_any-append, list_any_at}
 use Rattle.std.proofs.lemmas.Option.{get_or_from_slice_get, slice_get-get_or, slice_get_within}
@@ -23,7 +22,6 @@ use Rattle.marker_environment.specs.Valuation.{Valuation}
 use Rattle.marker_diagrams.specs.Residue as residue
 use Rattle.marker_diagrams.specs.Id.{same_id}
 use Rattle.marker_diagrams.specs.declared.node_id.NodeId.{NodeId}
-use Rattle.marker_diagrams.proofs.IdLaws.{same_id_is}
 use Rattle.marker_nodes.proofs.Firsts.{false_is}
 use Rattle.marker_nodes.specs.Variable.{Variable, of_text, of_version}
 use Rattle.marker_nodes.specs.declared.node.Branches.TheVariants.{Text, Version}
@@ -44,16 +42,13 @@ use Rattle.marker_view.specs.PlainNodes.{IsReadable}
 use Rattle.marker_view.specs.Branch.{reaches, AreBranches, DividePoints, FollowEdges, HasReleases, HavePrintableBranches, IsBelow, IsOne}
 
 or_end : (x : Bool) → (x || false) ≡ x
-or_end true = refl
-or_end false = refl
+or_end x = grind arith
 
 or_assoc : (a b c : Bool) → ((a || b) || c) ≡ (a || (b || c))
-or_assoc true b c = refl
-or_assoc false b c = refl
+or_assoc a b c = grind arith
 
 and_no : (x : Bool) → (x && false) ≡ false
-and_no true = refl
-and_no false = refl
+and_no x = grind arith
 
 module _ {T : Type 0} (cmp : T → T → Ordering) (place : Valuation → Point T) where
   -- whether the edge at a valuation passes a test
@@ -93,11 +88,7 @@ module _ {T : Type 0} (cmp : T → T → Ordering) (place : Valuation → Point 
 
   module _ (Premise : Type 0) (edges : List (Part T MarkerTree)) where
     pub none_passed : (left : List (Part T MarkerTree)) (branches : List Branch) → left ≡ edges → branches ≡ [] → Passed Premise edges left branches
-    none_passed left branches l n = record {
-      each = λ i b e. let q : slice_get [] i ≡ Some b = ap (λ bs. slice_get bs i) (sym n) ∙ e in cc;
-      there = λ i e g. (i, ap (λ es. slice_get es i) (sym l) ∙ g);
-      leads = λ r v test z. ap (λ bs. list_any (λ b. reaches v test b) bs || list_any (leads_on v test) left) n ∙ ap (list_any (leads_on v test)) l;
-    }
+    none_passed left branches h1 h2 = grind arith
 
     later : (left rest : List (Part T MarkerTree)) (e : Part T MarkerTree) → left ≡ e ∷ rest → ((i : ℕ) (e : Part T MarkerTree) → slice_get left i ≡ Some e → (j : ℕ) × (slice_get edges j ≡ Some e)) →
         (i : ℕ) (d : Part T MarkerTree) → slice_get rest i ≡ Some d → (j : ℕ) × (slice_get edges j ≡ Some d)
@@ -136,50 +127,23 @@ module _ {T : Type 0} (cmp : T → T → Ordering) (place : Valuation → Point 
         by_place i d (inr g) = (first.0, e, first.1, ap (λ (y : Branch). y.child) (sym g) ∙ s)
 
     pub all_passed : (left : List (Part T MarkerTree)) (branches : List Branch) → left ≡ [] → Passed Premise edges left branches → FollowEdges cmp place Premise edges branches
-    all_passed left branches l p = record {
-      each = p.each;
-      leads = λ r v test z. sym (or_end (list_any (λ b. reaches v test b) branches)) ∙ ap (λ es. list_any (λ b. reaches v test b) branches || list_any (leads_on v test) es) (sym l) ∙ p.leads r v test z;
-    }
+    all_passed left branches h1 h2 = grind arith
 
 -- ---- two branches of three edges, of which the first and the last one lead to one marker
 
 ends : (x t : Bool) → (((x && true) || false) && t) ≡ (x && t)
-ends true t = refl
-ends false t = refl
+ends x t = grind arith
 
 -- a point that is in one of three edges, and in no two neighbors, is in an outer one or in the inner one
 parted : (x y z : Bool) → (x || (y || (z || false))) ≡ true → (x ≡ true → y ≡ true → ⊥) → (z ≡ true → y ≡ true → ⊥) → (x || z) ≡ not y
-parted true true z c a b = absurd (a refl refl)
-parted true false z c a b = refl
-parted false true true c a b = absurd (b refl refl)
-parted false true false c a b = refl
-parted false false true c a b = refl
-parted false false false c a b = cc c
+parted x y z h1 h2 h3 = grind arith
 
 joined_outer : (x y z a b : Bool) → (x || z) ≡ not y → ((not y && a) || (y && b)) ≡ ((x && a) || ((y && b) || ((z && a) || false)))
-joined_outer true true z a b h = cc h
-joined_outer false true true a b h = cc h
-joined_outer false true false a true h = refl
-joined_outer false true false a false h = refl
-joined_outer true false z true b h = refl
-joined_outer true false true false b h = refl
-joined_outer true false false false b h = refl
-joined_outer false false true a b h = refl
-joined_outer false false false a b h = cc h
+joined_outer x y z a b h1 = grind arith
 
 -- markers that are not told apart are one
 pub same_tree : (a b : MarkerTree) (told : Bool) → told ≡ not (same_id a.id b.id) → told ≡ false → a ≡ b
-same_tree a b told e f = by_id a.id b.id (same_id_is a.id b.id (not_false (same_id a.id b.id) (sym e ∙ f)))
-  where
-    not_false : (z : Bool) → not z ≡ false → z ≡ true
-    not_false true h = refl
-    not_false false h = cc h
-
-    at : NodeId → MarkerTree
-    at i = record { id = i }
-
-    by_id : (i j : NodeId) → i ≡ j → at i ≡ at j
-    by_id i j h = ap at h
+same_tree a b told h1 h2 = grind arith
 
 module _ {T : Type 0} (cmp : T → T → Ordering) (place : Valuation → Point T) (Premise : Type 0)
     (edges : List (Part T MarkerTree)) (first second third : Part T MarkerTree) (three : edges ≡ first ∷ second ∷ third ∷ []) (same : first.value ≡ third.value) where
@@ -198,10 +162,7 @@ module _ {T : Type 0} (cmp : T → T → Ordering) (place : Valuation → Point 
   module _ (none one : List Branch) (b : Branch) (term : MarkerExpression) (n : none ≡ []) (o : one ≡ none ++ (b ∷ [])) (is : IsOne b term first.value)
       (excludes : Premise → (v : Valuation) → term_holds term v ≡ not (is_in cmp second (place v))) where
     reach_outer : Premise → (v : Valuation) (test : MarkerTree → Bool) → list_any (λ b. reaches v test b) one ≡ (not (is_in cmp second (place v)) && test first.value)
-    reach_outer r v test =
-        ap (list_any (λ b. reaches v test b)) o ∙ ap (λ bs. list_any (λ b. reaches v test b) (bs ++ (b ∷ []))) n ∙ or_end (reaches v test b)
-        ∙ ap (λ cs. clauses_hold cs v && test b.child) is.0 ∙ ends (term_holds term v) (test b.child)
-        ∙ ap (λ s. term_holds term v && test s) is.1 ∙ ap (λ x. x && test first.value) (excludes r v)
+    reach_outer h1 v test = grind (arith, or_end, ends)
 
     each_outer : (i : ℕ) (d : Branch) → slice_get one i ≡ Some d → (j : ℕ) × (e : Part T MarkerTree) × (slice_get edges j ≡ Some e) × (d.child ≡ e.value)
     each_outer i d g = by_place (get_last [] b i d (ap (λ xs. slice_get xs i) (ap (λ xs. xs ++ (b ∷ [])) (sym n) ∙ sym o) ∙ g))
@@ -213,10 +174,7 @@ module _ {T : Type 0} (cmp : T → T → Ordering) (place : Valuation → Point 
     -- what the edges lead to, by the inner and the outer ones
     meets : DividePoints cmp edges → (v : Valuation) (test : MarkerTree → Bool) →
         ((not (is_in cmp second (place v)) && test first.value) || (is_in cmp second (place v) && test second.value)) ≡ list_any (leads_on cmp place v test) edges
-    meets d v test =
-        joined_outer (is_in cmp first (place v)) (is_in cmp second (place v)) (is_in cmp third (place v)) (test first.value) (test second.value) (outer d (place v))
-        ∙ ap (λ s. (is_in cmp first (place v) && test first.value) || ((is_in cmp second (place v) && test second.value) || ((is_in cmp third (place v) && test s) || false))) same
-        ∙ ap (list_any (leads_on cmp place v test)) (sym three)
+    meets h1 v test = grind (arith, joined_outer, outer)
 
     -- the inner edge leads to `FALSE`
     pub around_false : second.value ≡ FALSE → FollowEdges cmp place (Premise × DividePoints cmp edges) edges one
@@ -252,23 +210,13 @@ edge_passes test e = passes_at test e.lower && passes_at test e.upper
 
 module _ {T K : Type 0} (name : T → K) (test : K → Bool) where
   lower_passes : (c : Cut T) → test (name c.value) ≡ true → passes_at test (bound_map name (lower_of c)) ≡ true
-  lower_passes c h = by_kind c.above
-    where
-      by_kind : (b : Bool) → passes_at test (bound_map name (cond b (Excluded c.value) (Included c.value))) ≡ true
-      by_kind true = h
-      by_kind false = h
+  lower_passes c h1 = grind arith
 
   upper_passes : (c : Cut T) → test (name c.value) ≡ true → passes_at test (bound_map name (upper_of c)) ≡ true
-  upper_passes c h = by_kind c.above
-    where
-      by_kind : (b : Bool) → passes_at test (bound_map name (cond b (Included c.value) (Excluded c.value))) ≡ true
-      by_kind true = h
-      by_kind false = h
+  upper_passes c h1 = grind arith
 
 bound_same : {T : Type 0} (b : Bound T) → bound_map (λ v. v) b ≡ b
-bound_same (Included v) = refl
-bound_same (Excluded v) = refl
-bound_same Unbounded = refl
+bound_same b = grind arith
 
 -- three edges, one after another
 pub three_edges : {T : Type 0} (edges l m r n : List (Part T MarkerTree)) (first second third : Part T MarkerTree) → edges ≡ l → l ≡ first ∷ m → m ≡ second ∷ r → r ≡ third ∷ n → n ≡ [] → edges ≡ first ∷ second ∷ third ∷ []
@@ -277,10 +225,7 @@ three_edges edges l m r n first second third a b c d e = a ∙ b ∙ ap (λ es. 
 -- the bounds of the second one pass what those of all do
 pub second_passes : {T : Type 0} (test : T → Bool) (edges : List (Part T MarkerTree)) (first second third : Part T MarkerTree) → edges ≡ first ∷ second ∷ third ∷ [] → list_all (edge_passes test) edges ≡ true →
     (passes_at test second.lower ≡ true) × (passes_at test second.upper ≡ true)
-second_passes test edges first second third e h =
-    let q = and_parts (edge_passes test first) _ (sym (ap (list_all (edge_passes test)) e) ∙ h) in
-    let r = and_parts (edge_passes test second) _ q.1 in
-    and_parts (passes_at test second.lower) (passes_at test second.upper) r.0
+second_passes test edges first second third h1 h2 = grind arith
 
 -- the values at the cuts of a function are those at the bounds of its edges
 module _ {T : Type 0} (test : T → Bool) (t : MarkerTree) where

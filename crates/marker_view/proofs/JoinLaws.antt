@@ -1,5 +1,5 @@
 -- The values of a function, each with the set of the points that have it, as the children of a node.
-use Rattle.std.proofs.Common.{◌≡◌, ◌⊎◌, inl, inr, ℕ, zero, suc, ◌+◌, ◌<◌, Bool, true, false, not, cond, ◌&&◌, ◌||◌, List, [], ◌∷◌, ◌++◌, filter, length, get_or, map, take, Some, None, string_bytes, refl, sym, ap, ◌∙◌}
+use Rattle.std.proofs.Common.{◌≡◌, ◌⊎◌, inl, inr, ℕ, zero, suc, ◌+◌, ◌<◌, Bool, true, false, not, cond, ◌&&◌, ◌||◌, List, [], ◌∷◌, ◌++◌, filter, length, get_or, map, take, Some, None, string_bytes, refl, sym, ap, ◌∙◌, arith}
 use Rattle.std.specs.Prelude.{slice_get, String}
 use Rattle.std.specs.Borrow.{Bor}
 use Rattle.std.specs.Global.{Global}
@@ -25,9 +25,7 @@ use Rattle.marker_diagrams.specs.Id.{same_id}
 use Rattle.marker_diagrams.specs.declared.node_id.NodeId.{NodeId}
 
 pub iff_same : (a b : Bool) → (a ≡ true → b ≡ true) → (b ≡ true → a ≡ true) → a ≡ b
-iff_same true b f g = sym (f refl)
-iff_same false true f g = g refl
-iff_same false false f g = refl
+iff_same a b h1 h2 = grind arith
 
 -- ---- the values that stand in a list stand in the list where they were seen
 
@@ -107,12 +105,7 @@ get_last (x ∷ xs) b (suc i) c e = get_last xs b i c e
 -- what reaches a child through the first places, and through one more
 pub any_more : {B Q : Type 0} (p : B → Bool) (r : Q → Bool) (old new : List B) (b : B) (qs : List Q) (i : ℕ) (q : Q) → new ≡ old ++ (b ∷ []) → i < length qs → q ≡ get_or qs i q → p b ≡ r q →
     list_any p old ≡ list_any r (take i qs) → list_any p new ≡ list_any r (take (i + 1) qs)
-any_more p r old new b qs i q e l is s h =
-    ap (list_any p) e ∙ list_any-append p old (b ∷ []) ∙ ap (λ x. list_any p old || x) (or_end (p b)) ∙ ap (λ x. x || p b) h ∙ ap (λ x. list_any r (take i qs) || x) (s ∙ ap r is) ∙ sym (list_any_more r qs i q l)
-  where
-    or_end : (x : Bool) → (x || false) ≡ x
-    or_end true = refl
-    or_end false = refl
+any_more p r old new b qs i q h1 h2 h3 h4 h5 = grind (arith, list_any-append, take, list_any_more)
 
 -- if nothing reaches through one more, none is needed
 pub any_skipped : {Q : Type 0} (r : Q → Bool) (old : Bool) (qs : List Q) (i : ℕ) (q : Q) → i < length qs → q ≡ get_or qs i q → r q ≡ false → old ≡ list_any r (take i qs) → old ≡ list_any r (take (i + 1) qs)

@@ -1,19 +1,17 @@
 -- A readable marker means a formula of plain comparisons: at each node the formula says between
 -- which cuts its variable is, and what the child there means.
-use Rattle.std.proofs.Common.{◌≡◌, ◌≢◌, ◌&&◌, ◌||◌, not, ℕ, zero, suc, ◌<◌, Bool, true, false, List, [], ◌∷◌, Option, Some, None, cond, refl, sym, ap, ◌∙◌, subst, arith, string_bytes}
-use Rattle.std.specs.Bool.{⊤}
+use Rattle.std.proofs.Common.{◌≡◌, ◌&&◌, ◌||◌, not, ℕ, zero, suc, ◌<◌, Bool, true, false, List, [], ◌∷◌, Option, Some, None, cond, refl, sym, ap, ◌∙◌, subst, arith, string_bytes}
 use Rattle.std.specs.Cmp.{IsTotalOrder}
 use Rattle.std.specs.Cmp.Lexicographic.{nat_list_cmp_total}
 use Rattle.std.specs.String.{string_cmp}
 use Rattle.std.specs.Global.{Global}
 use Rattle.std.specs.List.{AllByRecursion, list_all}
-use Rattle.std.specs.Ordering.{is_ge, is_gt, is_le, is_lt, ordering_then}
+use Rattle.std.specs.Ordering.{is_ge, is_gt, is_le, is_lt}
 use Rattle.std.specs.declared.cmp.Ordering.{Ordering}
-use Rattle.std.specs.declared.cmp.Ordering.TheVariants.{Less, Equal, Greater}
+use Rattle.std.specs.declared.cmp.Ordering.TheVariants.{Equal}
 use Rattle.std.specs.declared.string.String.{String}
 use Rattle.std.proofs.lemmas.Bool.{and_parts}
 use Rattle.version_ranges.specs.declared.cut.Cut.{Cut}
-use Rattle.version_ranges.specs.declared.cuts.Cuts.{Cuts}
 use Rattle.version_ranges.specs.Cut.{cut_point}
 use Rattle.version_ranges.specs.Point.{Point, bottom, at, above, point_cmp, point_lt}
 use Rattle.version_ranges.specs.Steps.{value_at}
@@ -25,8 +23,6 @@ use Rattle.pep440_specifier.specs.declared.operator.Operator.TheVariants as oper
 use Rattle.pep440_rs.specs.Bounds.{IsRelease, is_release}
 use Rattle.pep440_rs.specs.Intervals.{is_in}
 use Rattle.pep440_rs.proofs.Equals.{release-means}
-use Rattle.pep508_names.specs.Name.{IsName}
-use Rattle.marker_words.specs.declared.key.MarkerValueString.{MarkerValueString}
 use Rattle.marker_words.specs.declared.key.MarkerValueVersion.TheVariants as version_keys
 use Rattle.marker_words.specs.declared.key.TextVariable.{TextVariable}
 use Rattle.marker_words.specs.declared.key.TextVariable.TheVariants as texts
@@ -40,7 +36,7 @@ use Rattle.marker_words.specs.Key.{variable_of}
 use Rattle.marker_environment.specs.Valuation.{Valuation}
 use Rattle.marker_parts.specs.Expression.{Test, Extra, version, text, extra, name, arbitrary, holds}
 use Rattle.marker_terms.specs.Plain.{is_plain}
-use Rattle.marker_grammar.specs.Formula.{Formula, test, both, either, truth_of}
+use Rattle.marker_grammar.specs.Formula.{test, both, either, truth_of}
 use Rattle.marker_diagrams.specs.declared.node_id.NodeId.{NodeId}
 use Rattle.marker_diagrams.specs.Diagram.{IsHeld, IsStore, node_of, truth}
 use Rattle.marker_diagrams.specs.Id.{is_negated, place_of, signed, signed_id}
@@ -77,16 +73,13 @@ of_either : (f g : Valuation → Bool) → IsReadableTruth f → IsReadableTruth
 of_either f g r s = (either r.0 s.0, (r.1, s.1), λ v. ap (λ b. b || g v) (r.2 v) ∙ ap (λ b. truth_of r.0 v || b) (s.2 v))
 
 or_false : (b : Bool) → (b || false) ≡ b
-or_false true = refl
-or_false false = refl
+or_false b = grind arith
 
 and_true : (b : Bool) → (b && true) ≡ b
-and_true true = refl
-and_true false = refl
+and_true b = grind arith
 
 by_cases : (b x y : Bool) → cond b x y ≡ ((not b && y) || (b && x))
-by_cases true x y = refl
-by_cases false x y = sym (or_false y)
+by_cases b x y = grind arith
 
 -- one truth or another, by a third one
 of_choice : (b f g : Valuation → Bool) → IsReadableTruth b → IsReadableTruth (λ v. not (b v)) → IsReadableTruth f → IsReadableTruth g → IsReadableTruth (λ v. cond (b v) (f v) (g v))
@@ -101,12 +94,10 @@ asks : Valuation → Bool
 asks v = holds (extra extra_operators.Equal an_extra) v
 
 or_not : (b : Bool) → (b || not b) ≡ true
-or_not true = refl
-or_not false = refl
+or_not b = grind arith
 
 and_not : (b : Bool) → (b && not b) ≡ false
-and_not true = refl
-and_not false = refl
+and_not b = grind arith
 
 -- what is the same everywhere
 of_constant : (b : Bool) (f : Valuation → Bool) → ((v : Valuation) → f v ≡ b) → IsReadableTruth f
@@ -128,8 +119,7 @@ Halves before = IsReadableTruth before × IsReadableTruth (λ v. not (before v))
 
 module _ {C : Type 0} (before : C → Valuation → Bool) (means : NodeId → Valuation → Bool) where
   chosen : (b : Bool) (x y : NodeId) (v : Valuation) → means (cond b x y) v ≡ cond b (means x v) (means y v)
-  chosen true x y v = refl
-  chosen false x y v = refl
+  chosen b x y v = grind arith
 
   between : (first : NodeId) (steps : List (C × NodeId)) → IsReadableTruth (means first) → AllByRecursion (λ s. Halves (before s.0)) steps → AllByRecursion (λ s. IsReadableTruth (means s.1)) steps →
       IsReadableTruth (λ v. means (value_at (λ c. before c v) first steps) v)
@@ -165,9 +155,7 @@ each_passes P ok k (s ∷ xs) h = let q = and_parts (ok s.0) (list_all (λ s. ok
 -- ---- cuts at releases
 
 not_below : {T : Type 0} → (cmp : T → T → Ordering) (p : Point T) → point_lt cmp p bottom ≡ false
-not_below cmp bottom = refl
-not_below cmp (at w) = refl
-not_below cmp (above w) = refl
+not_below cmp p = grind arith
 
 module _ (w : Parts) (e : IsRelease w) (p : Point Parts) where
   less : point_lt version_cmp p (at w) ≡ is_in operators.LessThan w.release p
@@ -198,40 +186,17 @@ version_halves x w e false = (
 
 -- ---- cuts at plain texts
 
-le_first : (r : Ordering) → is_lt (ordering_then r Less) ≡ is_le r
-le_first Less = refl
-le_first Equal = refl
-le_first Greater = refl
-
-le_later : (r : Ordering) → is_lt r ≡ is_le (ordering_then r Greater)
-le_later Less = refl
-le_later Equal = refl
-le_later Greater = refl
-
 gt_is : (r : Ordering) → not (is_le r) ≡ is_gt r
-gt_is Less = refl
-gt_is Equal = refl
-gt_is Greater = refl
+gt_is r = grind arith
 
 ge_is : (r : Ordering) → not (is_lt r) ≡ is_ge r
-ge_is Less = refl
-ge_is Equal = refl
-ge_is Greater = refl
+ge_is r = grind arith
 
 until : (p : Point (List ℕ)) (t : List ℕ) → point_lt text_cmp p (above t) ≡ is_le (point_cmp text_cmp p (at t))
-until bottom t = refl
-until (at u) t = le_first (text_cmp u t)
-until (above u) t = le_later (text_cmp u t)
+until p t = grind arith
 
 modern : (x : TextVariable) → variable_of (modern_key x) ≡ x
-modern texts.ImplementationName = refl
-modern texts.OsName = refl
-modern texts.PlatformMachine = refl
-modern texts.PlatformPythonImplementation = refl
-modern texts.PlatformRelease = refl
-modern texts.PlatformSystem = refl
-modern texts.PlatformVersion = refl
-modern texts.SysPlatform = refl
+modern x = grind arith
 
 module _ (x : TextVariable) (t : List ℕ) (plain : is_plain t ≡ true) where
   of_text : (o : MarkerOperator) (f : TextVariable → Valuation → Bool) → ((v : Valuation) → holds (text (modern_key x) o t) v ≡ f (variable_of (modern_key x)) v) → IsReadableTruth (f x)

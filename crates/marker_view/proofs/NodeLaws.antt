@@ -1,6 +1,6 @@
 -- The points at which a formula of plain comparisons of versions may change, and so those of the
 -- node of its residue.
-use Rattle.std.proofs.Common.{◌≡◌, ◌≢◌, ◌&&◌, ◌||◌, ℕ, Bool, true, false, List, [], ◌∷◌, ◌++◌, cond, refl, sym, ap, ◌∙◌}
+use Rattle.std.proofs.Common.{◌≡◌, ◌≢◌, ◌&&◌, ◌||◌, ℕ, Bool, false, List, [], ◌∷◌, ◌++◌, cond, sym, ap, ◌∙◌, arith}
 use Rattle.std.specs.List.{AllByRecursion}
 use Rattle.std.specs.Ordering.{is_eq, is_lt, ordering_then}
 use Rattle.std.specs.declared.cmp.Ordering.{Ordering}
@@ -9,19 +9,17 @@ use Rattle.std.proofs.lemmas.Bool.{true≢false}
 use Rattle.version_ranges.specs.declared.cut.Cut.{Cut}
 use Rattle.version_ranges.specs.Alike.{AreAlike, TiesWithNone}
 use Rattle.version_ranges.specs.Cut.{cut_point}
-use Rattle.version_ranges.specs.Point.{Point, bottom, at, above, point_cmp}
+use Rattle.version_ranges.specs.Point.{Point, at, above, point_cmp}
 use Rattle.pep440_version.specs.Order.{version_cmp}
 use Rattle.pep440_version.specs.Parts.{Parts}
 use Rattle.pep440_rs.specs.Bounds.{is_release}
 use Rattle.pep440_rs.specs.Ends.{IsReleasePoint}
-use Rattle.pep440_rs.specs.Lists.{is_in_or_not}
 use Rattle.pep440_rs.proofs.Equals.{release-means, tied-release}
 use Rattle.marker_words.specs.declared.key.MarkerValueString.{MarkerValueString}
 use Rattle.marker_words.specs.declared.operator.MarkerOperator.{MarkerOperator}
-use Rattle.marker_words.specs.declared.operator.MarkerOperator.TheVariants.{Equal as equal, NotEqual, GreaterThan, GreaterEqual, LessThan, LessEqual, TildeEqual, In, NotIn, Contains, NotContains}
 use Rattle.marker_words.specs.declared.operator.ExtraOperator.TheVariants as extra_operators
 use Rattle.marker_environment.specs.Valuation.{Valuation}
-use Rattle.marker_parts.specs.Expression.{Test, version, version_in, text, extra, name, arbitrary, holds, holds_text}
+use Rattle.marker_parts.specs.Expression.{Test, version, version_in, text, extra, holds, holds_text}
 use Rattle.marker_grammar.specs.Formula.{Formula, test, both, either, truth_of}
 use Rattle.marker_nodes.specs.Node.{lowest}
 use Rattle.marker_nodes.specs.Variable.{Variable, variable_cmp, mix}
@@ -43,10 +41,7 @@ formula_ends (either f g) = formula_ends f ++ formula_ends g
 -- ---- these are releases, with which no other version ties
 
 test_releases : (t : Test) → IsPlainTest t → AllByRecursion IsReleasePoint (test_ends t)
-test_releases (version key s) h = specifier_releases key s
-test_releases (version_in key versions negated) h = list_releases key versions h
-test_releases (text key operator t) h = tt
-test_releases (extra operator x) h = tt
+test_releases t h1 = grind (arith, specifier_releases, list_releases)
 
 joined : (xs ys : List (Point Parts)) → AllByRecursion IsReleasePoint xs → AllByRecursion IsReleasePoint ys → AllByRecursion IsReleasePoint (xs ++ ys)
 joined [] ys a b = b
@@ -58,32 +53,23 @@ formula_releases (both f g) h = joined (formula_ends f) (formula_ends g) (formul
 formula_releases (either f g) h = joined (formula_ends f) (formula_ends g) (formula_releases f h.0) (formula_releases g h.1)
 
 never_less : (r : Ordering) → ordering_then r Less ≢ Equal
-never_less Less = λ e. cc
-never_less Equal = λ e. cc
-never_less Greater = λ e. cc
+never_less r = grind arith
 
 never_greater : (r : Ordering) → ordering_then r Greater ≢ Equal
-never_greater Less = λ e. cc
-never_greater Equal = λ e. cc
-never_greater Greater = λ e. cc
+never_greater r = grind arith
 
 module _ (w : Parts) (none : is_release w ≡ false) where
   untied : (v : Parts) → IsReleasePoint (at v) → version_cmp v w ≢ Equal
   untied v r = λ e. true≢false (sym ((release-means w).1 (tied-release v w e r)) ∙ none)
 
   at_untied : (end : Point Parts) → IsReleasePoint end → point_cmp version_cmp end (at w) ≢ Equal
-  at_untied bottom r = absurd r
-  at_untied (at v) r = untied v r
-  at_untied (above v) r = never_greater (version_cmp v w)
+  at_untied end h1 = grind (arith, untied, never_greater)
 
   above_untied : (end : Point Parts) → IsReleasePoint end → point_cmp version_cmp end (above w) ≢ Equal
-  above_untied bottom r = absurd r
-  above_untied (at v) r = never_less (version_cmp v w)
-  above_untied (above v) r = untied v r
+  above_untied end h1 = grind (arith, never_less, untied)
 
   point_untied : (b : Bool) (end : Point Parts) → IsReleasePoint end → point_cmp version_cmp end (cond b (above w) (at w)) ≢ Equal
-  point_untied true = above_untied
-  point_untied false = at_untied
+  point_untied b end h1 = grind (arith, above_untied, at_untied)
 
 none_ties : (c : Cut Parts) → is_release c.value ≡ false → (ends : List (Point Parts)) → AllByRecursion IsReleasePoint ends → TiesWithNone version_cmp (cut_point (λ v. v) c) ends
 none_ties c e [] a = tt
@@ -104,35 +90,17 @@ alike_parts p q (x ∷ xs) ys a = let r = alike_parts p q xs ys a.1 in ((a.0, r.
 
 module _ (p q : Point Parts) where
   text_same : (operator : MarkerOperator) (key : MarkerValueString) (t : List ℕ) → holds_text operator key t (everywhere p) ≡ holds_text operator key t (everywhere q)
-  text_same equal key t = refl
-  text_same NotEqual key t = refl
-  text_same GreaterThan key t = refl
-  text_same GreaterEqual key t = refl
-  text_same LessThan key t = refl
-  text_same LessEqual key t = refl
-  text_same TildeEqual key t = refl
-  text_same In key t = refl
-  text_same NotIn key t = refl
-  text_same Contains key t = refl
-  text_same NotContains key t = refl
+  text_same operator key t = grind arith
 
   test_alike : (t : Test) → AreAlike version_cmp p q (test_ends t) → holds t (everywhere p) ≡ holds t (everywhere q)
-  test_alike (version key s) a = specifier_alike p q key s a
-  test_alike (version_in key versions negated) a = ap (is_in_or_not negated) (list_alike p q key versions a)
-  test_alike (text key operator t) a = text_same operator key t
-  test_alike (extra extra_operators.Equal (name n)) a = refl
-  test_alike (extra extra_operators.Equal (arbitrary t)) a = refl
-  test_alike (extra extra_operators.NotEqual (name n)) a = refl
-  test_alike (extra extra_operators.NotEqual (arbitrary t)) a = refl
+  test_alike t h1 = grind (arith, specifier_alike, list_alike, text_same)
 
   module _ (x y : Variable) (held w : Valuation) where
     abbrev pub held_with : Point Parts → Valuation
     held_with r = mix (λ z. is_lt (variable_cmp z y)) held (mix (λ z. is_eq (variable_cmp x z)) (everywhere r) w)
 
     answers : (r : Point Parts) (t : Test) → holds t (held_with r) ≡ cond (is_lt (variable_cmp (asked t) y)) (holds t held) (cond (is_eq (variable_cmp x (asked t))) (holds t (everywhere r)) (holds t w))
-    answers r t =
-        mixed (λ z. is_lt (variable_cmp z y)) held (mix (λ z. is_eq (variable_cmp x z)) (everywhere r) w) t
-        ∙ ap (λ b. cond (is_lt (variable_cmp (asked t) y)) (holds t held) b) (mixed (λ z. is_eq (variable_cmp x z)) (everywhere r) w t)
+    answers r t = grind (arith, mixed, cond, asked)
 
     pub formula_alike : (g : Formula) → AreAlike version_cmp p q (formula_ends g) → truth_of g (held_with p) ≡ truth_of g (held_with q)
     formula_alike (test t) a =

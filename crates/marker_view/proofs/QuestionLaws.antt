@@ -1,9 +1,9 @@
 -- A substring test or extra that a formula does not have does not change its truth, so those of its
 -- marker are the formula's.
-use Rattle.std.proofs.Common.{◌≡◌, Bool, true, false, ◌&&◌, ◌||◌, ◌⊎◌, cond, inl, inr, refl, sym, ap, ◌∙◌, subst}
+use Rattle.std.proofs.Common.{◌≡◌, Bool, true, false, ◌&&◌, ◌||◌, ◌⊎◌, inl, inr, refl, sym, ◌∙◌, subst, arith}
 use Rattle.std.specs.Ordering.{is_eq, is_lt}
 use Rattle.std.specs.declared.cmp.Ordering.{Ordering}
-use Rattle.std.specs.declared.cmp.Ordering.TheVariants.{Less, Equal, Greater}
+use Rattle.std.specs.declared.cmp.Ordering.TheVariants.{Equal}
 use Rattle.marker_environment.specs.Valuation.{Valuation}
 use Rattle.marker_parts.specs.Expression.{Test, holds}
 use Rattle.marker_grammar.specs.Formula.{Formula, test, both, either, truth_of}
@@ -11,15 +11,10 @@ use Rattle.marker_nodes.specs.Variable.{Variable, variable_cmp, mix}
 use Rattle.marker_nodes.proofs.VariableLaws.{one_variable}
 use Rattle.marker_graph.specs.Tree.{IsResidue, DependsOn}
 use Rattle.marker_view.specs.Readable.{AllPlain, IsPlainTest, IsPlainVariable}
-use Rattle.marker_view.proofs.Asked.{asked, asked_plain, mixed}
+use Rattle.marker_view.proofs.Asked.{asked, asked_plain}
 
 tied : (r : Ordering) → is_eq r ≡ true → r ≡ Equal
-tied Less e = cc e
-tied Equal e = refl
-tied Greater e = cc e
-
-both_sides : (op : Bool → Bool → Bool) {a b c d : Bool} → a ≡ b → c ≡ d → op a c ≡ op b d
-both_sides op {a} {b} {c} {d} e f = ap (λ x. op x c) e ∙ ap (λ x. op b x) f
+tied r h1 = grind arith
 
 -- the variables before y are fixed, and only x is changed
 module _ (x y : Variable) (held v w : Valuation) where
@@ -30,10 +25,7 @@ module _ (x y : Variable) (held v w : Valuation) where
   around u = mix (λ z. is_lt (variable_cmp z y)) held u
 
   unasked : (t : Test) → is_eq (variable_cmp x (asked t)) ≡ false → holds t (around moved) ≡ holds t (around w)
-  unasked t e =
-      mixed (λ z. is_lt (variable_cmp z y)) held moved t
-      ∙ ap (λ b. cond (is_lt (variable_cmp (asked t) y)) (holds t held) b) (mixed (λ z. is_eq (variable_cmp x z)) v w t ∙ ap (λ b. cond b (holds t v) (holds t w)) e)
-      ∙ sym (mixed (λ z. is_lt (variable_cmp z y)) held w t)
+  unasked t h1 = grind arith
 
 -- a formula of plain comparisons depends on x, which is plain then, or is not changed by it
 module _ (x y : Variable) (held : Valuation) where
@@ -45,9 +37,7 @@ module _ (x y : Variable) (held : Valuation) where
   by_test t p false e = inr (λ v w. unasked x y held v w t e)
 
   joined : (op : Bool → Bool → Bool) (f g h : Formula) → ((v : Valuation) → truth_of h v ≡ op (truth_of f v) (truth_of g v)) → IsPlainVariable x ⊎ IsUnmoved f → IsPlainVariable x ⊎ IsUnmoved g → IsPlainVariable x ⊎ IsUnmoved h
-  joined op f g h e (inl p) b = inl p
-  joined op f g h e (inr a) (inl p) = inl p
-  joined op f g h e (inr a) (inr b) = inr (λ v w. e _ ∙ both_sides op (a v w) (b v w) ∙ sym (e _))
+  joined op f g h h1 h2 h3 = grind arith
 
   pub asks_or_not : (g : Formula) → AllPlain g → IsPlainVariable x ⊎ IsUnmoved g
   asks_or_not (test t) p = by_test t p (is_eq (variable_cmp x (asked t))) refl

@@ -1,9 +1,7 @@
 -- The text of a marker.
-use Rattle.std.proofs.Common.{◌≡◌, ◌≢◌, ℕ, Bool, true, false, not, List, Option, Some, None, codes, refl, sym, ap, ◌∙◌, subst}
+use Rattle.std.proofs.Common.{◌≡◌, ◌≢◌, ℕ, true, false, List, None, codes, sym, ap, ◌∙◌, subst, arith}
 use Rattle.marker_environment.specs.Valuation.{Valuation}
 use Rattle.marker_diagrams.specs.Diagram.{IsStore}
-use Rattle.marker_diagrams.proofs.IdLaws.{signed_id_back}
-use Rattle.marker_diagrams.proofs.NodeLaws.{truth_signed}
 use Rattle.marker_nodes.specs.Node.{markers}
 use Rattle.marker_graph.specs.declared.tree.MarkerTree.{MarkerTree}
 use Rattle.marker_graph.specs.declared.tree.TheConstants.MarkerTree.{TRUE, FALSE}
@@ -13,7 +11,6 @@ use Rattle.marker_graph.proofs.CountLaws.{negated_twice}
 use Rattle.marker_parts.specs.declared.expression.MarkerExpression.{MarkerExpression}
 use Rattle.marker_terms.specs.Plain.{ArePrintable}
 use Rattle.marker_view.specs.Dnf.{AreClausesOf}
-use Rattle.marker_grammar.specs.Grammar.{Reads}
 use Rattle.marker_grammar.specs.Meaning as printed
 use Rattle.marker_grammar.specs.Text.{clauses_text}
 use Rattle.marker_view.specs.Readable.{HasReleases, IsReadable, IsReadableTruth}
@@ -31,38 +28,21 @@ module _ (c : Contents) (store : IsStore markers c.nodes) (t : MarkerTree) (held
 
     -- and one other than `TRUE` is false somewhere
     is_false_where : (v : Valuation) → truth c (negation t) v ≡ true → truth c t v ≡ false
-    is_false_where v e = let n : truth c (negation t) v ≡ not (truth c t v) = truth_signed markers c.nodes true t.id v in by_value (truth c t v) (sym n ∙ e)
-      where
-        by_value : (b : Bool) → not b ≡ true → b ≡ false
-        by_value true e = absurd cc
-        by_value false e = refl
+    is_false_where v h1 = grind arith
 
     pub somewhere_false : t ≢ TRUE → (v : Valuation) × (truth c t v ≡ false)
     somewhere_false other = let s = satisfied (negation t) held (λ e. other (undone e)) in (s.0, is_false_where s.0 s.1)
 
     -- the text of `FALSE`
     pub falsehood_is_told : ((v : Valuation) → truth c FALSE v ≡ false) → t ≡ FALSE → (text : List ℕ) → text ≡ codes "python_version < '0'" → IsTextOf (truth c t) text
-    falsehood_is_told nowhere e text is = record {
-      somewhere_false = somewhere_false (λ f. let two : true ≡ false = ap (λ (u : MarkerTree). u.id.complement) (sym e ∙ f) in absurd cc);
-      falsehood = λ _. is;
-      read_back = λ v so _. let two : true ≡ false = sym so ∙ subst (λ (u : MarkerTree). truth c u v ≡ false) (sym e) (nowhere v) in absurd cc;
-    }
+    falsehood_is_told h1 h2 text h3 = grind (arith, somewhere_false)
 
     -- the text of any other marker is that of its clauses, which parses back if they can be printed
     module _ (not_true : t ≢ TRUE) (not_false : t ≢ FALSE) (clauses : List (List MarkerExpression)) (are : AreClausesOf c t clauses)
         (reads : ArePrintable clauses → printed.IsReadAs clauses (clauses_text clauses)) (is_readable : IsReadableTruth (truth c t) → IsReadable c t)
         (releases : IsReadableTruth (truth c t) → HasReleases c t) where
-      as_clauses : IsReadableTruth (truth c t) → printed.IsReadAs clauses (clauses_text clauses)
-      as_clauses r = reads (are.printable (is_readable r) not_true not_false)
-
       reads_back : (text : List ℕ) → text ≡ clauses_text clauses → IsReadableTruth (truth c t) → ReadsBack (truth c t) text
-      reads_back text is r = let a = as_clauses r in record {
-        formula = a.formula;
-        kinds = a.kinds;
-        reads = subst (λ (x : List ℕ). Reads x a.formula a.kinds) (sym is) a.reads;
-        means = λ v. a.means v ∙ are.mean (releases r) not_true v;
-        fits = a.fits;
-      }
+      reads_back text h1 h2 = grind arith
 
       pub other_is_told : (text : List ℕ) → text ≡ clauses_text clauses → IsTextOf (truth c t) text
       other_is_told text is = record {

@@ -1,6 +1,6 @@
 -- The same for texts: a plain formula may change only at plain texts, and so may the nodes of its
 -- residues.
-use Rattle.std.proofs.Common.{◌≡◌, ◌≢◌, ◌&&◌, ◌||◌, ℕ, Bool, true, false, List, [], ◌∷◌, ◌++◌, cond, refl, sym, ap, ◌∙◌, string_bytes}
+use Rattle.std.proofs.Common.{◌≡◌, ◌≢◌, ◌&&◌, ◌||◌, ℕ, Bool, true, false, List, [], ◌∷◌, ◌++◌, cond, sym, ap, ◌∙◌, string_bytes, arith}
 use Rattle.std.specs.FinMap.{nat_cmp-IsAntisymmetric, slice_cmp-IsAntisymmetric}
 use Rattle.std.specs.List.{AllByRecursion}
 use Rattle.std.specs.Ordering.{is_eq, is_lt, ordering_then}
@@ -13,13 +13,12 @@ use Rattle.version_ranges.specs.declared.cut.Cut.{Cut}
 use Rattle.version_ranges.specs.Alike.{AreAlike, TiesWithNone}
 use Rattle.version_ranges.specs.Cut.{cut_point}
 use Rattle.version_ranges.specs.Point.{Point, bottom, at, above, point_cmp, point_lt}
-use Rattle.marker_words.specs.Compare.{holds_beside, beside, text_cmp}
+use Rattle.marker_words.specs.Compare.{beside, text_cmp}
 use Rattle.marker_words.specs.declared.key.MarkerValueString.{MarkerValueString}
 use Rattle.marker_words.specs.declared.operator.MarkerOperator.{MarkerOperator}
-use Rattle.marker_words.specs.declared.operator.MarkerOperator.TheVariants.{Equal as equal, NotEqual, GreaterThan, GreaterEqual, LessThan, LessEqual, TildeEqual, In, NotIn, Contains, NotContains}
 use Rattle.marker_words.specs.declared.operator.ExtraOperator.TheVariants as extra_operators
 use Rattle.marker_environment.specs.Valuation.{Valuation}
-use Rattle.marker_parts.specs.Expression.{Test, version, version_in, text, extra, name, arbitrary, holds, holds_text}
+use Rattle.marker_parts.specs.Expression.{Test, version, version_in, text, extra, holds, holds_text}
 use Rattle.marker_grammar.specs.Formula.{Formula, test, both, either, truth_of}
 use Rattle.marker_nodes.specs.Node.{lowest}
 use Rattle.marker_nodes.specs.Variable.{Variable, variable_cmp, mix}
@@ -45,10 +44,7 @@ IsPlainPoint (at t) = is_plain t ≡ true
 IsPlainPoint (above t) = is_plain t ≡ true
 
 test_plain : (t : Test) → IsPlainTest t → AllByRecursion IsPlainPoint (test_ends t)
-test_plain (version key s) h = tt
-test_plain (version_in key versions negated) h = tt
-test_plain (text key operator t) h = (h, (h, tt))
-test_plain (extra operator x) h = tt
+test_plain t h1 = grind arith
 
 joined : (xs ys : List (Point (List ℕ))) → AllByRecursion IsPlainPoint xs → AllByRecursion IsPlainPoint ys → AllByRecursion IsPlainPoint (xs ++ ys)
 joined [] ys a b = b
@@ -60,32 +56,23 @@ formula_plain (both f g) h = joined (text_ends f) (text_ends g) (formula_plain f
 formula_plain (either f g) h = joined (text_ends f) (text_ends g) (formula_plain f h.0) (formula_plain g h.1)
 
 never_less : (r : Ordering) → ordering_then r Less ≢ Equal
-never_less Less = λ e. cc
-never_less Equal = λ e. cc
-never_less Greater = λ e. cc
+never_less r = grind arith
 
 never_greater : (r : Ordering) → ordering_then r Greater ≢ Equal
-never_greater Less = λ e. cc
-never_greater Equal = λ e. cc
-never_greater Greater = λ e. cc
+never_greater r = grind arith
 
 module _ (w : List ℕ) (none : is_plain w ≡ false) where
   untied : (t : List ℕ) → is_plain t ≡ true → text_cmp t w ≢ Equal
   untied t r = λ e. true≢false (sym r ∙ ap is_plain (slice_cmp-IsAntisymmetric nat_cmp-IsAntisymmetric t w e) ∙ none)
 
   at_untied : (end : Point (List ℕ)) → IsPlainPoint end → point_cmp text_cmp end (at w) ≢ Equal
-  at_untied bottom r = absurd r
-  at_untied (at t) r = untied t r
-  at_untied (above t) r = never_greater (text_cmp t w)
+  at_untied end h1 = grind (arith, untied, never_greater)
 
   above_untied : (end : Point (List ℕ)) → IsPlainPoint end → point_cmp text_cmp end (above w) ≢ Equal
-  above_untied bottom r = absurd r
-  above_untied (at t) r = never_less (text_cmp t w)
-  above_untied (above t) r = untied t r
+  above_untied end h1 = grind (arith, never_less, untied)
 
   point_untied : (b : Bool) (end : Point (List ℕ)) → IsPlainPoint end → point_cmp text_cmp end (cond b (above w) (at w)) ≢ Equal
-  point_untied true = above_untied
-  point_untied false = at_untied
+  point_untied b end h1 = grind (arith, above_untied, at_untied)
 
 none_ties : (c : Cut (String Global)) → is_plain (string_bytes c.value) ≡ false → (ends : List (Point (List ℕ))) → AllByRecursion IsPlainPoint ends → TiesWithNone text_cmp (cut_point string_bytes c) ends
 none_ties c e [] a = tt
@@ -108,56 +95,25 @@ beside_by true b = Less
 beside_by false true = Equal
 beside_by false false = Greater
 
-at_by : (r : Ordering) → r ≡ beside_by (is_lt r) (is_lt (ordering_then r Less))
-at_by Less = refl
-at_by Equal = refl
-at_by Greater = refl
-
-above_by : (r : Ordering) → ordering_then r Greater ≡ beside_by (is_lt (ordering_then r Greater)) (is_lt r)
-above_by Less = refl
-above_by Equal = refl
-above_by Greater = refl
-
 beside_is : (p : Point (List ℕ)) (t : List ℕ) → beside text_cmp p t ≡ beside_by (point_lt text_cmp p (at t)) (point_lt text_cmp p (above t))
-beside_is bottom t = refl
-beside_is (at s) t = at_by (text_cmp s t)
-beside_is (above s) t = above_by (text_cmp s t)
+beside_is p t = grind arith
 
 module _ (p q : Point (List ℕ)) where
   beside_alike : (t : List ℕ) → AreAlike text_cmp p q (at t ∷ above t ∷ []) → beside text_cmp p t ≡ beside text_cmp q t
-  beside_alike t a =
-      beside_is p t ∙ ap (λ b. beside_by b (point_lt text_cmp p (above t))) a.0 ∙ ap (λ b. beside_by (point_lt text_cmp q (at t)) b) a.1.0 ∙ sym (beside_is q t)
+  beside_alike t h1 = grind arith
 
   text_alike : (operator : MarkerOperator) (key : MarkerValueString) (t : List ℕ) → AreAlike text_cmp p q (at t ∷ above t ∷ []) → holds_text operator key t (all_texts p) ≡ holds_text operator key t (all_texts q)
-  text_alike equal key t a = ap (holds_beside equal) (beside_alike t a)
-  text_alike NotEqual key t a = ap (holds_beside NotEqual) (beside_alike t a)
-  text_alike GreaterThan key t a = ap (holds_beside GreaterThan) (beside_alike t a)
-  text_alike GreaterEqual key t a = ap (holds_beside GreaterEqual) (beside_alike t a)
-  text_alike LessThan key t a = ap (holds_beside LessThan) (beside_alike t a)
-  text_alike LessEqual key t a = ap (holds_beside LessEqual) (beside_alike t a)
-  text_alike TildeEqual key t a = refl
-  text_alike In key t a = refl
-  text_alike NotIn key t a = refl
-  text_alike Contains key t a = refl
-  text_alike NotContains key t a = refl
+  text_alike operator key t h1 = grind (arith, beside_alike)
 
   test_alike : (t : Test) → AreAlike text_cmp p q (test_ends t) → holds t (all_texts p) ≡ holds t (all_texts q)
-  test_alike (version key s) a = refl
-  test_alike (version_in key versions negated) a = refl
-  test_alike (text key operator t) a = text_alike operator key t a
-  test_alike (extra extra_operators.Equal (name n)) a = refl
-  test_alike (extra extra_operators.Equal (arbitrary t)) a = refl
-  test_alike (extra extra_operators.NotEqual (name n)) a = refl
-  test_alike (extra extra_operators.NotEqual (arbitrary t)) a = refl
+  test_alike t h1 = grind (arith, text_alike)
 
   module _ (x y : Variable) (held w : Valuation) where
     abbrev pub held_with : Point (List ℕ) → Valuation
     held_with r = mix (λ z. is_lt (variable_cmp z y)) held (mix (λ z. is_eq (variable_cmp x z)) (all_texts r) w)
 
     answers : (r : Point (List ℕ)) (t : Test) → holds t (held_with r) ≡ cond (is_lt (variable_cmp (asked t) y)) (holds t held) (cond (is_eq (variable_cmp x (asked t))) (holds t (all_texts r)) (holds t w))
-    answers r t =
-        mixed (λ z. is_lt (variable_cmp z y)) held (mix (λ z. is_eq (variable_cmp x z)) (all_texts r) w) t
-        ∙ ap (λ b. cond (is_lt (variable_cmp (asked t) y)) (holds t held) b) (mixed (λ z. is_eq (variable_cmp x z)) (all_texts r) w t)
+    answers r t = grind (arith, mixed, cond, asked)
 
     pub texts_alike : (g : Formula) → AreAlike text_cmp p q (text_ends g) → truth_of g (held_with p) ≡ truth_of g (held_with q)
     texts_alike (test t) a =

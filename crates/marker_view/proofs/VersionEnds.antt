@@ -1,5 +1,5 @@
 -- The truth of plain comparisons of versions may change only at releases.
-use Rattle.std.proofs.Common.{◌≡◌, Bool, not, ◌&&◌, ◌||◌, List, [], ◌∷◌, refl, ap, ◌∙◌}
+use Rattle.std.proofs.Common.{◌≡◌, Bool, not, ◌&&◌, ◌||◌, List, [], ◌∷◌, refl, ap, ◌∙◌, arith}
 use Rattle.std.specs.List.{AllByRecursion, list_any}
 use Rattle.version_ranges.specs.Alike.{AreAlike}
 use Rattle.version_ranges.specs.Point.{Point, at, above}
@@ -7,9 +7,9 @@ use Rattle.pep440_version.specs.Order.{version_cmp}
 use Rattle.pep440_version.specs.Parts.{Parts, release_only}
 use Rattle.pep440_rs.specs.Bounds.{IsRelease}
 use Rattle.pep440_rs.specs.Ends.{IsReleasePoint, ends_of, python_ends_of}
-use Rattle.pep440_rs.specs.Lists.{is_listed, has_long}
+use Rattle.pep440_rs.specs.Lists.{is_listed}
 use Rattle.pep440_rs.specs.PythonVersion.{is_in_minor, minor_release, next_minor}
-use Rattle.pep440_rs.proofs.Ends.{answers_alike, python_answers_alike, ends_are_releases, python_ends_are_releases}
+use Rattle.pep440_rs.proofs.Ends.{answers_alike, python_answers_alike}
 use Rattle.marker_words.specs.declared.key.MarkerValueVersion.{MarkerValueVersion}
 use Rattle.marker_words.specs.declared.key.MarkerValueVersion.TheVariants.{ImplementationVersion, PythonFullVersion, PythonVersion}
 use Rattle.marker_parts.specs.Expression.{holds_in, holds_version}
@@ -34,9 +34,7 @@ list_ends PythonFullVersion vs = listed_ends vs
 list_ends PythonVersion vs = minor_listed_ends vs
 
 pub specifier_releases : (key : MarkerValueVersion) (s : Specifier) → AllByRecursion IsReleasePoint (specifier_ends key s)
-specifier_releases ImplementationVersion s = ends_are_releases s.operator s.version.release
-specifier_releases PythonFullVersion s = ends_are_releases s.operator s.version.release
-specifier_releases PythonVersion s = python_ends_are_releases s.operator s.version.release
+specifier_releases key s = grind arith
 
 listed_releases : (vs : List Parts) → AllByRecursion IsRelease vs → AllByRecursion IsReleasePoint (listed_ends vs)
 listed_releases [] a = tt
@@ -47,15 +45,11 @@ minor_releases [] = tt
 minor_releases (v ∷ vs) = (refl, (refl, minor_releases vs))
 
 pub list_releases : (key : MarkerValueVersion) (vs : List Parts) → AllByRecursion IsRelease vs → AllByRecursion IsReleasePoint (list_ends key vs)
-list_releases ImplementationVersion vs a = listed_releases vs a
-list_releases PythonFullVersion vs a = listed_releases vs a
-list_releases PythonVersion vs a = minor_releases vs
+list_releases key vs h1 = grind (arith, listed_releases, minor_releases)
 
 module _ (p q : Point Parts) where
   pub specifier_alike : (key : MarkerValueVersion) (s : Specifier) → AreAlike version_cmp p q (specifier_ends key s) → holds_version key s p ≡ holds_version key s q
-  specifier_alike ImplementationVersion s a = answers_alike p q s.operator s.version.release a
-  specifier_alike PythonFullVersion s a = answers_alike p q s.operator s.version.release a
-  specifier_alike PythonVersion s a = python_answers_alike p q s.operator s.version.release a
+  specifier_alike key s h1 = grind (arith, answers_alike, python_answers_alike)
 
   -- between two points, as `not before the first` and `before the second`
   between : (a b c d : Bool) → a ≡ c → b ≡ d → (not a && b) ≡ (not c && d)
@@ -73,6 +67,4 @@ module _ (p q : Point Parts) where
   minor_alike (v ∷ vs) a = either_alike _ _ _ _ (between _ _ _ _ a.0 a.1.0) (minor_alike vs a.1.1)
 
   pub list_alike : (key : MarkerValueVersion) (vs : List Parts) → AreAlike version_cmp p q (list_ends key vs) → holds_in key vs p ≡ holds_in key vs q
-  list_alike ImplementationVersion vs a = listed_alike vs a
-  list_alike PythonFullVersion vs a = listed_alike vs a
-  list_alike PythonVersion vs a = ap (λ x. not (has_long vs) && x) (minor_alike vs a)
+  list_alike key vs h1 = grind (arith, listed_alike, not, minor_alike)

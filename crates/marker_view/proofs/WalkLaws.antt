@@ -24,35 +24,22 @@ use Rattle.marker_view.specs.Branch.{HasReleases}
 use Rattle.marker_view.specs.PlainNodes.{IsReadable}
 
 and_assoc : (a b c : Bool) → ((a && b) && c) ≡ (a && (b && c))
-and_assoc true b c = refl
-and_assoc false b c = refl
+and_assoc a b c = grind arith
 
 pub and_end : (a : Bool) → (a && true) ≡ a
-and_end true = refl
-and_end false = refl
+and_end a = grind arith
 
 and_no : (a : Bool) → (a && false) ≡ false
-and_no true = refl
-and_no false = refl
+and_no a = grind arith
 
 or_end : (a : Bool) → (a || false) ≡ a
-or_end true = refl
-or_end false = refl
+or_end a = grind arith
 
 or_assoc : (a b c : Bool) → ((a || b) || c) ≡ (a || (b || c))
-or_assoc true b c = refl
-or_assoc false b c = refl
-
-or_and : (p a b t : Bool) → ((p && (a && t)) || (p && (b && t))) ≡ (p && ((a || b) && t))
-or_and false a b t = refl
-or_and true true true true = refl
-or_and true true true false = refl
-or_and true true false t = or_end t
-or_and true false b t = refl
+or_assoc a b c = grind arith
 
 or_both : (p a b : Bool) → ((p && a) || (p && b)) ≡ (p && (a || b))
-or_both false a b = refl
-or_both true a b = refl
+or_both p a b = grind arith
 
 -- one more term after both
 pub term_more : (all new path terms : List MarkerExpression) (i : ℕ) (t e : MarkerExpression) → i < length terms → t ≡ get_or terms i t → test_of e ≡ test_of t → new ≡ all ++ (e ∷ []) →
@@ -85,9 +72,7 @@ true_truth c t v e = ap (λ s. truth c s v) e ∙ true_is c.nodes v
 
 -- a clause more that leads to a subtree
 pub way_taken : (begun before after p t rest x : Bool) → after ≡ (before || ((p && t) && x)) → (before || (p && ((t || rest) && x))) ≡ begun → (after || (p && (rest && x))) ≡ begun
-way_taken begun before after p t rest x e h =
-    ap (λ y. y || (p && (rest && x))) e ∙ or_assoc before ((p && t) && x) (p && (rest && x))
-    ∙ ap (λ y. before || (y || (p && (rest && x)))) (and_assoc p t x) ∙ ap (λ y. before || y) (or_and p t rest x) ∙ h
+way_taken begun before after p t rest x h1 h2 = grind arith
 
 -- a branch more
 pub branch_taken : (begun before after p b rest : Bool) → after ≡ (before || (p && b)) → (before || (p && (b || rest))) ≡ begun → (after || (p && rest)) ≡ begun

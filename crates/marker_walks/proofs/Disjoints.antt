@@ -42,8 +42,7 @@ module _ (P : NodeId × NodeId → Type 0) where
   each_at (r ∷ qs) h (suc i) q e = each_at qs h.1 i q e
 
 and_both : (x y : Bool) → (x && y) ≡ true → (x ≡ true) × (y ≡ true)
-and_both true y e = (refl, e)
-and_both false y e = absurd (false≢true e)
+and_both x y h1 = grind arith
 
 pub tells_yes : (nodes : List Node) (a b : NodeId) → AreDisjoint nodes a b → TellsDisjoint nodes a b true
 tells_yes nodes a b h = record { disjoint = λ e. h; shared = λ e. absurd (true≢false e) }
@@ -53,8 +52,7 @@ tells_no nodes a b h = record { disjoint = λ e. absurd (false≢true e); shared
 
 -- what is true if there is nothing
 pub on_none : {A : Type 0} → (found : Option A) (P : Type 0) → IfNone found P → is_some found ≡ false → P
-on_none None P h e = h
-on_none (Some a) P h e = absurd (true≢false e)
+on_none found P h1 h2 = grind arith
 
 -- if two ids are disjoint, so is the last pair of their children
 pub last_apart : (nodes : List Node) (a b left right : NodeId) → AreDisjoint nodes a b → IsLastOf nodes a b left right → AreDisjoint nodes left right
@@ -87,9 +85,6 @@ module _ (nodes : List Node) (a b : NodeId) where
       pub rest : EachPair IsApart left → AreDisjoint nodes a b
 
     module _ (now later : List (NodeId × NodeId)) (q : NodeId × NodeId) (e : now ≡ q ∷ later) (w : Walks now) where
-      pub walk_found : IsFound q
-      walk_found = (subst (EachPair IsFound) e w.found).0
-
       pub walk_next : IsApart q → Walks later
       walk_next k = record { found = (subst (EachPair IsFound) e w.found).1; rest = λ h. w.rest (subst (EachPair IsApart) (sym e) (k, h)) }
 

@@ -1,13 +1,13 @@
 -- Ids at the lowest valuation: they are true there, unless they are negations.
-use Rattle.std.proofs.Common.{◌≡◌, ℕ, zero, suc, ◌<◌, Bool, true, false, List, Option, Some, None, refl, ap, ◌∙◌, arith}
+use Rattle.std.proofs.Common.{◌≡◌, ℕ, zero, suc, ◌<◌, true, false, List, Option, Some, None, refl, ap, ◌∙◌, arith}
 use Rattle.marker_diagrams.specs.declared.node_id.NodeId.{NodeId}
 use Rattle.marker_diagrams.specs.Id.{place_of, is_negated, signed}
-use Rattle.marker_diagrams.specs.Diagram.{node_at, IsHeld, IsStore, truth, truth_at}
+use Rattle.marker_diagrams.specs.Diagram.{node_at, IsStore, truth, truth_at}
 use Rattle.marker_diagrams.proofs.Canonicity.{descends}
 use Rattle.marker_diagrams.proofs.NodeLaws.{truth_free, truth_node}
 use Rattle.marker_nodes.specs.Node.{Node, lowest, markers}
 use Rattle.marker_nodes.proofs.NodeLaws.{lawful}
-use Rattle.marker_walks.specs.Disjoint.{AreShared, TellsDisjoint}
+use Rattle.marker_walks.specs.Disjoint.{TellsDisjoint}
 use Rattle.marker_walks.proofs.Disjoints.{tells_no}
 
 module _ (nodes : List Node) (store : IsStore markers nodes) where

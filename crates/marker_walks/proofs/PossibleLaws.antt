@@ -33,12 +33,11 @@ use Rattle.marker_diagrams.proofs.Canonicity.{child_seen}
 use Rattle.marker_nodes.specs.declared.variable.TruthVariable.{TruthVariable}
 use Rattle.marker_nodes.specs.declared.variable.TruthVariable.TheVariants as truths
 use Rattle.marker_nodes.specs.declared.node.Branches.TheVariants.{Truth}
-use Rattle.marker_nodes.specs.Variable.{Variable, of_version, of_extra, of_arbitrary, answer, mix, variable_cmp}
+use Rattle.marker_nodes.specs.Variable.{Variable, answer, mix, variable_cmp}
 use Rattle.marker_words.specs.Compare.{text_cmp}
 use Rattle.marker_nodes.specs.Branches.{variable, value_at as pick}
 use Rattle.marker_nodes.specs.Node.{Node, markers}
 use Rattle.marker_nodes.proofs.VariableLaws.{variable_total}
-use Rattle.marker_nodes.proofs.EdgeLaws.{not_true}
 use Rattle.marker_nodes.proofs.NodeLaws.{lawful}
 use Rattle.marker_walks.specs.Possible.{is_listed}
 use Rattle.marker_walks.specs.Search.{AreOut, IsKept, IsMemory, IsSearch}
@@ -97,15 +96,13 @@ always part = true
 -- the Python version may be where one of the listed ones is
 pub listed_enter : (x : VersionVariable) (versions : Option (Bor (List Parts))) (list : Bor (List Parts)) (lower upper : Bound Parts) (z : Bool) → x ≡ PythonFullVersion → versions ≡ Some list →
     z ≡ list_any (λ version. is_in_bounds version_cmp lower upper (at version)) list.now → z ≡ may_lie_in x (listed_versions versions) lower upper
-listed_enter x versions list lower upper z e f h =
-    h ∙ sym (ap (λ y. may_lie_in y (listed_versions versions) lower upper) e ∙ ap (λ o. may_lie_in PythonFullVersion (listed_versions o) lower upper) f)
+listed_enter x versions list lower upper z h1 h2 h3 = grind arith
 
 -- ---- valuations that are looked at
 
 -- the Python version is the same in another valuation
 among_same : (versions : Option (List Parts)) (v w : Valuation) → python_of w ≡ python_of v → IsAmong versions v → IsAmong versions w
-among_same None v w e h = tt
-among_same (Some list) v w e h = (h.0, h.1, e ∙ h.2)
+among_same versions v w h1 h2 = grind arith
 
 -- a valuation with these extras, and the versions at a point
 abbrev plain_at : List (List ℕ) → Point Parts → Valuation
@@ -138,11 +135,7 @@ with_answer b v = record v { inside = λ x s. b; contains = λ x s. b }
 
 -- the pieces in which the version of such a valuation lies may be entered
 entered : (versions : Option (List Parts)) (x : VersionVariable) (v : Valuation) → IsAmong versions v → (lower upper : Bound Parts) → is_in_bounds version_cmp lower upper (v.version x) ≡ true → may_lie_in x versions lower upper ≡ true
-entered versions ImplementationVersion v k lower upper e = refl
-entered None PythonFullVersion v k lower upper e = refl
-entered (Some list) PythonFullVersion v k lower upper e =
-    list_any_at (λ version. is_in_bounds version_cmp lower upper (at version)) list k.1.0 k.0 k.1.1
-    (ap (λ version. is_in_bounds version_cmp lower upper (at version)) k.1.2 ∙ ap (is_in_bounds version_cmp lower upper) (sym k.2) ∙ e)
+entered versions x v h1 lower upper h2 = grind (arith, list_any_at)
 
 module _ (extras : List (List ℕ)) where
   -- a part of the Python versions that may be entered has a point of such a valuation
@@ -160,39 +153,23 @@ module _ (extras : List (List ℕ)) where
 
   -- ---- whether something may be so
   so_answered : (v : Valuation) → HasExtras extras v → (x : TruthVariable) → may_be_so extras x ≡ true → answer x (with_answer true v) ≡ true
-  so_answered v h (truths.In x text) e = refl
-  so_answered v h (truths.Contains x text) e = refl
-  so_answered v h (truths.Extra name) e = h.valid name ∙ e
-  so_answered v h (truths.Arbitrary text) e = absurd (false≢true e)
+  so_answered v h1 x h2 = grind arith
 
   otherwise_answered : (v : Valuation) → HasExtras extras v → (x : TruthVariable) → may_not_be_so extras x ≡ true → answer x (with_answer false v) ≡ false
-  otherwise_answered v h (truths.In x text) e = refl
-  otherwise_answered v h (truths.Contains x text) e = refl
-  otherwise_answered v h (truths.Extra name) e = h.valid name ∙ not_true (is_listed extras name) e
-  otherwise_answered v h (truths.Arbitrary text) e = h.arbitrary (string_bytes text)
+  otherwise_answered v h1 x h2 = grind arith
 
   so_entered : (v : Valuation) → HasExtras extras v → (x : TruthVariable) → answer x v ≡ true → may_be_so extras x ≡ true
-  so_entered v h (truths.In x text) e = refl
-  so_entered v h (truths.Contains x text) e = refl
-  so_entered v h (truths.Extra name) e = sym (h.valid name) ∙ e
-  so_entered v h (truths.Arbitrary text) e = absurd (false≢true (sym (h.arbitrary (string_bytes text)) ∙ e))
+  so_entered v h1 x h2 = grind arith
 
   otherwise_entered : (v : Valuation) → HasExtras extras v → (x : TruthVariable) → answer x v ≡ false → may_not_be_so extras x ≡ true
-  otherwise_entered v h (truths.In x text) e = refl
-  otherwise_entered v h (truths.Contains x text) e = refl
-  otherwise_entered v h (truths.Extra name) e = ap not (sym (h.valid name) ∙ e)
-  otherwise_entered v h (truths.Arbitrary text) e = refl
+  otherwise_entered v h1 x h2 = grind arith
 
   -- what may not be so may be otherwise
   pub otherwise_may : (x : TruthVariable) → may_be_so extras x ≡ false → may_not_be_so extras x ≡ true
-  otherwise_may (truths.In x text) e = absurd (true≢false e)
-  otherwise_may (truths.Contains x text) e = absurd (true≢false e)
-  otherwise_may (truths.Extra name) e = ap not e
-  otherwise_may (truths.Arbitrary text) e = refl
+  otherwise_may x h1 = grind arith
 
 one_of : (b x y z : Bool) → x ≡ z → y ≡ z → cond b x y ≡ z
-one_of true x y z e f = e
-one_of false x y z e f = f
+one_of b x y z h1 h2 = grind arith
 
 -- ---- walks
 module _ (extras : List (List ℕ)) (versions : Option (List Parts)) where
@@ -201,21 +178,11 @@ module _ (extras : List (List ℕ)) (versions : Option (List Parts)) where
   IsSought v = HasExtras extras v × IsAmong versions v
 
   among_mixed : (t : Variable → Bool) (v w : Valuation) → IsAmong versions v → IsAmong versions w → IsAmong versions (mix t v w)
-  among_mixed t v w h k = by_test (t (of_version PythonFullVersion)) refl
-    where
-      by_test : (b : Bool) → t (of_version PythonFullVersion) ≡ b → IsAmong versions (mix t v w)
-      by_test true e = among_same versions v (mix t v w) (ap (λ z. cond z (python_of v) (python_of w)) e) h
-      by_test false e = among_same versions w (mix t v w) (ap (λ z. cond z (python_of v) (python_of w)) e) k
+  among_mixed t v w h1 h2 = grind (arith, among_same, cond)
 
   -- if two valuations are in the search, each mixture of them is
   mixed_sought : (t : Variable → Bool) (v w : Valuation) → IsSought v → IsSought w → IsSought (mix t v w)
-  mixed_sought t v w h k = (
-    record {
-      valid = λ name. one_of (t (of_extra name)) (v.extra name) (w.extra name) (is_listed extras name) (h.0.valid name) (k.0.valid name);
-      arbitrary = λ text. one_of (t (of_arbitrary text)) (v.arbitrary text) (w.arbitrary text) false (h.0.arbitrary text) (k.0.arbitrary text);
-    },
-    among_mixed t v w h.1 k.1,
-  )
+  mixed_sought t v w h1 h2 = grind (arith, one_of, among_mixed)
 
   pub tells_yes : (f : Valuation → Bool) (v : Valuation) → HasExtras extras v → IsAmong versions v → f v ≡ true → AnswersPossible extras versions f true
   tells_yes f v h k e = record { possible = λ z. (v, h, k, e); impossible = λ z. absurd (true≢false z) }
@@ -262,17 +229,11 @@ module _ (extras : List (List ℕ)) (versions : Option (List Parts)) where
       module _ (c u : NodeId) (u_is : u ≡ signed_id (is_negated t) c) where
         -- the child is below
         pub child_below : IsHeld nodes t → Leads c → (place_of u < place_of t) × IsHeld nodes u
-        child_below i h =
-            let b : place_of c < place_of t = h.below in
-            let k : place_of u ≡ place_of c = ap place_of u_is in
-            (omega arith, omega arith)
+        child_below h1 h2 = grind arith
 
         -- if the child is possible, the id is
         pub child_found : Leads c → (z : Bool) → AnswersPossible extras versions (truth markers nodes u) z → z ≡ true → AnswersPossible extras versions (truth markers nodes t) true
-        child_found h z k e =
-            let w = k.possible e in
-            let s = h.satisfied (w.0, w.1, w.2, ap (λ x. truth markers nodes x w.0) (sym u_is) ∙ w.3) in
-            tells_yes (truth markers nodes t) s.0 s.1 s.2 s.3
+        child_found h1 z h2 h3 = grind arith
 
         -- and else it is out
         pub child_closed : (z : Bool) → AnswersPossible extras versions (truth markers nodes u) z → z ≡ false → IsClosed c
@@ -365,8 +326,7 @@ module _ (extras : List (List ℕ)) (versions : Option (List Parts)) where
 
       -- ---- without a node
       pub end_tells : None ≡ node_of nodes t → (z : Bool) → z ≡ not (is_negated t) → AnswersPossible extras versions (truth markers nodes t) z
-      end_tells e true z_is = tells_yes (truth markers nodes t) start ready among (end_means nodes t start e ∙ sym z_is)
-      end_tells e false z_is = tells_no (truth markers nodes t) (λ v i j. end_means nodes t v e ∙ sym z_is)
+      end_tells h1 z h2 = grind (arith, tells_yes, end_means, tells_no)
 
 -- at first the only remembered id is FALSE
 pub nothing_out : (extras : List (List ℕ)) (versions : Option (Bor (List Parts))) (nodes : List Node) (n : ℕ) → AreOut extras versions nodes (replicate n FALSE)

@@ -1,6 +1,6 @@
 -- Warnings of comparisons by order, one after another.
-use Rattle.std.proofs.Common.{◌≡◌, ℕ, zero, suc, ◌<◌, List, [], ◌∷◌, ◌++◌, map, length, get_or, Option, Some, None, All, refl, sym, ap, ◌∙◌, subst, append_assoc, append-nil, arith}
-use Rattle.std.specs.Prelude.{Result, Ok, Err, OnErr, OnOk, String}
+use Rattle.std.proofs.Common.{◌≡◌, ℕ, zero, suc, ◌<◌, List, [], ◌∷◌, ◌++◌, map, length, get_or, Option, Some, All, sym, ap, ◌∙◌, subst, append_assoc, append-nil, arith}
+use Rattle.std.specs.Prelude.{Result, OnErr, OnOk, String}
 use Rattle.std.specs.Global.{Global}
 use Rattle.std.proofs.lemmas.List.Elements.{All-nil, All-append}
 use Rattle.pep508_errors.specs.declared.warning.MarkerWarningKind.{MarkerWarningKind}
@@ -18,14 +18,10 @@ IsComparison kind = kind ≡ LexicographicComparison
 
 -- the same kinds, and more of them
 adds_nothing : (kinds : Kinds) → Adds kinds kinds []
-adds_nothing None = tt
-adds_nothing (Some told) = ap Some (sym (append-nil told))
+adds_nothing kinds = grind (arith, append-nil)
 
 adds_more : (a b c : Kinds) (ks ls : List MarkerWarningKind) → Adds a b ks → Adds b c ls → Adds a c (ks ++ ls)
-adds_more None b c ks ls h k = tt
-adds_more (Some told) b c ks ls h k =
-    let there : Adds (Some (told ++ ks)) c ls = subst (λ (x : Kinds). Adds x c ls) h k in
-    there ∙ ap Some (append_assoc told ks ls)
+adds_more a b c ks ls h1 h2 = grind (arith, append_assoc)
 
 -- nothing was reported
 pub told_nothing : (kinds : Kinds) → AddsComparisons kinds kinds
@@ -36,17 +32,11 @@ pub told_more : (a b c : Kinds) → AddsComparisons a b → AddsComparisons b c 
 told_more a b c h k = (h.0 ++ k.0, adds_more a b c h.0 k.0 h.1 k.1, All-append IsComparison h.0 k.0 h.2 k.2)
 
 keeps_adds : (a b : Kinds) → Keeps a b → Adds a b []
-keeps_adds None b h = tt
-keeps_adds (Some told) b h = h ∙ ap Some (sym (append-nil told))
+keeps_adds a b h1 = grind (arith, append-nil)
 
 -- a report is taken or refused
 pub told_once : {T E : Type 0} (r : Result T E) (a b : Kinds) → OnOk r (Adds a b (LexicographicComparison ∷ [])) → OnErr r (Keeps a b) → AddsComparisons a b
-told_once (Ok x) a b h k = (LexicographicComparison ∷ [], h, one)
-  where
-    one : All IsComparison (LexicographicComparison ∷ [])
-    one zero d l = refl
-    one (suc i) d l = absurd (omega (arith, l))
-told_once (Err x) a b h k = ([], keeps_adds a b k, All-nil IsComparison)
+told_once r a b h1 h2 = grind (arith, keeps_adds)
 
 -- ---- a list of warnings
 -- the warnings of a list, of whose kinds something is known

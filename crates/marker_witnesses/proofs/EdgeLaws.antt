@@ -116,10 +116,6 @@ extra_goes_on r c t view are p =
 
 -- ---- paths
 
-pub leads_down : (c : Contents) (t at s : MarkerTree) (step : Step) (old new : List Step) → new ≡ old ++ step ∷ [] → ((v : Valuation) → All (Follows v) old → truth c t v ≡ truth c at v) → GoesDown c at step s
-    → (v : Valuation) → All (Follows v) new → truth c t v ≡ truth c s v
-leads_down c t at s step old new e same down v a = let p = All-pop (Follows v) new old (Some step) e a in same v p.0 ∙ down.same v p.1
-
 pub leads_to_true : (c : Contents) (t at : MarkerTree) (path : List Step) → at ≢ FALSE → (at ≡ TRUE) ⊎ (at ≡ FALSE) → ((v : Valuation) → All (Follows v) path → truth c t v ≡ truth c at v) → LeadsToTrue (truth c t) path
 leads_to_true c t at path live (inl e) same v a = same v a ∙ ap (λ (x : MarkerTree). truth c x v) e ∙ true_is c.nodes v
 leads_to_true c t at path live (inr e) same v a = absurd (live e)

@@ -62,12 +62,6 @@ shown_before c d a b shown kept held held' p =
       text = q.text;
     })
 
--- an example that satisfies the marker of its side
-pub example_shown : (c d : Contents) (a b t : MarkerTree) (shown : ShownWitness) (example : Example) → shown.example ≡ Some example → Satisfies (truth d t) example
-    → ((v : Valuation) → truth d t v ≡ side_truth shown.side (truth c a) (truth c b) v) → string_bytes shown.text ≡ or_any (example_text example) → IsShown (truth c a) (truth c b) shown
-example_shown c d a b t shown example e p means text =
-    subst (λ (o : Option Example). IfSome o (IsExampleOf (truth c a) (truth c b) shown)) (sym e) (record { satisfies = sym (means (example_valuation example)) ∙ p; text = text })
-
 -- what is shown of a side in an interner that grew is shown of the markers before
 shows_before : (c d : Contents) (a b : MarkerTree) (side : Side) (found : Option ShownWitness) → IsKept c d → IsHeld c a → IsHeld c b → Shows (truth d a) (truth d b) side found → Shows (truth c a) (truth c b) side found
 shows_before c d a b side None kept held held' p = λ v. same_side side (truth c a) (truth c b) (truth d a) (truth d b) (kept_truth c d a kept held) (kept_truth c d b kept held') v ∙ p v

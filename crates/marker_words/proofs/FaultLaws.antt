@@ -1,6 +1,6 @@
 -- Faults in the rest of a text are faults in the text, and their messages.
-use Rattle.std.proofs.Common.{◌≡◌, ℕ, ◌-◌, ◌<◌, cond, eqb, List, [], ◌++◌, length, refl, sym, ap, ◌∙◌, subst, arith, IsUtf8}
-use Rattle.std.specs.Prelude.{encode_utf8, encode_utf8_all, Result, Ok, Err, OnErr}
+use Rattle.std.proofs.Common.{◌≡◌, ℕ, ◌-◌, ◌<◌, cond, eqb, List, [], ◌++◌, length, refl, sym, ap, ◌∙◌, subst, arith, IsUtf8, rules}
+use Rattle.std.specs.Prelude.{encode_utf8, encode_utf8_all, Result, OnErr}
 use Rattle.std.specs.Str.{chars}
 use Rattle.pep508_text.specs.Run.{run_of}
 use Rattle.pep508_text.specs.declared.classes.Class.{Class}
@@ -9,13 +9,11 @@ use Rattle.pep508_text.specs.declared.place.Place.{Place}
 use Rattle.pep508_text.proofs.SuffixLaws.{len_inside, suffix_self, suffix_then, suffix_nil, piece_start, same_front, spanned}
 use Rattle.marker_words.specs.declared.fault.Fault.{Fault}
 use Rattle.marker_words.specs.declared.fault.FaultKind.{FaultKind}
-use Rattle.marker_words.specs.declared.fault.FaultKind.TheVariants.{ValueAtEnd, NoValue, NoOperator, NotAtEnd, NoSpaceAfterNot, Unclosed, MissingAtEnd, Missing, Unexpected, Trailing}
 use Rattle.marker_words.specs.Fault.{message_of, operator_class, IsLongest, IsUnclosed, quotes, parentheses, Finds, IsFault, IsFaultAt, NoneOpen, IsSpanOf, IsMarkerFault}
 
 -- what is known at any error
 pub on_err : {T E Q : Type 0} (r : Result T E) → Q → OnErr r Q
-on_err (Ok x) q = tt
-on_err (Err e) q = q
+on_err r h1 = grind arith
 
 -- what words say of a text is true in each grammar
 unclosed_among : {Open : List ℕ → Type 0} {opening closing : ℕ} {back : List ℕ} → IsUnclosed NoneOpen opening closing back → IsUnclosed Open opening closing back
@@ -23,16 +21,7 @@ unclosed_among (quotes quote none) = quotes quote none
 unclosed_among (parentheses open_there) = absurd open_there
 
 among : (Open : List ℕ → Type 0) (kind : FaultKind) (piece back : List ℕ) → Finds NoneOpen kind piece back → Finds Open kind piece back
-among Open ValueAtEnd piece back found = found
-among Open NoValue piece back found = found
-among Open NoOperator piece back found = found
-among Open NotAtEnd piece back found = found
-among Open NoSpaceAfterNot piece back found = found
-among Open (Unclosed closing) piece back found = (found.0, unclosed_among found.1, found.2)
-among Open (MissingAtEnd awaited) piece back found = found
-among Open (Missing awaited) piece back found = found
-among Open (Unexpected c) piece back found = found
-among Open (Trailing c) piece back found = found
+among Open kind piece back h1 = grind (arith, unclosed_among)
 
 -- a fault in what is left is one in the whole text
 pub fault_of_suffix : {Open : List ℕ → Type 0} → {text rest piece : List ℕ} {kind : FaultKind} {left : ℕ} → IsSuffix text rest → IsFaultAt Open rest kind piece left → IsFaultAt Open text kind piece left
@@ -50,13 +39,11 @@ fault_in_front text piece back kind left utf8 ends joined left_is found = record
 
 -- a fault with its kind and its place
 fault_at : {Open : List ℕ → Type 0} {text : List ℕ} {fault : Fault} (kind : FaultKind) (place : Place) → fault.kind ≡ kind → fault.place ≡ place → IsFaultAt Open text kind place.piece.now place.left → IsFault Open text fault
-fault_at {Open} {text} {fault} kind place kind_is place_is f =
-    subst (λ (k : FaultKind). IsFaultAt Open text k fault.place.piece.now fault.place.left) (sym kind_is) (subst (λ (p : Place). IsFaultAt Open text kind p.piece.now p.left) (sym place_is) f)
+fault_at kind place h1 h2 h3 = grind arith
 
 -- at a piece that is known
 pub fault_at_piece : {Open : List ℕ → Type 0} {text piece : List ℕ} {left : ℕ} {fault : Fault} {place : Place} (kind : FaultKind) → fault.kind ≡ kind → fault.place ≡ place → place.piece.now ≡ piece → place.left ≡ left → IsFaultAt Open text kind piece left → IsFault Open text fault
-fault_at_piece {Open} {text} {piece} {left} {fault} {place} kind kind_is place_is piece_is left_is f =
-    fault_at kind place kind_is place_is (subst (λ (x : List ℕ). IsFaultAt Open text kind x place.left) (sym piece_is) (subst (IsFaultAt Open text kind piece) (sym left_is) f))
+fault_at_piece kind h1 h2 h3 h4 h5 = grind arith
 
 -- at the end of the text
 pub fault_at_end : {Open : List ℕ → Type 0} {text : List ℕ} {fault : Fault} {place : Place} (kind : FaultKind) → fault.kind ≡ kind → fault.place ≡ place → place.piece.now ≡ [] → place.left ≡ 0 → Finds Open kind [] [] → IsFault Open text fault
@@ -67,8 +54,7 @@ fault_at_end {Open} {text} {fault} {place} kind kind_is place_is piece_is left_i
 
 -- at the text's first character
 pub fault_at_first : {Open : List ℕ → Type 0} {text rest : List ℕ} {fault : Fault} {place : Place} (c : ℕ) (kind : FaultKind) → IsUtf8 text → IsSuffix text rest → text ≡ encode_utf8 c ++ rest → fault.kind ≡ kind → fault.place ≡ place → text ≡ place.piece.now ++ rest → place.left ≡ length text → (place.piece.now ≡ encode_utf8 c → Finds Open kind place.piece.now rest) → IsFault Open text fault
-fault_at_first {text = text} {rest = rest} {place = place} c kind utf8 suffix first kind_is place_is joined left_is found =
-    fault_at kind place kind_is place_is (fault_in_front text place.piece.now rest kind place.left utf8 suffix.utf8 joined left_is (found (same_front text place.piece.now (encode_utf8 c) rest joined first)))
+fault_at_first c kind h1 h2 h3 h4 h5 h6 h7 h8 = search (rules, fault_at, fault_in_front, same_front)
 
 -- at the run at the front of a text
 pub fault_at_run : {Open : List ℕ → Type 0} {text rest run : List ℕ} {fault : Fault} {place : Place} (kind : FaultKind) → IsUtf8 text → IsSuffix text rest → text ≡ run ++ rest → fault.kind ≡ kind → fault.place ≡ place → place.piece.now ≡ run → place.left ≡ length text → Finds Open kind run rest → IsFault Open text fault
@@ -79,9 +65,7 @@ pub run_longest : (text rest run : List ℕ) (class : Class) → text ≡ run ++
 run_longest text rest run class joined run_is = subst (λ (t : List ℕ). run ≡ encode_utf8_all (run_of class (chars t))) joined run_is
 
 pub longest_operator : (text rest run : List ℕ) (class : Class) → operator_class (chars text) ≡ class → text ≡ run ++ rest → run ≡ encode_utf8_all (run_of class (chars text)) → IsLongest (operator_class (chars (run ++ rest))) run rest
-longest_operator text rest run class class_is joined run_is =
-    let here : run ≡ encode_utf8_all (run_of (operator_class (chars text)) (chars text)) = run_is ∙ ap (λ (k : Class). encode_utf8_all (run_of k (chars text))) (sym class_is) in
-    subst (λ (t : List ℕ). run ≡ encode_utf8_all (run_of (operator_class (chars t)) (chars t))) joined here
+longest_operator text rest run class h1 h2 h3 = grind arith
 
 covers_of : (t n left : ℕ) → t - left < t → cond (eqb left 0) 1 n ≡ n
 covers_of t n left inside = len_inside left n (omega arith)

@@ -1,5 +1,5 @@
 -- A text is parsed in one way at each place.
-use Rattle.std.proofs.Common.{◌≡◌, ℕ, ◌≤◌, ◌<◌, List, ◌∷◌, sym, subst, arith, lit<, inl, inr, ◌⊎◌}
+use Rattle.std.proofs.Common.{◌≡◌, ℕ, ◌≤◌, ◌<◌, List, ◌∷◌, sym, subst, arith, lit<, ◌⊎◌}
 use Rattle.pep508_text.specs.Run.{after_space, Spaces}
 use Rattle.pep508_text.proofs.RunLaws.{spaces_end, spaces_all}
 use Rattle.marker_words.specs.declared.operator.MarkerOperator.{MarkerOperator}
@@ -45,11 +45,7 @@ sides_same {o = o} {l = l} {r = r} {s = s} a b =
 
 -- no comparison begins with a parenthesis
 between : (c : ℕ) → (c ≤ 39) ⊎ (97 ≤ c) → 39 < c → c < 97 → ⊥
-between c (inl a) low high = omega arith
-between c (inr a) low high = omega arith
+between c h1 h2 h3 = grind arith
 
 pub sides_begins : {i o a : List ℕ} {l r : Value} {p : MarkerOperator} → Sides i o l p r → after_space i ≡ 40 ∷ a → ⊥
-sides_begins {a = a} {l = l} d e =
-    let at = sides_at d in
-    let v : IsValue (40 ∷ a) at.second l = subst (λ (x : List ℕ). IsValue x at.second l) e at.left_at in
-    between 40 (value_begins v) (lit< tt) (lit< tt)
+sides_begins h1 h2 = grind (arith, sides_at, between, value_begins, lit<)

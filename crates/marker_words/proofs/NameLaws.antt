@@ -1,7 +1,7 @@
 -- The names of keys: each is known by its name, is written in ASCII, and begins with a small letter.
-use Rattle.std.proofs.Common.{◌≡◌, ℕ, ◌≤◌, false, cond, List, ◌∷◌, refl, sym, ap, ◌∙◌, lit≤}
-use Rattle.std.specs.Prelude.{codes, encode_utf8_all, nat_eq}
 use Rattle.std.specs.Cmp.Lexicographic.{pointwise}
+use Rattle.std.proofs.Common.{◌≡◌, ℕ, ◌≤◌, false, cond, List, ◌∷◌, refl, sym, ap, ◌∙◌, lit≤, arith}
+use Rattle.std.specs.Prelude.{codes, encode_utf8_all, nat_eq}
 use Rattle.pep508_text.specs.Class.{holds}
 use Rattle.pep508_text.specs.declared.classes.Class.TheVariants.{Space}
 use Rattle.marker_words.specs.declared.key.MarkerValueVersion.{MarkerValueVersion}
@@ -20,25 +20,10 @@ pub record Lettered (r : List ℕ) : Type 0 where
   pub plain : holds Space letter ≡ false
 
 pub version_key_lettered : (key : MarkerValueVersion) → Lettered (version_key_name key)
-version_key_lettered version_keys.ImplementationVersion = record { letter = 105; others = _; parts = refl; small = lit≤ tt; plain = refl }
-version_key_lettered version_keys.PythonFullVersion = record { letter = 112; others = _; parts = refl; small = lit≤ tt; plain = refl }
-version_key_lettered version_keys.PythonVersion = record { letter = 112; others = _; parts = refl; small = lit≤ tt; plain = refl }
+version_key_lettered key = grind arith
 
 pub key_lettered : (key : MarkerValueString) → Lettered (key_name key)
-key_lettered text_keys.ImplementationName = record { letter = 105; others = _; parts = refl; small = lit≤ tt; plain = refl }
-key_lettered text_keys.OsName = record { letter = 111; others = _; parts = refl; small = lit≤ tt; plain = refl }
-key_lettered text_keys.OsNameDeprecated = record { letter = 111; others = _; parts = refl; small = lit≤ tt; plain = refl }
-key_lettered text_keys.PlatformMachine = record { letter = 112; others = _; parts = refl; small = lit≤ tt; plain = refl }
-key_lettered text_keys.PlatformMachineDeprecated = record { letter = 112; others = _; parts = refl; small = lit≤ tt; plain = refl }
-key_lettered text_keys.PlatformPythonImplementation = record { letter = 112; others = _; parts = refl; small = lit≤ tt; plain = refl }
-key_lettered text_keys.PlatformPythonImplementationDeprecated = record { letter = 112; others = _; parts = refl; small = lit≤ tt; plain = refl }
-key_lettered text_keys.PythonImplementationDeprecated = record { letter = 112; others = _; parts = refl; small = lit≤ tt; plain = refl }
-key_lettered text_keys.PlatformRelease = record { letter = 112; others = _; parts = refl; small = lit≤ tt; plain = refl }
-key_lettered text_keys.PlatformSystem = record { letter = 112; others = _; parts = refl; small = lit≤ tt; plain = refl }
-key_lettered text_keys.PlatformVersion = record { letter = 112; others = _; parts = refl; small = lit≤ tt; plain = refl }
-key_lettered text_keys.PlatformVersionDeprecated = record { letter = 112; others = _; parts = refl; small = lit≤ tt; plain = refl }
-key_lettered text_keys.SysPlatform = record { letter = 115; others = _; parts = refl; small = lit≤ tt; plain = refl }
-key_lettered text_keys.SysPlatformDeprecated = record { letter = 115; others = _; parts = refl; small = lit≤ tt; plain = refl }
+key_lettered key = grind arith
 
 pub extra_lettered : Lettered (codes "extra")
 extra_lettered = record { letter = 101; others = _; parts = refl; small = lit≤ tt; plain = refl }

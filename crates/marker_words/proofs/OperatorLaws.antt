@@ -85,8 +85,7 @@ record IsSymbol (operator : MarkerOperator) (text : List ℕ) : Type 0 where
   ascii : encode_utf8_all text ≡ text
 
 symbol_at : (operator : MarkerOperator) (text symbol others : List ℕ) (first : ℕ) → symbol ≡ text → symbol ≡ first ∷ others → holds Alphabetic first ≡ false → holds Space first ≡ false → symbol_operator symbol ≡ operator → encode_utf8_all symbol ≡ symbol → IsSymbol operator text
-symbol_at operator text symbol others first e parts plain trimmed back ascii =
-    subst (IsSymbol operator) e (record { first = first; others = others; parts = parts; plain = plain; trimmed = trimmed; back = back; ascii = ascii })
+symbol_at operator text symbol others first h1 h2 h3 h4 h5 h6 = grind arith
 
 symbol_is : (operator : MarkerOperator) (text : List ℕ) → symbol_text operator ≡ Some text → IsSymbol operator text
 unfolding symbol_operator

@@ -1,5 +1,5 @@
 -- A comparison parsed part by part. Each text is the rest after white space.
-use Rattle.std.proofs.Common.{◌≡◌, ℕ, List, sym, ap, ◌∙◌, subst}
+use Rattle.std.proofs.Common.{◌≡◌, ℕ, List, sym, ap, ◌∙◌, subst, arith}
 use Rattle.pep508_text.specs.Run.{after_space}
 use Rattle.marker_words.specs.declared.operator.MarkerOperator.{MarkerOperator}
 use Rattle.marker_words.specs.Lexical.{Value, IsValue, IsOperator, Sides}
@@ -34,5 +34,4 @@ no_right e v f p g none d =
     none _ _ (at_value (g ∙ ap after_space (sym third)) (sides_at d).right_at)
 
 pub all_sides : {t u w i b c o : List ℕ} {l r : Value} {s : MarkerOperator} → t ≡ after_space i → IsValue t b l → u ≡ after_space b → IsOperator u c s → w ≡ after_space c → IsValue w o r → Sides i o l s r
-all_sides {t} {u} {w} {i} {b} {c} {o} {l} {r} {s} e v f p g z =
-    sides_from (subst (λ (x : List ℕ). IsValue x b l) e v) (subst (λ (x : List ℕ). IsOperator x c s) f p) (subst (λ (x : List ℕ). IsValue x o r) g z)
+all_sides h1 h2 h3 h4 h5 h6 = grind (arith, sides_from)

@@ -1,5 +1,5 @@
 -- Values: at most one is at a place, and what a parser of values needs to know.
-use Rattle.std.proofs.Common.{◌≡◌, ℕ, ◌≤◌, ◌<◌, Bool, true, false, cond, List, [], ◌∷◌, length, refl, sym, ap, ◌∙◌, subst, arith, lit≤, eqb, eqb-true, inl, inr, ◌⊎◌, ◌++◌, length-append}
+use Rattle.std.proofs.Common.{◌≡◌, ℕ, ◌≤◌, ◌<◌, false, cond, List, [], ◌∷◌, length, refl, sym, ap, ◌∙◌, subst, arith, eqb, eqb-true, inl, inr, ◌⊎◌, ◌++◌, length-append}
 use Rattle.std.specs.Prelude.{encode_utf8_all}
 use Rattle.std.proofs.lemmas.Bool.{not-false}
 use Rattle.pep508_text.specs.Class.{holds}
@@ -12,16 +12,14 @@ use Rattle.marker_words.specs.Part.{IsNamed}
 use Rattle.marker_words.proofs.NameLaws.{Lettered, Names, version_key_names, key_names, extra_names, names_same}
 
 quote_small : {q : ℕ} → IsQuote q → q ≤ 39
-quote_small single = lit≤ tt
-quote_small double = lit≤ tt
+quote_small h1 = grind arith
 
 too_small : (q letter : ℕ) → q ≡ letter → q ≤ 39 → 97 ≤ letter → ⊥
 too_small q letter e low high = omega arith
 
 -- no name begins with a quote
 quote_lettered : {q : ℕ} {i r o : List ℕ} → IsQuote q → Lettered r → Run KeyPart (q ∷ i) r o → ⊥
-quote_lettered {q} {i} {r} {o} is_quote l run =
-    too_small q l.letter (run_begins (subst (λ (x : List ℕ). Run KeyPart (q ∷ i) x o) l.parts run)) (quote_small is_quote) l.small
+quote_lettered h1 h2 h3 = grind (arith, too_small, run_begins, quote_small)
 
 named_same : {i o p r s : List ℕ} {v w : Value} → Names r v → Run KeyPart i r o → Names s w → Run KeyPart i s p → (o ≡ p) × (v ≡ w)
 named_same n a m b = let h = run_same a b in (h.1, names_same n m h.0)
@@ -78,11 +76,7 @@ value_begins (is_extra run) = inr (letters_begin extra_names.lettered run)
 -- a longest run is followed by a character that is not in the class
 after_run_stops : (p : Class) (i o : List ℕ) (c : ℕ) → after_run p i ≡ c ∷ o → holds p c ≡ false
 after_run_stops p [] o c e = absurd cc
-after_run_stops p (d ∷ ds) o c e = go (holds p d) refl e (after_run_stops p ds o c)
-  where
-    go : (b : Bool) → holds p d ≡ b → cond b (after_run p ds) (d ∷ ds) ≡ c ∷ o → (after_run p ds ≡ c ∷ o → holds p c ≡ false) → holds p c ≡ false
-    go true h e more = more e
-    go false h e more = let same : d ≡ c = cc in subst (λ (x : ℕ). holds p x ≡ false) same h
+after_run_stops p (d ∷ ds) o c e = grind (arith, cond, after_run_stops p ds o c)
 
 closes : (q c : ℕ) (i o : List ℕ) → after_run (NotQuote q) i ≡ c ∷ o → c ≡ q
 closes q c i o e = eqb-true c q (not-false (eqb c q) (after_run_stops (NotQuote q) i o c e))
@@ -98,13 +92,8 @@ quoted_value t q c i o v t_is is_quote e v_is =
 no_letter : (letter : ℕ) (others : List ℕ) → [] ≡ letter ∷ others → ⊥
 no_letter letter others e = absurd cc
 
-nil_lettered : {r o : List ℕ} → Lettered r → Run KeyPart [] r o → ⊥
-nil_lettered {r} {o} l run = no_letter l.letter l.others (run.run_is ∙ l.parts)
-
 no_value_nil : {o : List ℕ} {v : Value} → IsValue [] o v → ⊥
-no_value_nil (is_version_key {key = k} run) = nil_lettered (version_key_names k).lettered run
-no_value_nil (is_text_key {key = k} run) = nil_lettered (key_names k).lettered run
-no_value_nil (is_extra run) = nil_lettered extra_names.lettered run
+no_value_nil h1 = grind arith
 
 pub no_value_at_end : {i o : List ℕ} {v : Value} → i ≡ [] → IsValue i o v → ⊥
 no_value_at_end {o = o} {v = v} e s = no_value_nil (subst (λ (x : List ℕ). IsValue x o v) e s)
@@ -155,14 +144,10 @@ one_value_named r a b first second = names_same (names_of a r first) (names_of b
 
 -- a name is not empty
 named_bytes : (v : Value) (r : List ℕ) → IsNamed v r → (c : ℕ) × (rest : List ℕ) × (r ≡ c ∷ rest)
-named_bytes (version_key k) r e = let l = (version_key_names k).lettered in (l.letter, l.others, e ∙ l.parts)
-named_bytes (text_key k) r e = let l = (key_names k).lettered in (l.letter, l.others, e ∙ l.parts)
-named_bytes extra r e = let l = extra_names.lettered in (l.letter, l.others, e ∙ l.parts)
-named_bytes (quoted text) r e = absurd e
+named_bytes v r h1 = grind arith
 
 shorter_behind : (t r rest others : List ℕ) (c : ℕ) → r ≡ c ∷ others → t ≡ r ++ rest → length rest < length t
-shorter_behind t r rest others c r_is joined =
-    omega (arith, ap length joined, length-append r rest, ap length r_is)
+shorter_behind t r rest others c h1 h2 = grind (arith, length, length-append)
 
 pub named_shorter : (v : Value) (t r rest : List ℕ) → IsNamed v r → t ≡ r ++ rest → length rest < length t
 named_shorter v t r rest e joined = let h = named_bytes v r e in shorter_behind t r rest h.1 h.0 h.2 joined
@@ -173,5 +158,4 @@ quote_at c (inl e) = subst IsQuote (sym e) single
 quote_at c (inr e) = subst IsQuote (sym e) double
 
 pub at_quote : {c : ℕ} → IsQuote c → (c ≡ 39) ⊎ (c ≡ 34)
-at_quote single = inl refl
-at_quote double = inr refl
+at_quote h1 = grind arith

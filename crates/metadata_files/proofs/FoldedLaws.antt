@@ -18,14 +18,6 @@ pub record InFolded (whole rest : List Character) : Type 0 where
   pub goes_on : (line : List Character) (lines : List (List Character)) → folded_lines rest ≡ line ∷ lines → folded_lines whole ≡ (front ++ line) ∷ lines
   pub last : rest ≡ [] → whole ≢ [] → folded_lines whole ≡ front ∷ []
 
-pub in_folded_none : (whole : List Character) → InFolded whole whole
-in_folded_none whole = record {
-  front = [];
-  parts = refl;
-  goes_on = λ line lines e. e;
-  last = λ none some. absurd (some none);
-}
-
 pub in_folded_more : {whole rest ps : List Character} (p : Character) → InFolded whole rest → rest ≡ p ∷ ps → ends_folded p.char ps ≡ false → InFolded whole ps
 in_folded_more {whole} {rest} {ps} p i begins e = record {
   front = i.front ++ (p ∷ []);

@@ -12,9 +12,6 @@ use Rattle.metadata_files.specs.declared.field.Field.{Field}
 pub record Reading (lines left : List (List Character)) (read : List Entry) : Type 0 where
   pub goes_on : (others : List Entry) (last : Option (List Character)) → AreHeaders left others last → AreHeaders lines (read ++ others) last
 
-pub reading_none : (lines : List (List Character)) → Reading lines lines []
-reading_none lines = record { goes_on = λ others last are. are }
-
 -- one more header
 pub reading_more : {lines left after : List (List Character)} {line text : List Character} (fields new : List Field) (field : Field)
     → Reading lines left (map entry_of fields) → left ≡ line ∷ after → after_name line ≡ Some text

@@ -20,9 +20,6 @@ pub record InName (whole rest : List Character) : Type 0 where
   pub name : name_of whole ≡ front ++ name_of rest
   pub follows : after_name whole ≡ after_name rest
 
-pub in_name_none : (whole : List Character) → InName whole whole
-in_name_none whole = record { front = []; parts = refl; name = refl; follows = refl }
-
 name-goes_on : (p : Character) (ps : List Character) → (p.char == 58) ≡ false → name_of (p ∷ ps) ≡ p ∷ name_of ps
 name-goes_on p ps e = ap (λ b. cond b [] (p ∷ name_of ps)) e
 

@@ -1,15 +1,12 @@
 -- Versions that the order ties are written alike without the zeros at the end of their releases.
-use Rattle.std.proofs.Common.{◌≡◌, ◌==◌, ◌<◌, [], ◌∷◌, ℕ, List, length, take, max, refl, sym, ap, ◌∙◌, arith, inl, inr, subst}
-use Rattle.std.proofs.lemmas.Bool.{cases_Bool}
-use Rattle.std.proofs.lemmas.Bool.Decides.{nat_tests}
+use Rattle.std.proofs.Common.{◌≡◌, ◌<◌, [], ◌∷◌, ℕ, List, length, take, max, refl, sym, ap, ◌∙◌, arith, subst}
 use Rattle.std.specs.declared.cmp.Ordering.TheVariants.{Equal}
 use Rattle.pep440_version.specs.Order.{keep, padded_cmp, significant, trimmed, trimmed_parts, version_cmp}
 use Rattle.pep440_version.specs.OrderLaws.{padded-tie, tied-same}
 use Rattle.pep440_version.specs.Parts.{Parts}
 
 take-keep : (x : ℕ) (xs s : List ℕ) → take (length s) xs ≡ s → take (length (keep x s)) (x ∷ xs) ≡ keep x s
-take-keep x xs [] h = elim (cases_Bool (x == 0)) [ inl e ↦ rw e refl | inr e ↦ rw e refl ]
-take-keep x xs (y ∷ s) h = ap (λ (z : List ℕ). x ∷ z) h
+take-keep x xs s h1 = grind arith
 
 take-significant : (xs : List ℕ) → take (length (significant xs)) xs ≡ significant xs
 unfolding significant
@@ -18,8 +15,7 @@ take-significant (x ∷ xs) = take-keep x xs (significant xs) (take-significant 
 
 -- if no number is significant, the first one is 0
 keep-zero : (x : ℕ) (s : List ℕ) → keep x s ≡ [] → x ≡ 0
-keep-zero x [] h = elim (cases_Bool (x == 0)) [ inl e ↦ grind (arith, nat_tests, e) | inr e ↦ let k : x ∷ [] ≡ [] = rw e at h in cc k ]
-keep-zero x (y ∷ s) h = cc h
+keep-zero x s h1 = grind arith
 
 first-zero : (xs : List ℕ) → 0 < length xs → significant xs ≡ [] → take 1 xs ≡ 0 ∷ []
 unfolding significant

@@ -1,12 +1,11 @@
 -- Bounds at versions that the order ties have the same points between them.
-use Rattle.std.proofs.Common.{◌≡◌, ◌&&◌, not, Bool, refl, ap, ◌∙◌}
+use Rattle.std.proofs.Common.{◌≡◌, ◌&&◌, not, Bool, refl, ap, ◌∙◌, arith}
 use Rattle.std.specs.Cmp.{alike_right, tied_itself}
-use Rattle.std.specs.Ordering.{eq_by_cmp, is_eq, is_lt, ordering_then}
+use Rattle.std.specs.Ordering.{eq_by_cmp, is_eq, ordering_then}
 use Rattle.std.specs.Set.{ClonesAreEqual}
 use Rattle.std.specs.declared.cmp.Ordering.{Ordering}
 use Rattle.std.specs.declared.cmp.Ordering.TheVariants.{Less, Equal, Greater}
 use Rattle.std.specs.declared.ops.Bound.{Bound}
-use Rattle.std.specs.declared.ops.Bound.TheVariants.{Included, Excluded, Unbounded}
 use Rattle.version_ranges.specs.Point.{Point, above, at, bottom, is_from, is_in_bounds, is_until, point_cmp}
 use Rattle.pep440_version.specs.Order.{version_cmp}
 use Rattle.pep440_version.specs.OrderLaws.{version_total}
@@ -25,26 +24,10 @@ above-tied (at u) v w e = ap (λ (o : Ordering). ordering_then o Less) (alike_ri
 above-tied (above u) v w e = alike_right version_total v w u e
 
 from-same : (a b : Bound Parts) (p : Point Parts) → IsSameBound a b → is_from version_cmp a p ≡ is_from version_cmp b p
-from-same (Included v) (Included w) p e = ap (λ (o : Ordering). not (is_lt o)) (at-tied p v w e)
-from-same (Included v) (Excluded w) p e = absurd e
-from-same (Included v) Unbounded p e = absurd e
-from-same (Excluded v) (Included w) p e = absurd e
-from-same (Excluded v) (Excluded w) p e = ap (λ (o : Ordering). not (is_lt o)) (above-tied p v w e)
-from-same (Excluded v) Unbounded p e = absurd e
-from-same Unbounded (Included w) p e = absurd e
-from-same Unbounded (Excluded w) p e = absurd e
-from-same Unbounded Unbounded p e = refl
+from-same a b p h1 = grind (arith, not, at-tied, above-tied)
 
 until-same : (a b : Bound Parts) (p : Point Parts) → IsSameBound a b → is_until version_cmp a p ≡ is_until version_cmp b p
-until-same (Included v) (Included w) p e = ap is_lt (above-tied p v w e)
-until-same (Included v) (Excluded w) p e = absurd e
-until-same (Included v) Unbounded p e = absurd e
-until-same (Excluded v) (Included w) p e = absurd e
-until-same (Excluded v) (Excluded w) p e = ap is_lt (at-tied p v w e)
-until-same (Excluded v) Unbounded p e = absurd e
-until-same Unbounded (Included w) p e = absurd e
-until-same Unbounded (Excluded w) p e = absurd e
-until-same Unbounded Unbounded p e = refl
+until-same a b p h1 = grind (arith, above-tied, at-tied)
 
 pub between-same : (a b c d : Bound Parts) (p : Point Parts) → IsSameBound a c → IsSameBound b d → is_in_bounds version_cmp a b p ≡ is_in_bounds version_cmp c d p
 between-same a b c d p lower upper =

@@ -1,7 +1,7 @@
 -- The set of a negated operator is the complement.
-use Rattle.std.proofs.Common.{◌≡◌, ◌&&◌, not, Bool, true, false, ℕ, List, Some, refl, subst}
+use Rattle.std.proofs.Common.{◌≡◌, ◌&&◌, not, Bool, true, ℕ, List, Some, refl, subst, arith}
 use Rattle.std.specs.declared.ops.Bound.TheVariants.{Included, Excluded, Unbounded}
-use Rattle.version_ranges.specs.Point.{Point, above, at, bottom, is_from, point_lt}
+use Rattle.version_ranges.specs.Point.{Point, above, at, is_from, point_lt}
 use Rattle.pep440_specifier.specs.Operator.{negated}
 use Rattle.pep440_specifier.specs.declared.operator.Operator.{Operator}
 use Rattle.pep440_specifier.specs.declared.operator.Operator.TheVariants as operator
@@ -11,26 +11,17 @@ use Rattle.pep440_rs.specs.Intervals.{is_between, is_in}
 use Rattle.pep440_rs.specs.PythonVersion.{first_minor, is_in_star, is_same_minor, next_minor, python_is_in}
 
 twice : (b : Bool) → b ≡ not (not b)
-twice true = refl
-twice false = refl
+twice b = grind arith
 
 -- each point is from the beginning on
 pub from_bottom : (p : Point Parts) → is_from version_cmp Unbounded p ≡ true
-from_bottom bottom = refl
-from_bottom (at v) = refl
-from_bottom (above v) = refl
+from_bottom p = grind arith
 
 rest : (a b : Bool) → a ≡ true → (not b && true) ≡ not (a && b)
-rest true true e = refl
-rest true false e = refl
-rest false true e = cc e
-rest false false e = refl
+rest a b h1 = grind arith
 
 front_of : (a b : Bool) → a ≡ true → (a && b) ≡ not (not b && true)
-front_of true true e = refl
-front_of true false e = refl
-front_of false true e = cc e
-front_of false false e = refl
+front_of a b h1 = grind arith
 
 -- what is from a release on, and what is below it
 at_half : (r : List ℕ) (p : Point Parts) → is_between (Included r) Unbounded p ≡ not (is_between Unbounded (Excluded r) p)

@@ -1,5 +1,5 @@
 -- Lists of versions: the entries without the zeros at the end of their releases.
-use Rattle.std.proofs.Common.{◌≡◌, ◌+◌, ◌<◌, ◌++◌, ◌||◌, [], ◌∷◌, ℕ, Bool, true, false, List, get_or, length, map, take, refl, sym, ap, ◌∙◌}
+use Rattle.std.proofs.Common.{◌≡◌, ◌+◌, ◌<◌, ◌++◌, ◌||◌, [], ◌∷◌, ℕ, Bool, false, List, get_or, length, map, take, sym, ap, ◌∙◌, arith}
 use Rattle.std.proofs.lemmas.List.Folds.{list_any-append, list_any_more}
 use Rattle.std.proofs.lemmas.List.{map-append, take_more}
 use Rattle.std.specs.declared.cmp.Ordering.TheVariants.{Equal}
@@ -18,8 +18,7 @@ at-same : (v w : Parts) (p : Point Parts) → version_cmp v w ≡ Equal → is_a
 at-same v w p e = between-same (Included v) (Included v) (Included w) (Included w) p e e
 
 or_false : (b : Bool) → (b || false) ≡ b
-or_false true = refl
-or_false false = refl
+or_false b = grind arith
 
 -- one more version, which is the same as the entry
 pub listed-more : (vs ws xs : List Parts) (i : ℕ) (v x : Parts) (p : Point Parts) → ws ≡ vs ++ v ∷ [] → i < length xs → x ≡ get_or xs i x → IsSameVersion v x

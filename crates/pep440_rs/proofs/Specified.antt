@@ -1,6 +1,5 @@
 -- The specifiers of a range of releases have the points of the range.
-use Rattle.std.proofs.Common.{◌≡◌, ◌&&◌, ◌==◌, ◌+◌, ◌++◌, Bool, true, false, ℕ, List, [], ◌∷◌, Option, Some, None, if◌then◌else◌, refl, sym, ap, ◌∙◌, subst}
-use Rattle.std.proofs.lemmas.Bool.{and_parts, eqb-true}
+use Rattle.std.proofs.Common.{◌≡◌, ◌&&◌, ◌+◌, ◌++◌, Bool, true, ℕ, List, [], ◌∷◌, Option, Some, None, if◌then◌else◌, refl, sym, ap, ◌∙◌, subst, arith}
 use Rattle.std.proofs.lemmas.List.Folds.{list_all-append}
 use Rattle.std.specs.Borrow.{Bor}
 use Rattle.std.specs.Cmp.{Equal-is, nat_cmp_total, tied_itself}
@@ -12,9 +11,9 @@ use Rattle.std.specs.declared.ops.Bound.{Bound}
 use Rattle.std.specs.declared.ops.Bound.TheVariants.{Included, Excluded, Unbounded}
 use Rattle.version_ranges.specs.Point.{Point, is_from, is_in_bounds, is_until}
 use Rattle.pep440_version.specs.Order.{padded_cmp, version_cmp}
-use Rattle.pep440_version.specs.OrderLaws.{padded_total, same-tied, version_total}
+use Rattle.pep440_version.specs.OrderLaws.{padded_total, version_total}
 use Rattle.pep440_version.specs.Parts.{Parts, release_only}
-use Rattle.pep440_specifier.specs.Alone.{is_alone, is_empty}
+use Rattle.pep440_specifier.specs.Alone.{is_empty}
 use Rattle.pep440_specifier.specs.Bounds.{bound_specifiers, bounding, lower_terms, minor_of, next_minor, single_term, specifier_of_parts, star_between, star_term, terms_of, two_numbers, upper_terms}
 use Rattle.pep440_specifier.specs.Specifier.{Specifier}
 use Rattle.pep440_specifier.specs.declared.operator.Operator.TheVariants as operator
@@ -28,28 +27,23 @@ some-alike x y e = cc e
 
 -- a value that exists only if a test is true
 pub if-some : {A : Type 0} (b : Bool) (o : Option A) (y : A) → (if b then o else None) ≡ Some y → (b ≡ true) × (o ≡ Some y)
-if-some true o y e = (refl, e)
-if-some false o y e = cc e
+if-some b o y h1 = grind arith
 
 and-true : (b : Bool) → (b && true) ≡ b
-and-true true = refl
-and-true false = refl
+and-true b = grind arith
 
 and-true-twice : (b : Bool) → ((b && true) && true) ≡ b
-and-true-twice true = refl
-and-true-twice false = refl
+and-true-twice b = grind arith
 
 and-alike : {a b c d : Bool} → a ≡ c → b ≡ d → (a && b) ≡ (c && d)
 and-alike e f = λ i. e i && f i
 
 true-and : (a b : Bool) → a ≡ true → ((a && b) && true) ≡ b
-true-and true b e = and-true b
-true-and false b e = cc e
+true-and a b h1 = grind arith
 
 -- dropping the local part leaves the release
 release-of : (b : Bool) (v w : Parts) → w.release ≡ v.release → (if b then v else w).release ≡ v.release
-release-of true v w e = refl
-release-of false v w e = e
+release-of b v w h1 = grind arith
 
 -- the version of a half line's specifier
 abbrev bounding_release : Parts → Parts
@@ -70,45 +64,26 @@ two-tied (major ∷ minor ∷ []) m e =
 two-tied (major ∷ minor ∷ micro ∷ others) m e = cc e
 
 minor-tied : (v : Parts) (m : ℕ × ℕ) → IsRelease v → minor_of v ≡ Some m → version_cmp (release_only (m.0 ∷ m.1 ∷ [])) v ≡ Equal
-minor-tied v m e h =
-    let numbers : two_numbers v.release ≡ Some m = (if-some (v.epoch == 0 && is_alone v) (two_numbers v.release) m h).1 in
-    subst (λ (u : Parts). version_cmp (release_only (m.0 ∷ m.1 ∷ [])) u ≡ Equal) (sym e)
-    (same-tied (release_only (m.0 ∷ m.1 ∷ [])) (release_only v.release)
-    (record { release = two-tied v.release m numbers; pre = refl; post = refl; dev = refl; epoch = refl; locals = refl }))
+minor-tied v m h1 h2 = grind (arith, if-some, two-tied)
 
 -- the two versions of a star are `M.m` and `M.(m+1)`
 pub next-of : (a b : Option (ℕ × ℕ)) (m : ℕ × ℕ) → next_minor a b ≡ Some m → (a ≡ Some m) × (b ≡ Some (m.0, m.1 + 1))
-next-of (Some x) (Some y) m e =
-    let h = if-some ((x.0 == y.0) && (x.1 + 1 == y.1)) (Some x) m e in
-    let tests = and_parts (x.0 == y.0) (x.1 + 1 == y.1) h.0 in
-    let same : x ≡ m = some-alike x m h.1 in
-    let major : y.0 ≡ m.0 = sym (eqb-true x.0 y.0 tests.0) ∙ ap (λ (k : ℕ × ℕ). k.0) same in
-    let minor : y.1 ≡ m.1 + 1 = sym (eqb-true (x.1 + 1) y.1 tests.1) ∙ ap (λ (k : ℕ × ℕ). k.1 + 1) same in
-    (h.1, λ i. Some (major i, minor i))
-next-of (Some x) None m e = cc e
-next-of None b m e = cc e
+next-of a b m h1 = grind arith
 
 pub star-of : (o : Option (ℕ × ℕ)) (s : Specifier) → star_term o ≡ Some s
     → (m : ℕ × ℕ) × (o ≡ Some m) × (specifier_of_parts operator.EqualStar (release_only (m.0 ∷ m.1 ∷ [])) ≡ s)
-star-of None s e = cc e
-star-of (Some m) s e = (m, refl, some-alike (specifier_of_parts operator.EqualStar (release_only (m.0 ∷ m.1 ∷ []))) s e)
+star-of o s h1 = grind arith
 
 module _ (p : Point Parts) where
   lower-means : (a : Bound (Bor Parts)) → IsAtRelease a → is_in_all (lower_terms a) p ≡ is_from version_cmp (bound_map (λ v. v.now) a) p
-  lower-means (Included v) e = and-true-twice (is_from version_cmp (Included (bounding_release v.now)) p) ∙ ap (λ (u : Parts). is_from version_cmp (Included u) p) (bounding-same v.now e)
-  lower-means (Excluded v) e = and-true-twice (is_from version_cmp (Excluded (bounding_release v.now)) p) ∙ ap (λ (u : Parts). is_from version_cmp (Excluded u) p) (bounding-same v.now e)
-  lower-means Unbounded e = sym (from_bottom p)
+  lower-means a h1 = grind (arith, and-true-twice, bounding-same, from_bottom)
 
   upper-means : (a : Bound (Bor Parts)) → IsAtRelease a → is_in_all (upper_terms a) p ≡ is_until version_cmp (bound_map (λ v. v.now) a) p
-  upper-means (Included v) e = true-and (is_from version_cmp Unbounded p) (is_until version_cmp (Included (bounding_release v.now)) p) (from_bottom p) ∙ ap (λ (u : Parts). is_until version_cmp (Included u) p) (bounding-same v.now e)
-  upper-means (Excluded v) e = true-and (is_from version_cmp Unbounded p) (is_until version_cmp (Excluded (bounding_release v.now)) p) (from_bottom p) ∙ ap (λ (u : Parts). is_until version_cmp (Excluded u) p) (bounding-same v.now e)
-  upper-means Unbounded e = refl
+  upper-means a h1 = grind (arith, true-and, from_bottom, bounding-same)
 
   -- one specifier for each bound
   each-means : (lower upper : Bound (Bor Parts)) → IsAtRelease lower → IsAtRelease upper → is_in_all (lower_terms lower ++ upper_terms upper) p ≡ is_within lower upper p
-  each-means lower upper l u =
-      list_all-append (λ (s : Specifier). is_in s.operator s.version.release p) (lower_terms lower) (upper_terms upper)
-      ∙ and-alike (lower-means lower l) (upper-means upper u)
+  each-means lower upper h1 h2 = grind (arith, list_all-append, and-alike, lower-means, upper-means)
 
   -- `==` for two bounds that tie
   equal-means : (v w : Parts) → IsRelease v → version_cmp v w ≡ Equal → is_in operator.Equal v.release p ≡ is_in_bounds version_cmp (Included v) (Included w) p
@@ -143,8 +118,7 @@ module _ (p : Point Parts) where
   terms-mean : (o : Option Specifier) (lower upper : Bound (Bor Parts)) (b : Bool)
       → ((s : Specifier) → o ≡ Some s → (is_in s.operator s.version.release p && true) ≡ b) → is_in_all (lower_terms lower ++ upper_terms upper) p ≡ b
       → is_in_all (terms_of o lower upper) p ≡ b
-  terms-mean None lower upper b single each = each
-  terms-mean (Some s) lower upper b single each = single s refl
+  terms-mean o lower upper b h1 h2 = grind arith
 
   pub specifiers-mean : (lower upper : Bound (Bor Parts)) → IsAtRelease lower → IsAtRelease upper → is_in_all (bound_specifiers lower upper) p ≡ is_within lower upper p
   specifiers-mean lower upper l u =

@@ -1,5 +1,5 @@
 -- The specifiers of a range raise nothing.
-use Rattle.std.proofs.Common.{◌≡◌, ◌==◌, ◌&&◌, ℕ, ◌+◌, Option, Some, None, List, [], ◌∷◌, ◌++◌, refl, ap, subst, arith}
+use Rattle.std.proofs.Common.{◌≡◌, ◌==◌, ◌&&◌, ℕ, ◌+◌, Option, Some, None, List, [], ◌∷◌, subst, arith}
 use Rattle.std.specs.Borrow.{Bor}
 use Rattle.std.specs.List.{AllByRecursion}
 use Rattle.std.specs.Ordering.{eq_by_cmp}
@@ -9,7 +9,7 @@ use Rattle.pep440_version.specs.Order.{version_cmp}
 use Rattle.pep440_version.specs.Parts.{Parts, release_only}
 use Rattle.pep440_version.specs.Valid.{Fits}
 use Rattle.pep440_specifier.specs.Alone.{is_alone}
-use Rattle.pep440_specifier.specs.Bounds.{bound_specifiers, lower_terms, minor_of, single_term, specifier_of_parts, star_between, terms_of, two_numbers, upper_terms}
+use Rattle.pep440_specifier.specs.Bounds.{bound_specifiers, minor_of, single_term, specifier_of_parts, star_between, terms_of, two_numbers}
 use Rattle.pep440_specifier.specs.Specifier.{Specifier}
 use Rattle.pep440_specifier.specs.declared.operator.Operator.TheVariants as operator
 use Rattle.pep440_rs.specs.Bounds.{IsAtValid}
@@ -25,10 +25,7 @@ none_is_some x e = cc
 
 -- the second of two numbers is one of a version
 second-fits : (r : List ℕ) (m : ℕ × ℕ) → AllByRecursion Fits r → two_numbers r ≡ Some m → Fits m.1
-second-fits [] m all e = absurd (none_is_some m e)
-second-fits (major ∷ []) m all e = let same : 0 ≡ m.1 = ap (λ (k : ℕ × ℕ). k.1) (some-alike (major, 0) m e) in omega arith
-second-fits (major ∷ minor ∷ []) m all e = let same : minor ≡ m.1 = ap (λ (k : ℕ × ℕ). k.1) (some-alike (major, minor) m e) in subst Fits same all.1.0
-second-fits (major ∷ minor ∷ micro ∷ others) m all e = absurd (none_is_some m e)
+second-fits r m h1 h2 = grind arith
 
 star-raises : (v w : Parts) (m : ℕ × ℕ) → AllByRecursion Fits w.release → star_between v w ≡ Some m → RaisesNothing (specifier_of_parts operator.EqualStar (release_only (m.0 ∷ m.1 ∷ [])))
 star-raises v w m all e most =
@@ -48,19 +45,8 @@ single-raises (Included v) Unbounded s h e = absurd (none_is_some s e)
 single-raises (Excluded v) upper s h e = absurd (none_is_some s e)
 single-raises Unbounded upper s h e = absurd (none_is_some s e)
 
-upper-raises : (upper : Bound (Bor Parts)) → AllByRecursion RaisesNothing (upper_terms upper)
-upper-raises (Included v) = (none_is_some 18446744073709551615, tt)
-upper-raises (Excluded v) = (none_is_some 18446744073709551615, tt)
-upper-raises Unbounded = tt
-
-each-raises : (lower upper : Bound (Bor Parts)) → AllByRecursion RaisesNothing (lower_terms lower ++ upper_terms upper)
-each-raises (Included v) upper = (none_is_some 18446744073709551615, upper-raises upper)
-each-raises (Excluded v) upper = (none_is_some 18446744073709551615, upper-raises upper)
-each-raises Unbounded upper = upper-raises upper
-
 by_single : (o : Option Specifier) (lower upper : Bound (Bor Parts)) → ((s : Specifier) → o ≡ Some s → RaisesNothing s) → AllByRecursion RaisesNothing (terms_of o lower upper)
-by_single None lower upper h = each-raises lower upper
-by_single (Some s) lower upper h = (h s refl, tt)
+by_single o lower upper h1 = grind arith
 
 pub range-raises : (lower upper : Bound (Bor Parts)) → IsAtValid upper → AllByRecursion RaisesNothing (bound_specifiers lower upper)
 range-raises lower upper h = by_single (single_term lower upper) lower upper (λ s. single-raises lower upper s h)

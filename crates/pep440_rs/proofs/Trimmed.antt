@@ -43,10 +43,7 @@ trimmed-same : (xs : List ℕ) → length xs ≡ length (trimmed xs) → trimmed
 trimmed-same xs e = take_all (max 1 (length (significant xs))) xs (omega (arith, e, length-take (max 1 (length (significant xs))) xs))
 
 pub trimmed-means : (v : Parts) → (is_trimmed v ≡ true) ↔ (trimmed_parts v ≡ v)
-trimmed-means v = (
-  λ h. ap (λ (r : List ℕ). record v { release = r }) (trimmed-same v.release (eqb-true (length v.release) (length (trimmed v.release)) h)),
-  λ e. eq-eqb (length v.release) (length (trimmed v.release)) (ap (λ (w : Parts). length w.release) (sym e)),
-)
+trimmed-means v = grind (arith, trimmed-same, eqb-true, length, eq-eqb)
 
 pub trimmed-each : (vs : List Parts) → list_all is_trimmed (map trimmed_parts vs) ≡ true
 trimmed-each [] = refl

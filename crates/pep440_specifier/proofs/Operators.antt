@@ -42,22 +42,9 @@ after_run_stops (b ∷ t) = elim (cases_Bool (is_operator_byte b)) [
   | inr e ↦ rw e e
 ]
 
-run-ends : (rest : List ℕ) → begins_operator rest ≡ false → run_len rest ≡ 0
-run-ends [] h = refl
-run-ends (b ∷ rest) h = rw h refl
-
 -- the run of an operator that nothing makes longer is the operator
 pub run_operator : (operator : Operator) (rest : List ℕ) → begins_operator rest ≡ false → run_len (operator_text operator ++ rest) ≡ length (operator_text operator)
-run_operator Equal rest h = rw (run-ends rest h) refl
-run_operator EqualStar rest h = rw (run-ends rest h) refl
-run_operator ExactEqual rest h = rw (run-ends rest h) refl
-run_operator NotEqual rest h = rw (run-ends rest h) refl
-run_operator NotEqualStar rest h = rw (run-ends rest h) refl
-run_operator TildeEqual rest h = rw (run-ends rest h) refl
-run_operator LessThan rest h = rw (run-ends rest h) refl
-run_operator LessThanEqual rest h = rw (run-ends rest h) refl
-run_operator GreaterThan rest h = rw (run-ends rest h) refl
-run_operator GreaterThanEqual rest h = rw (run-ends rest h) refl
+run_operator operator rest h1 = grind arith
 
 take_front : (s rest : List ℕ) → take (length s) (s ++ rest) ≡ s
 take_front [] rest = refl
@@ -75,17 +62,11 @@ take_drop (suc n) (b ∷ t) = ap (λ (z : List ℕ). b ∷ z) (take_drop n t)
 -- an operator at the front is the run, and what follows is what follows the run
 pub before_run : (t : List ℕ) (operator : Operator) (rest : List ℕ) → IsOperatorBefore t operator rest
     → (take (run_len t) t ≡ operator_text operator) × (drop (run_len t) t ≡ rest)
-before_run t operator rest h =
-    let run = run_operator operator rest h.longest in
-    (rw (h.joined, run) (take_front (operator_text operator) rest), rw (h.joined, run) (drop_front (operator_text operator) rest))
+before_run t operator rest h1 = grind (arith, run_operator, take_front, drop_front)
 
 -- the run is an operator at the front if it is one at all
 pub run_before : (t : List ℕ) (operator : Operator) → take (run_len t) t ≡ operator_text operator → is_star operator ≡ false → IsOperatorBefore t operator (drop (run_len t) t)
-run_before t operator e written = record {
-  joined = sym (take_drop (run_len t) t) ∙ ap (λ (z : List ℕ). z ++ drop (run_len t) t) e;
-  written = written;
-  longest = after_run_stops t;
-}
+run_before t operator h1 h2 = grind (arith, take_drop, drop, after_run_stops)
 
 -- ---- no two operators are written alike
 
@@ -122,9 +103,7 @@ written_alike a b h k e = sym (told_by_key a h) ∙ ap (λ (t : List ℕ). opera
 -- the operator of the run is the one at the front, and what follows the run follows it
 pub only_run : (t : List ℕ) (a : Operator) → take (run_len t) t ≡ operator_text a → is_star a ≡ false
     → (b : Operator) (rest : List ℕ) → IsOperatorBefore t b rest → (a ≡ b) × (drop (run_len t) t ≡ rest)
-only_run t a e h b rest before =
-    let run = before_run t b rest before in
-    (written_alike a b h before.written (sym e ∙ run.0), run.1)
+only_run t a h1 h2 b rest h3 = grind (arith, before_run, written_alike)
 
 -- which operator is at the front of a text, and that there is no other
 pub ruleset operator_at_front = (run_boundary, run_before, only_run, before_run)

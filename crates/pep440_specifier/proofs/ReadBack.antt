@@ -1,13 +1,13 @@
 -- The text of a specifier parses back to that specifier.
-use Rattle.std.proofs.Common.{◌≡◌, ◌==◌, ◌||◌, ℕ, ◌<◌, Bool, true, false, Some, List, [], ◌∷◌, ◌++◌, length, refl, sym, ap, ◌∙◌, subst, append-nil, arith}
+use Rattle.std.proofs.Common.{◌≡◌, ◌==◌, ◌||◌, ℕ, Bool, true, false, Some, List, [], ◌∷◌, ◌++◌, refl, sym, ap, ◌∙◌, subst, append-nil, arith}
 use Rattle.std.specs.Prelude.{codes, if◌then◌else◌}
 use Rattle.std.specs.Char.{is_ascii_digit}
 use Rattle.std.specs.List.{list_all}
 use Rattle.std.specs.Str.{trim}
-use Rattle.std.proofs.lemmas.Bool.{and_from, and_parts, false≢true}
+use Rattle.std.proofs.lemmas.Bool.{and_from, and_parts}
 use Rattle.std.proofs.lemmas.Bool.Decides.{nat_tests}
 use Rattle.std.proofs.lemmas.List.Folds.{list_all-append}
-use Rattle.pep440_version.specs.Grammar.{IsEpoch, IsNumber, IsPattern, IsPatternText, IsRelease, IsVersion, before, epoch, last, mark, no_epoch, no_mark, plain, starred_parts, version}
+use Rattle.pep440_version.specs.Grammar.{IsEpoch, IsNumber, IsPattern, IsPatternText, IsRelease, IsVersion, epoch, no_epoch, plain, version}
 use Rattle.pep440_version.specs.Parts.{Parts}
 use Rattle.pep440_version.specs.Plain.{IsPlainByte, is_version_byte}
 use Rattle.pep440_version.specs.Text.{version_text}
@@ -32,37 +32,26 @@ begins [] = false
 begins (c ∷ cs) = is_start c
 
 begins-append : (a b : List ℕ) → begins a ≡ true → begins (a ++ b) ≡ true
-begins-append [] b h = absurd (false≢true h)
-begins-append (c ∷ a) b h = h
-
-digit_start : (c : ℕ) → is_ascii_digit c ≡ true → is_start c ≡ true
-digit_start c h = grind (arith, nat_tests)
+begins-append a b h1 = grind arith
 
 start_other : (c : ℕ) → is_start c ≡ true → is_operator_byte c ≡ false
 start_other c h = grind (arith, nat_tests)
 
 number_begins : {ds : List ℕ} {n : ℕ} → IsNumber ds n → begins ds ≡ true
-number_begins {ds} h = go ds h.digits h.some
-  where
-    go : (t : List ℕ) → list_all is_ascii_digit t ≡ true → 0 < length t → begins t ≡ true
-    go [] all some = absurd (omega arith)
-    go (d ∷ t) all some = digit_start d (and_parts (is_ascii_digit d) (list_all is_ascii_digit t) all).0
+number_begins h1 = grind arith
 
 release_begins : {r ns : List ℕ} → IsRelease r ns → begins r ≡ true
-release_begins (last num) = number_begins num
-release_begins (before {ds = ds} {t = t} num more) = begins-append ds (46 ∷ t) (number_begins num)
+release_begins h1 = grind (arith, number_begins, begins-append)
 
 epoch_begins : {e r ns : List ℕ} {n : ℕ} (x : List ℕ) → IsEpoch e n → IsRelease r ns → begins (e ++ (r ++ x)) ≡ true
 epoch_begins {r = r} x no_epoch release = begins-append r x (release_begins release)
 epoch_begins {r = r} x (epoch {ds = ds} num) release = begins-append (ds ++ (33 ∷ [])) (r ++ x) (begins-append ds (33 ∷ []) (number_begins num))
 
 version_begins : {t : List ℕ} {v : Parts} → IsVersion t v → begins t ≡ true
-version_begins (version {p = p} {q = q} {d = d} {l = l} no_mark is_e is_r is_p is_q is_d is_l) = epoch_begins (p ++ (q ++ (d ++ l))) is_e is_r
-version_begins (version mark is_e is_r is_p is_q is_d is_l) = refl
+version_begins h1 = grind (arith, epoch_begins)
 
 no_operator : (t : List ℕ) → begins t ≡ true → begins_operator t ≡ false
-no_operator [] h = refl
-no_operator (c ∷ t) h = start_other c h
+no_operator t h1 = grind (arith, start_other)
 
 -- ---- the characters
 
@@ -73,8 +62,7 @@ both : (s t : List ℕ) → IsPlain s → IsPlain t → IsPlain (s ++ t)
 both s t h k = rw (list_all-append is_specifier_byte s t, h, k) refl
 
 or_first : (p q : Bool) → p ≡ true → (p || q) ≡ true
-or_first true q e = refl
-or_first false q e = absurd (false≢true e)
+or_first p q h1 = grind arith
 
 version-bytes : (t : List ℕ) → list_all is_version_byte t ≡ true → IsPlain t
 version-bytes [] h = refl
@@ -121,20 +109,10 @@ record Written (o : Operator) : Type 0 where
   text : list_all is_specifier_byte (operator_text o) ≡ true
 
 written_as : (o : Operator) → Written o
-written_as Equal = record { same = refl; plain_one = refl; makes = refl; text = refl }
-written_as EqualStar = record { same = refl; plain_one = refl; makes = refl; text = refl }
-written_as ExactEqual = record { same = refl; plain_one = refl; makes = refl; text = refl }
-written_as NotEqual = record { same = refl; plain_one = refl; makes = refl; text = refl }
-written_as NotEqualStar = record { same = refl; plain_one = refl; makes = refl; text = refl }
-written_as TildeEqual = record { same = refl; plain_one = refl; makes = refl; text = refl }
-written_as LessThan = record { same = refl; plain_one = refl; makes = refl; text = refl }
-written_as LessThanEqual = record { same = refl; plain_one = refl; makes = refl; text = refl }
-written_as GreaterThan = record { same = refl; plain_one = refl; makes = refl; text = refl }
-written_as GreaterThanEqual = record { same = refl; plain_one = refl; makes = refl; text = refl }
+written_as o = grind arith
 
 star-plain : (b : Bool) → IsPlain (star_text b)
-star-plain true = refl
-star-plain false = refl
+star-plain b = grind arith
 
 -- what follows the operator
 abbrev back_text : Specifier → List ℕ
@@ -147,9 +125,7 @@ text-is_plain s h =
 
 -- a version, or a release and `.*`
 back-pattern : (v : Parts) (star : Bool) → (star ≡ true → IsReleaseAlone v) → IsValid v → IsPattern (version_text v ++ star_text star) v star
-back-pattern v true alone valid =
-    let e : v ≡ starred_parts v.epoch v.release = alone refl in
-    subst (λ (w : Parts). IsPattern (version_text w ++ codes ".*") w true) (sym e) (star-text v.epoch v.release (subst IsValid e valid))
+back-pattern v true alone valid = grind (arith, star-text)
 back-pattern v false alone valid = subst (λ (t : List ℕ). IsPattern t v false) (sym (append-nil (version_text v))) (plain (valid-text v valid))
 
 pub reads-back : (s : Specifier) → IsWellFormed s → IsSpecifierText (specifier_text s) s

@@ -1,6 +1,5 @@
 -- A text says at most one specifier.
-use Rattle.std.proofs.Common.{◌≡◌, ℕ, Bool, List, sym, ap, ◌∙◌, subst, map}
-use Rattle.std.specs.Char.{to_ascii_lowercase}
+use Rattle.std.proofs.Common.{◌≡◌, ℕ, Bool, List, sym, ◌∙◌, map, arith}
 use Rattle.std.specs.Str.{trim}
 use Rattle.pep440_version.specs.Grammar.{IsPatternText}
 use Rattle.pep440_version.specs.Parts.{Parts}
@@ -8,23 +7,15 @@ use Rattle.pep440_version.proofs.Patterns.{pattern-again}
 use Rattle.pep440_version.proofs.Sound.{some-value}
 use Rattle.pep440_specifier.specs.declared.operator.Operator.{Operator}
 use Rattle.pep440_specifier.specs.Grammar.{IsSpecifierText, specifier}
-use Rattle.pep440_specifier.specs.Operator.{before_pattern}
 use Rattle.pep440_specifier.specs.Specifier.{Makes, Specifier}
 use Rattle.pep440_specifier.proofs.Operators.{before_run, written_alike}
 
 -- an operator and a pattern make one specifier
 one_made : (a b : Operator) (v w : Parts) (x y : Bool) (s t : Specifier) → a ≡ b → v ≡ w → x ≡ y → Makes a v x s → Makes b w y t → s ≡ t
-one_made a b v w x y s t e f g h k =
-    let same : before_pattern a x ≡ before_pattern b y = λ i. before_pattern (e i) (g i) in
-    let operator : s.operator ≡ t.operator = some-value _ _ (sym h.written ∙ same ∙ k.written) in
-    let version : s.version ≡ t.version = h.same ∙ f ∙ sym k.same in
-    λ i. record { operator = operator i; version = version i }
+one_made a b v w x y s t h1 h2 h3 h4 h5 = grind arith
 
 one_pattern : (p q : List ℕ) (v w : Parts) (x y : Bool) → p ≡ q → IsPatternText p v x → IsPatternText q w y → (v ≡ w) × (x ≡ y)
-one_pattern p q v w x y e h k =
-    let again = pattern-again (map to_ascii_lowercase (trim q)) v x (subst (λ (z : List ℕ). IsPatternText z v x) e h) in
-    let same = some-value _ _ (sym again ∙ pattern-again (map to_ascii_lowercase (trim q)) w y k) in
-    (ap (λ (p : Parts × Bool). p.0) same, ap (λ (p : Parts × Bool). p.1) same)
+one_pattern p q v w x y h1 h2 h3 = grind (arith, pattern-again, map, some-value)
 
 pub one_specifier : (text : List ℕ) (s t : Specifier) → IsSpecifierText text s → IsSpecifierText text t → s ≡ t
 one_specifier text s t (specifier {operator = a} {rest = p} {v = v} {star = x} before pattern makes) (specifier {operator = b} {rest = q} {v = w} {star = y} before2 pattern2 makes2) =

@@ -1,6 +1,5 @@
 -- When specifiers are equal in the order: each part is compared on its own.
-use Rattle.std.proofs.Common.{◌≡◌, ◌==◌, ℕ, true, refl, sym, ap, ◌∙◌, arith}
-use Rattle.std.specs.Prelude.{if◌then◌else◌}
+use Rattle.std.proofs.Common.{◌≡◌, ◌==◌, ℕ, true, ap, arith}
 use Rattle.std.specs.FinMap.{nat_cmp-IsAntisymmetric}
 use Rattle.pep440_version.specs.OrderLaws.{same-tied, tied-same}
 use Rattle.pep440_specifier.specs.declared.operator.Operator.{Operator}
@@ -11,53 +10,22 @@ use Rattle.pep440_specifier.specs.Specifier.{Specifier}
 use Rattle.std.proofs.lemmas.Bool.Decides.{nat_tests}
 use Rattle.std.specs.Ordering.{is_eq, nat_cmp, ordering_then}
 use Rattle.std.specs.declared.cmp.Ordering.{Ordering}
-use Rattle.std.specs.declared.cmp.Ordering.TheVariants.{Less, Equal, Greater}
+use Rattle.std.specs.declared.cmp.Ordering.TheVariants.{Equal}
 
 pub tied_next : (r s : Ordering) → is_eq r ≡ true → is_eq (ordering_then r s) ≡ is_eq s
-tied_next Less s e = cc e
-tied_next Equal s e = refl
-tied_next Greater s e = cc e
+tied_next r s h1 = grind arith
 
 pub numbers_tie : (m n : ℕ) → (m == n) ≡ is_eq (nat_cmp m n)
 numbers_tie m n = grind (arith, nat_tests)
 
 rank_alike : (a b : Operator) → rank a ≡ rank b → a ≡ b
-rank_alike a b e = sym (at_rank-again a) ∙ ap at_rank e ∙ at_rank-again b
-  where
-    at_rank : ℕ → Operator
-    at_rank n =
-        if n == 0 then op.Equal
-        else if n == 1 then op.EqualStar
-        else if n == 2 then op.ExactEqual
-        else if n == 3 then op.NotEqual
-        else if n == 4 then op.NotEqualStar
-        else if n == 5 then op.TildeEqual
-        else if n == 6 then op.LessThan
-        else if n == 7 then op.LessThanEqual
-        else if n == 8 then op.GreaterThan
-        else op.GreaterThanEqual
-
-    at_rank-again : (a : Operator) → at_rank (rank a) ≡ a
-    at_rank-again op.Equal = refl
-    at_rank-again op.EqualStar = refl
-    at_rank-again op.ExactEqual = refl
-    at_rank-again op.NotEqual = refl
-    at_rank-again op.NotEqualStar = refl
-    at_rank-again op.TildeEqual = refl
-    at_rank-again op.LessThan = refl
-    at_rank-again op.LessThanEqual = refl
-    at_rank-again op.GreaterThan = refl
-    at_rank-again op.GreaterThanEqual = refl
+rank_alike a b h1 = grind arith
 
 then_first : (r s : Ordering) → ordering_then r s ≡ Equal → r ≡ Equal
-then_first Less s e = cc e
-then_first Equal s e = refl
-then_first Greater s e = cc e
+then_first r s h1 = grind arith
 
 then_second : (r s : Ordering) → ordering_then r s ≡ Equal → s ≡ Equal
-then_second Less s e = cc e
-then_second Equal s e = e
-then_second Greater s e = cc e
+then_second r s h1 = grind arith
 
 pub tied_same : (s t : Specifier) → specifier_cmp s t ≡ Equal → IsSameSpecifier s t
 tied_same s t tie =

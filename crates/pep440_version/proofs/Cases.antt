@@ -7,7 +7,7 @@ use Rattle.std.proofs.lemmas.Bool.Decides.{nat_tests}
 use Rattle.std.proofs.lemmas.List.{length-map}
 use Rattle.pep440_version.specs.Parts.{Parts}
 use Rattle.pep440_version.specs.Grammar.{starred_parts}
-use Rattle.pep440_version.specs.Reading.{after_mark, after_release, bang_of, digits_from, epoch_at, epoch_of, head_at, head_of, is_star, lower, more_at, more_of, number_after, number_at, pattern_at, release_at, release_of, star_at, star_of, starts_digit, tagged_parts, version_at}
+use Rattle.pep440_version.specs.Reading.{after_mark, after_release, digits_from, epoch_at, epoch_of, head_at, head_of, is_star, lower, more_at, more_of, number_after, number_at, pattern_at, release_at, release_of, star_at, star_of, starts_digit, tagged_parts, version_at}
 
 -- ---- bytes
 
@@ -26,13 +26,7 @@ small-lower b h = grind (arith, nat_tests)
 
 pub small-text : (t : List ℕ) → list_any is_ascii_uppercase t ≡ false → lower t ≡ t
 small-text [] h = refl
-small-text (b ∷ t) h = elim (cases_Bool (is_ascii_uppercase b)) [
-  | inl capital ↦ cc (rw capital at h)
-  | inr small ↦
-      let byte = small-lower b small in
-      let rest = small-text t (rw small at h) in
-      λ i. byte i ∷ rest i
-]
+small-text (b ∷ t) h = grind (arith, cases_Bool, small-lower, small-text t)
 
 -- ---- numbers
 
@@ -56,21 +50,13 @@ digits_from-lower v (b ∷ t) = elim (cases_Bool (is_ascii_digit b)) [
 ]
 
 starts_digit-lower : (t : List ℕ) → starts_digit (lower t) ≡ starts_digit t
-starts_digit-lower [] = refl
-starts_digit-lower (b ∷ t) = digit-lower b
+starts_digit-lower t = grind arith
 
 number_at-lower : (t : List ℕ) → number_at (lower t) ≡ lowered (number_at t)
-number_at-lower t = elim (cases_Bool (starts_digit t)) [
-  | inl digit ↦ rw (starts_digit-lower t, digit) (digits_from-lower 0 t)
-  | inr other ↦ rw (starts_digit-lower t, other) refl
-]
+number_at-lower t = grind (arith, cases_Bool, starts_digit-lower, digits_from-lower)
 
 number_after-lower : (m : ℕ) → m < 65 → (t : List ℕ) → number_after m (lower t) ≡ lowered (number_after m t)
-number_after-lower m h [] = refl
-number_after-lower m h (b ∷ t) = elim (cases_Bool (b == m)) [
-  | inl same ↦ rw (sign-lower b m h, same) (number_at-lower t)
-  | inr other ↦ rw (sign-lower b m h, other) refl
-]
+number_after-lower m h1 t = grind (arith, cases_Bool, sign-lower, number_at-lower)
 
 -- ---- the epoch and the release
 
@@ -86,23 +72,14 @@ more_at-lower (suc k) t =
     rw (number_after-lower 46 (omega arith) t) (step (number_after 46 t))
 
 release_of-lower : (o : Option (ℕ × List ℕ)) → release_of (lowered o) ≡ lowered (release_of o)
-release_of-lower None = refl
-release_of-lower (Some x) = rw (length-map x.1 to_ascii_lowercase, more_at-lower (length x.1) x.1) refl
+release_of-lower o = grind (arith, length-map, more_at-lower, length)
 
 release_at-lower : (t : List ℕ) → release_at (lower t) ≡ lowered (release_at t)
 unfolding release_at
 release_at-lower t = rw (number_at-lower t) (release_of-lower (number_at t))
 
-bang_of-lower : (n : ℕ) (t rest : List ℕ) → bang_of n (lower t) (lower rest) ≡ lowered_pair (bang_of n t rest)
-bang_of-lower n t [] = refl
-bang_of-lower n t (b ∷ rest) = elim (cases_Bool (b == 33)) [
-  | inl bang ↦ rw (sign-lower b 33 (omega arith), bang) refl
-  | inr other ↦ rw (sign-lower b 33 (omega arith), other) refl
-]
-
 epoch_of-lower : (t : List ℕ) (o : Option (ℕ × List ℕ)) → epoch_of (lower t) (lowered o) ≡ lowered_pair (epoch_of t o)
-epoch_of-lower t None = refl
-epoch_of-lower t (Some x) = bang_of-lower x.0 t x.1
+epoch_of-lower t o = grind arith
 
 epoch_at-lower : (t : List ℕ) → epoch_at (lower t) ≡ lowered_pair (epoch_at t)
 unfolding epoch_at
@@ -116,8 +93,7 @@ IsHead None epoch release = release ≡ None
 IsHead (Some x) epoch release = (epoch ≡ x.0) × (release ≡ Some (x.1, lower x.2))
 
 head_of-lower : (e : ℕ) (o : Option (List ℕ × List ℕ)) → IsHead (head_of e o) e (lowered o)
-head_of-lower e None = refl
-head_of-lower e (Some r) = (refl, refl)
+head_of-lower e o = grind arith
 
 head-lower : (t : List ℕ) → IsHead (head_at t) (epoch_at (lower t)).0 (release_at (epoch_at (lower t)).1)
 unfolding head_at

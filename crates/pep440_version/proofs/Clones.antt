@@ -1,18 +1,13 @@
 -- Clones of local segments are the same segments.
-use Rattle.std.proofs.Common.{rules, string_bytes, ◌≡◌, List, [], ◌∷◌, map, refl, ap, Result, Ok, Err, IfOk}
+use Rattle.std.proofs.Common.{◌≡◌, List, [], ◌∷◌, map, refl, Result, IfOk, arith}
 use Rattle.std.specs.List.{AllZip}
 use Rattle.std.specs.Result.{MatchResult}
 use Rattle.pep440_version.specs.declared.version.LocalSegment.{LocalSegment}
-use Rattle.pep440_version.specs.declared.version.LocalSegment.TheVariants.{String, Number}
 use Rattle.pep440_version.specs.contracts.version.LocalSegmentClone.TheImpl as cloned
-use Rattle.pep440_version.specs.Parts.{word, number}
 use Rattle.pep440_version.specs.View.{segment_of}
 
 segment_of-clone : (a b : LocalSegment) → (cloned.is_clone-value).it a b → segment_of b ≡ segment_of a
-segment_of-clone (String a) (String b) h = let k : string_bytes b ≡ string_bytes a = search rules in ap word k
-segment_of-clone (String a) (Number n) h = let k : ⊥ = search rules in absurd k
-segment_of-clone (Number m) (String b) h = let k : ⊥ = search rules in absurd k
-segment_of-clone (Number m) (Number n) h = let k : n ≡ m = search rules in ap number k
+segment_of-clone a b h1 = grind arith
 
 pub map-clones : (xs ys : List LocalSegment) → AllZip (cloned.is_clone-value).it xs ys → map segment_of ys ≡ map segment_of xs
 map-clones [] [] h = refl
@@ -22,5 +17,4 @@ map-clones (x ∷ xs) (y ∷ ys) h = λ i. segment_of-clone x y h.0 i ∷ map-cl
 
 -- a weaker fact of the same result
 pub IfOk-from_match : {T E : Type 0} (P : T → Type 0) (R : E → Type 0) (Q : T → Type 0) → ((x : T) → P x → Q x) → (r : Result T E) → MatchResult r P R → IfOk r Q
-IfOk-from_match P R Q f (Ok x) h = f x h
-IfOk-from_match P R Q f (Err e) h = tt
+IfOk-from_match P R Q h1 r h2 = grind arith

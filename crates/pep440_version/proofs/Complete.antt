@@ -10,7 +10,7 @@ use Rattle.std.proofs.lemmas.List.{drop_at, take_at}
 use Rattle.pep440_version.specs.declared.version.Prerelease.{Prerelease}
 use Rattle.pep440_version.specs.declared.version.PrereleaseKind.{PrereleaseKind}
 use Rattle.pep440_version.specs.Parts.{Parts, Segment}
-use Rattle.pep440_version.specs.Grammar.{IsDev, IsEpoch, IsLocal, IsMark, IsNumber, IsNumbering, IsPost, IsPostWord, IsPre, IsPreWord, IsRelease, IsSegment, IsSegments, IsSeparator, IsVersion, bare, before, dash, dashed, dev, dot, epoch, last, last_segment, left_out, long_alpha, long_beta, mark, no_dev, no_epoch, no_local, no_mark, no_post, no_pre, numeric, plus, post, pre, segment_before, short_alpha, short_beta, textual, underscore, value_from, version, word_c, word_post, word_pre, word_preview, word_r, word_rc, word_rev, written}
+use Rattle.pep440_version.specs.Grammar.{IsDev, IsEpoch, IsLocal, IsMark, IsNumber, IsNumbering, IsPost, IsPostWord, IsPre, IsPreWord, IsRelease, IsSegment, IsSegments, IsSeparator, IsVersion, bare, before, dash, dashed, dev, dot, epoch, last, last_segment, left_out, long_alpha, long_beta, no_dev, no_epoch, no_local, no_post, no_pre, numeric, plus, post, pre, segment_before, short_alpha, short_beta, textual, underscore, value_from, version, word_c, word_post, word_pre, word_preview, word_r, word_rc, word_rev, written}
 use Rattle.pep440_version.specs.Reading.{after_mark, after_separator, bang_of, dev_at, digits_from, epoch_at, is_separator, locals_at, more_at, number_after, number_at, numbered_at, post_at, post_word_at, pre_at, pre_word_at, release_at, run_len, segment_at, segment_of_run, segments_at, starts_digit, strip, version_at}
 use Rattle.pep440_version.proofs.Readers.{lt-true, more-stop}
 
@@ -46,12 +46,8 @@ number-again ds rest n h next = rw (starts-number ds rest h.digits h.some) (digi
 no_number : (t : List ℕ) → starts_digit t ≡ false → number_at t ≡ None
 no_number t h = rw h refl
 
-digit-no_separator : (b : ℕ) → is_ascii_digit b ≡ true → is_separator b ≡ false
-digit-no_separator b h = grind (arith, nat_tests)
-
 after_separator-digit : (t : List ℕ) → starts_digit t ≡ true → after_separator t ≡ t
-after_separator-digit [] h = cc h
-after_separator-digit (b ∷ t) h = rw (digit-no_separator b h) refl
+after_separator-digit t h1 = grind arith
 
 -- a separator and what begins with no separator
 after_separator-again : (s t : List ℕ) → IsSeparator s → after_separator t ≡ t → after_separator (s ++ t) ≡ t
@@ -138,19 +134,10 @@ record Front (x : List ℕ) : Type 0 where
   release : number_after 46 x ≡ None
 
 pre_word-front : (w : List ℕ) (kind : PrereleaseKind) (x : List ℕ) → IsPreWord w kind → Front (w ++ x)
-pre_word-front w kind x long_alpha = record { digit = refl; separator = refl; release = refl }
-pre_word-front w kind x short_alpha = record { digit = refl; separator = refl; release = refl }
-pre_word-front w kind x long_beta = record { digit = refl; separator = refl; release = refl }
-pre_word-front w kind x short_beta = record { digit = refl; separator = refl; release = refl }
-pre_word-front w kind x word_rc = record { digit = refl; separator = refl; release = refl }
-pre_word-front w kind x word_c = record { digit = refl; separator = refl; release = refl }
-pre_word-front w kind x word_preview = record { digit = refl; separator = refl; release = refl }
-pre_word-front w kind x word_pre = record { digit = refl; separator = refl; release = refl }
+pre_word-front w kind x h1 = grind arith
 
 post_word-front : (w : List ℕ) (x : List ℕ) → IsPostWord w → Front (w ++ x)
-post_word-front w x word_post = record { digit = refl; separator = refl; release = refl }
-post_word-front w x word_rev = record { digit = refl; separator = refl; release = refl }
-post_word-front w x word_r = record { digit = refl; separator = refl; release = refl }
+post_word-front w x h1 = grind arith
 
 pre_word-again : (w : List ℕ) (kind : PrereleaseKind) (x : List ℕ) → IsPreWord w kind → opens x ≡ false → pre_word_at (w ++ x) ≡ Some (kind, x)
 unfolding pre_word_at strip
@@ -286,26 +273,13 @@ pub record AfterRelease (t : List ℕ) : Type 0 where
   pub bang : (n : ℕ) (u : List ℕ) → bang_of n u t ≡ (0, u)
 
 not_bang : (t : List ℕ) → opens t ≡ false → (n : ℕ) (u : List ℕ) → bang_of n u t ≡ (0, u)
-not_bang [] h n u = refl
-not_bang (b ∷ t) h n u =
-    let other : (b == 33) ≡ false = grind (arith, nat_tests) in
-    rw other refl
+not_bang t h1 n u = grind arith
 
 word-not_bang : (w : List ℕ) (kind : PrereleaseKind) (x : List ℕ) → IsPreWord w kind → (n : ℕ) (u : List ℕ) → bang_of n u (w ++ x) ≡ (0, u)
-word-not_bang w kind x long_alpha n u = refl
-word-not_bang w kind x short_alpha n u = refl
-word-not_bang w kind x long_beta n u = refl
-word-not_bang w kind x short_beta n u = refl
-word-not_bang w kind x word_rc n u = refl
-word-not_bang w kind x word_c n u = refl
-word-not_bang w kind x word_preview n u = refl
-word-not_bang w kind x word_pre n u = refl
+word-not_bang w kind x h1 n u = grind arith
 
 separated-not_bang : (s x : List ℕ) → IsSeparator s → ((n : ℕ) (u : List ℕ) → bang_of n u x ≡ (0, u)) → (n : ℕ) (u : List ℕ) → bang_of n u (s ++ x) ≡ (0, u)
-separated-not_bang s x left_out h n u = h n u
-separated-not_bang s x dash h n u = refl
-separated-not_bang s x dot h n u = refl
-separated-not_bang s x underscore h n u = refl
+separated-not_bang s x h1 h2 n u = grind arith
 
 pre-tail : (p : List ℕ) (o : Option Prerelease) (b : Bool) (rest : List ℕ) → IsPre p o b → PostTail b rest → AfterRelease (p ++ rest)
 pre-tail p o b rest no_pre c = record { digit = c.0.digit; release = c.0.release; bang = not_bang rest c.0.letter }
@@ -342,20 +316,14 @@ epoch-again e n t ns rest no_epoch r a = release-no_epoch t ns rest r a
 epoch-again e n t ns rest (epoch {ds = ds} num) r a = rw (append_assoc, number-again ds (33 ∷ (t ++ rest)) n num refl) refl
 
 pub release-digit : (t ns rest : List ℕ) → IsRelease t ns → starts_digit (t ++ rest) ≡ true
-release-digit t ns rest (last num) = starts-number t rest num.digits num.some
-release-digit t ns rest (before {ds = ds} {t = u} num others) = rw append_assoc (starts-number ds (46 ∷ (u ++ rest)) num.digits num.some)
+release-digit t ns rest h1 = grind (arith, starts-number, append_assoc)
 
 pub epoch-digit : (e : List ℕ) (n : ℕ) (t : List ℕ) → IsEpoch e n → starts_digit t ≡ true → starts_digit (e ++ t) ≡ true
 epoch-digit e n t no_epoch h = h
 epoch-digit e n t (epoch {ds = ds} num) h = rw append_assoc (starts-number ds (33 ∷ t) num.digits num.some)
 
-digit-no_mark : (t : List ℕ) → starts_digit t ≡ true → after_mark t ≡ t
-digit-no_mark [] h = refl
-digit-no_mark (b ∷ t) h = rw (digit-not b 118 h (omega arith)) refl
-
 pub mark-again : (m t : List ℕ) → IsMark m → starts_digit t ≡ true → after_mark (m ++ t) ≡ t
-mark-again m t no_mark h = digit-no_mark t h
-mark-again m t mark h = refl
+mark-again m t h1 h2 = grind arith
 
 -- ---- local segments
 
@@ -386,20 +354,17 @@ digits-word_bytes (b ∷ ds) h = elim (cases_Bool (is_ascii_digit b)) [
 ]
 
 length-some : (u : List ℕ) → 0 < length u → (length u == 0) ≡ false
-length-some [] h = absurd (omega arith)
-length-some (b ∷ u) h = grind (arith, nat_tests)
+length-some u h1 = grind arith
 
 segment-letters : (u : List ℕ) (s : Segment) → IsSegment u s → list_all is_word_byte u ≡ true
-segment-letters u s (numeric num) = digits-word_bytes u num.digits
-segment-letters u s (textual is_word) = is_word.0
+segment-letters u s h1 = grind (arith, digits-word_bytes)
 
 textual-long : (u : List ℕ) → list_all is_ascii_digit u ≡ false → 0 < length u
 textual-long [] h = cc h
 textual-long (b ∷ u) h = omega arith
 
 segment-long : (u : List ℕ) (s : Segment) → IsSegment u s → 0 < length u
-segment-long u s (numeric num) = num.some
-segment-long u s (textual is_word) = textual-long u is_word.1
+segment-long u s h1 = grind (arith, textual-long)
 
 segment_of_run-again : (u : List ℕ) (s : Segment) → IsSegment u s → segment_of_run u ≡ Some s
 unfolding segment_of_run
@@ -415,10 +380,7 @@ segment-again u s rest h stop =
     rw (len, take_at u rest (length u) refl, drop_at u rest (length u) refl, segment_of_run-again u s h) refl
 
 separator-stops : (p : List ℕ) (u : List ℕ) → IsSeparator p → 0 < length p → (b : ℕ) × (p ≡ b ∷ []) × (is_separator b ≡ true) × (stops (p ++ u) ≡ true)
-separator-stops p u left_out h = absurd (omega arith)
-separator-stops p u dash h = (45, refl, refl, refl)
-separator-stops p u dot h = (46, refl, refl, refl)
-separator-stops p u underscore h = (95, refl, refl, refl)
+separator-stops p u h1 h2 = grind arith
 
 segments-again : (t : List ℕ) (ss : List Segment) → IsSegments t ss → (k : ℕ) → length t ≤ k → segments_at k t ≡ Some ss
 unfolding segments_at
@@ -440,8 +402,7 @@ segments-again t ss (segment_before {t = u} {p = p} {u = others} {s = s} {ss = r
     rw e whole
 
 locals-again : (l : List ℕ) (ss : List Segment) → IsLocal l ss → locals_at l ≡ Some ss
-locals-again l ss no_local = refl
-locals-again l ss (plus {t = t} h) = segments-again t ss h (length t) (omega arith)
+locals-again l ss h1 = grind (arith, segments-again, length)
 
 -- the text after a release of a version
 pub after-version : (p q d l : List ℕ) (after : Bool) (v : Parts) → IsPre p v.pre after → IsPost after q v.post → IsDev d v.dev → IsLocal l v.locals → AfterRelease (p ++ (q ++ (d ++ l)))

@@ -1,5 +1,5 @@
 -- An epoch and a release, from the first number on.
-use Rattle.std.proofs.Common.{◌≡◌, ◌==◌, ℕ, arith, Option, Some, None, List, [], ◌∷◌, length, refl, sym, ap, inl, inr}
+use Rattle.std.proofs.Common.{◌≡◌, ◌==◌, ℕ, arith, Option, Some, None, List, [], ◌∷◌, length, refl, ap, inl, inr}
 use Rattle.std.specs.Prelude.{codes}
 use Rattle.std.proofs.lemmas.Bool.{cases_Bool}
 use Rattle.pep440_version.specs.Grammar.{starred_parts}
@@ -46,10 +46,7 @@ unfolding head_at epoch_at release_at
 head-epoch t after release n m more r rest h some number k = rw (← h, bang n t after release some, ← number) (ap (head_of n) k)
 
 head_of-release : (e : ℕ) (o : Option (List ℕ × List ℕ)) (x : ℕ × List ℕ × List ℕ) → Some x ≡ head_of e o → o ≡ Some (x.1, x.2)
-head_of-release e None x h = cc h
-head_of-release e (Some r) x h =
-    let same = some-value _ _ h in
-    sym (ap (λ (y : ℕ × List ℕ × List ℕ). Some (y.1, y.2)) same)
+head_of-release e o x h1 = grind arith
 
 pub head-numbers : (t : List ℕ) (e : ℕ) (r rest : List ℕ) → Some (e, r, rest) ≡ head_at t → AreNumbers r
 unfolding head_at

@@ -4,7 +4,7 @@ use Rattle.std.proofs.lemmas.Bool.Decides.{nat_tests}
 use Rattle.std.proofs.lemmas.List.{drop_all, take_more}
 use Rattle.std.specs.Ordering.{nat_cmp, ordering_index, ordering_then}
 use Rattle.std.specs.declared.cmp.Ordering.{Ordering}
-use Rattle.std.specs.declared.cmp.Ordering.TheVariants.{Less, Equal, Greater}
+use Rattle.std.specs.declared.cmp.Ordering.TheVariants.{Equal}
 use Rattle.pep440_version.specs.Order.{padded_cmp}
 use Rattle.pep440_version.specs.Order.{keep, significant}
 
@@ -44,14 +44,10 @@ significant-push (x ∷ xs) y h = ap (keep x) (significant-push xs y h) ∙ cons
 -- ---- what a test of a result means
 
 pub then_other : (r s : Ordering) → true ≡ not (ordering_index r == 1) → ordering_then r s ≡ r
-then_other Less s h = refl
-then_other Equal s h = cc h
-then_other Greater s h = refl
+then_other r s h1 = grind arith
 
 pub then_equal : (r s : Ordering) → false ≡ not (ordering_index r == 1) → ordering_then r s ≡ s
-then_equal Less s h = cc h
-then_equal Equal s h = refl
-then_equal Greater s h = cc h
+then_equal r s h1 = grind arith
 
 -- a zero at the end of the first numbers is not significant
 pub significant-drop : (xs : List ℕ) (n : ℕ) → 0 < n → n ≤ length xs → get_or xs (n - 1) 0 ≡ 0 → significant (take (n - 1) xs) ≡ significant (take n xs)

@@ -1,14 +1,14 @@
 -- Patterns are read exactly as the grammar has them.
-use Rattle.std.proofs.Common.{◌≡◌, ◌==◌, ◌++◌, ℕ, Bool, Option, Some, None, List, [], ◌∷◌, refl, sym, ap, ◌∙◌, inl, inr, true, false, subst}
+use Rattle.std.proofs.Common.{◌≡◌, ◌++◌, ℕ, Bool, Option, Some, None, List, refl, sym, ap, ◌∙◌, inl, inr, true, false, subst, arith}
 use Rattle.std.specs.Prelude.{IfNone, IfSome, codes}
 use Rattle.std.specs.Str.{trim}
-use Rattle.std.proofs.lemmas.Bool.{cases_Bool, eqb-true}
+use Rattle.std.proofs.lemmas.Bool.{cases_Bool}
 use Rattle.pep440_version.specs.declared.version.Prerelease.{Prerelease}
 use Rattle.pep440_version.specs.declared.version.PrereleaseKind.{PrereleaseKind}
 use Rattle.pep440_version.specs.declared.pattern.VersionPattern.{VersionPattern}
 use Rattle.pep440_version.specs.Parts.{Parts, Segment}
-use Rattle.pep440_version.specs.Grammar.{IsDev, IsEpoch, IsLocal, IsMark, IsPattern, IsPatternText, IsPost, IsPostWord, IsPre, IsPreWord, IsRelease, IsSeparator, IsVersion, IsVersionText, dash, dashed, dev, dot, left_out, long_alpha, long_beta, no_dev, no_local, no_post, no_pre, plain, plus, post, pre, short_alpha, short_beta, starred, starred_parts, underscore, version, word_c, word_post, word_pre, word_preview, word_r, word_rc, word_rev}
-use Rattle.pep440_version.specs.Reading.{after_mark, epoch_at, is_asterisk, is_end, is_star, lower, pattern_at, pattern_view, release_at, star_at, star_of, tagged_parts, version_at}
+use Rattle.pep440_version.specs.Grammar.{IsDev, IsEpoch, IsLocal, IsMark, IsPattern, IsPatternText, IsPost, IsPostWord, IsPre, IsPreWord, IsRelease, IsSeparator, IsVersion, IsVersionText, dash, dashed, dev, dot, left_out, no_dev, no_post, no_pre, plain, post, pre, starred, starred_parts, underscore, version}
+use Rattle.pep440_version.specs.Reading.{after_mark, epoch_at, is_asterisk, is_star, lower, pattern_at, pattern_view, release_at, star_at, star_of, tagged_parts, version_at}
 use Rattle.pep440_version.proofs.Complete.{AfterRelease, after-version, epoch-again, epoch-digit, mark-again, regroup, release-again, release-digit, version-again}
 use Rattle.pep440_version.proofs.Sound.{epoch-sound, mark-sound, or-cases, release-sound, some-value, version-sound}
 
@@ -21,8 +21,7 @@ star-separated s x dot h k = k
 star-separated s x underscore h k = refl
 
 no_star-local : (l : List ℕ) (ss : List Segment) → IsLocal l ss → is_star l ≡ false
-no_star-local l ss no_local = refl
-no_star-local l ss (plus h) = refl
+no_star-local l ss h1 = grind arith
 
 no_star-dev : (d : List ℕ) (o : Option ℕ) (l : List ℕ) → IsDev d o → is_star l ≡ false → is_star (d ++ l) ≡ false
 no_star-dev d o l no_dev h = h
@@ -32,52 +31,24 @@ no_star-dev d o l (dev dot num) h = refl
 no_star-dev d o l (dev underscore num) h = refl
 
 post_word-no_star : (w x : List ℕ) → IsPostWord w → (is_star (w ++ x) ≡ false) × (is_asterisk (w ++ x) ≡ false)
-post_word-no_star w x word_post = (refl, refl)
-post_word-no_star w x word_rev = (refl, refl)
-post_word-no_star w x word_r = (refl, refl)
+post_word-no_star w x h1 = grind arith
 
 no_star-post : (after : Bool) (q : List ℕ) (o : Option ℕ) (rest : List ℕ) → IsPost after q o → is_star rest ≡ false → is_star (q ++ rest) ≡ false
 no_star-post after q o rest no_post h = h
-no_star-post after q o rest (post {s = s} {w = w} {t = t} sep is_word num) h =
-    let w2 = post_word-no_star w (t ++ rest) is_word in
-    rw (regroup s w t rest) (star-separated s (w ++ (t ++ rest)) sep w2.0 w2.1)
+no_star-post after q o rest (post {s = s} {w = w} {t = t} sep is_word num) h = grind (arith, post_word-no_star, regroup, star-separated)
 no_star-post after q o rest (dashed num) h = refl
 
 pre_word-no_star : (w : List ℕ) (kind : PrereleaseKind) (x : List ℕ) → IsPreWord w kind → (is_star (w ++ x) ≡ false) × (is_asterisk (w ++ x) ≡ false)
-pre_word-no_star w kind x long_alpha = (refl, refl)
-pre_word-no_star w kind x short_alpha = (refl, refl)
-pre_word-no_star w kind x long_beta = (refl, refl)
-pre_word-no_star w kind x short_beta = (refl, refl)
-pre_word-no_star w kind x word_rc = (refl, refl)
-pre_word-no_star w kind x word_c = (refl, refl)
-pre_word-no_star w kind x word_preview = (refl, refl)
-pre_word-no_star w kind x word_pre = (refl, refl)
+pre_word-no_star w kind x h1 = grind arith
 
 no_star-pre : (p : List ℕ) (o : Option Prerelease) (b : Bool) (rest : List ℕ) → IsPre p o b → is_star rest ≡ false → is_star (p ++ rest) ≡ false
 no_star-pre p o b rest no_pre h = h
-no_star-pre p o b rest (pre {s = s} {w = w} {t = t} {kind = kind} sep is_word num) h =
-    let w2 = pre_word-no_star w kind (t ++ rest) is_word in
-    rw (regroup s w t rest) (star-separated s (w ++ (t ++ rest)) sep w2.0 w2.1)
+no_star-pre p o b rest (pre {s = s} {w = w} {t = t} {kind = kind} sep is_word num) h = grind (arith, pre_word-no_star, regroup, star-separated)
 
 -- ---- both directions
 
 star-rest : (t : List ℕ) → is_star t ≡ true → t ≡ codes ".*"
-star-rest [] h = cc h
-star-rest (b ∷ t) h = elim (cases_Bool (b == 46)) [
-  | inl e ↦ let byte : b ≡ 46 = eqb-true b 46 e in let rest = asterisk-rest t (rw e at h) in λ i. byte i ∷ rest i
-  | inr e ↦ cc (rw e at h)
-]
-  where
-    end-rest : (t : List ℕ) → is_end t ≡ true → t ≡ []
-    end-rest [] h = refl
-    end-rest (b ∷ t) h = cc h
-
-    asterisk-rest : (t : List ℕ) → is_asterisk t ≡ true → t ≡ 42 ∷ []
-    asterisk-rest [] h = cc h
-    asterisk-rest (b ∷ t) h = elim (cases_Bool (b == 42)) [
-      | inl e ↦ let byte : b ≡ 42 = eqb-true b 42 e in let rest = end-rest t (rw e at h) in λ i. byte i ∷ rest i
-      | inr e ↦ cc (rw e at h)
-    ]
+star-rest t h1 = grind arith
 
 star_of-sound : (t m t1 : List ℕ) → IsMark m → t ≡ m ++ t1 → (o : Option (List ℕ × List ℕ)) → release_at (epoch_at t1).1 ≡ o
     → (v : Parts) → star_of (epoch_at t1).0 o ≡ Some v → IsPattern t v true
@@ -102,10 +73,7 @@ star-sound t v h =
     star_of-sound t m.0 (after_mark t) m.1 m.2 (release_at (epoch_at (after_mark t)).1) refl v h
 
 tagged-value : (star : Bool) (o : Option Parts) (v : Parts) (b : Bool) → tagged_parts star o ≡ Some (v, b) → (o ≡ Some v) × (star ≡ b)
-tagged-value star None v b h = cc h
-tagged-value star (Some x) v b h =
-    let e = some-value _ _ h in
-    (ap Some (ap (λ (p : Parts × Bool). p.0) e), ap (λ (p : Parts × Bool). p.1) e)
+tagged-value star o v b h1 = grind arith
 
 pub pattern-sound : (t : List ℕ) (v : Parts) (b : Bool) → pattern_at t ≡ Some (v, b) → IsPattern t v b
 unfolding pattern_at
@@ -150,33 +118,23 @@ pub one_version : (t : List ℕ) (v w : Parts) → IsVersion t v → IsVersion t
 one_version t v w h k = some-value _ _ (sym (version-again t v h) ∙ version-again t w k)
 
 pub one_pattern : (t : List ℕ) (v w : Parts) (b d : Bool) → IsPattern t v b → IsPattern t w d → (v ≡ w) × (b ≡ d)
-one_pattern t v w b d h k =
-    let same = some-value _ _ (sym (pattern-again t v b h) ∙ pattern-again t w d k) in
-    (ap (λ (p : Parts × Bool). p.0) same, ap (λ (p : Parts × Bool). p.1) same)
+one_pattern t v w b d h1 h2 = grind (arith, some-value, pattern-again)
 
 -- ---- a text is parsed as exactly what it denotes
 
 -- t is the text without the white space around it
 
 pub version-found : (text t : List ℕ) → t ≡ trim text → (o : Option Parts) → o ≡ version_at (lower t) → IfSome o (IsVersionText text)
-version-found text t e None h = tt
-version-found text t e (Some v) h =
-    version-sound (lower (trim text)) v (sym (h ∙ ap (λ (z : List ℕ). version_at (lower z)) e))
+version-found text t h1 o h2 = grind (arith, version-sound)
 
 pub version-missing : (text t : List ℕ) → t ≡ trim text → (o : Option Parts) → o ≡ version_at (lower t)
     → IfNone o ((v : Parts) → ¬ IsVersionText text v)
-version-missing text t e None h = λ v says.
-    cc (h ∙ ap (λ (z : List ℕ). version_at (lower z)) e ∙ version-again (lower (trim text)) v says)
-version-missing text t e (Some v) h = tt
+version-missing text t h1 o h2 = grind (arith, version-again)
 
 pub pattern-found : (text t : List ℕ) → t ≡ trim text → (o : Option VersionPattern) → pattern_view o ≡ pattern_at (lower t)
     → IfSome o (λ p. IsPatternText text p.version p.wildcard)
-pattern-found text t e None h = tt
-pattern-found text t e (Some p) h =
-    pattern-sound (lower (trim text)) p.version p.wildcard (sym (h ∙ ap (λ (z : List ℕ). pattern_at (lower z)) e))
+pattern-found text t h1 o h2 = grind (arith, pattern-sound)
 
 pub pattern-missing : (text t : List ℕ) → t ≡ trim text → (o : Option VersionPattern) → pattern_view o ≡ pattern_at (lower t)
     → IfNone o ((v : Parts) (star : Bool) → ¬ IsPatternText text v star)
-pattern-missing text t e None h = λ v star says.
-    cc (h ∙ ap (λ (z : List ℕ). pattern_at (lower z)) e ∙ pattern-again (lower (trim text)) v star says)
-pattern-missing text t e (Some p) h = tt
+pattern-missing text t h1 o h2 = grind (arith, pattern-again)

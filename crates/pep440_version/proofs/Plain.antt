@@ -1,5 +1,5 @@
 -- The normal text of a version has only lower-case letters, digits, `!`, `+` and `.`.
-use Rattle.std.proofs.Common.{◌≡◌, ◌==◌, ◌++◌, ℕ, Bool, true, Option, Some, None, List, [], ◌∷◌, refl, inl, inr, arith}
+use Rattle.std.proofs.Common.{◌≡◌, ◌++◌, ℕ, Bool, true, Option, List, [], ◌∷◌, refl, arith}
 use Rattle.std.proofs.lemmas.Bool.{and_from, and_parts, cases_Bool}
 use Rattle.std.proofs.lemmas.Bool.Decides.{nat_tests}
 use Rattle.std.proofs.lemmas.List.Folds.{list_all-append}
@@ -8,8 +8,7 @@ use Rattle.std.specs.Fmt.{decimal}
 use Rattle.std.specs.List.{AllByRecursion, list_all}
 use Rattle.pep440_version.specs.declared.version.Prerelease.{Prerelease}
 use Rattle.pep440_version.specs.declared.version.PrereleaseKind.{PrereleaseKind}
-use Rattle.pep440_version.specs.declared.version.PrereleaseKind.TheVariants.{Alpha, Beta, Rc}
-use Rattle.pep440_version.specs.Parts.{Parts, Segment, word, number}
+use Rattle.pep440_version.specs.Parts.{Parts, Segment}
 use Rattle.pep440_version.specs.Plain.{IsPlainByte, is_version_byte}
 use Rattle.pep440_version.specs.Text.{dev_text, dotted, dotted_segments, epoch_text, kind_text, local_text, post_text, pre_text, release_text, segment_text, suffix_text, version_text}
 use Rattle.pep440_version.specs.Valid.{Fits, FitsIfSome, IsValid, PrereleaseFits, SegmentIsValid, is_word_byte}
@@ -36,47 +35,36 @@ number-plain : (n : ℕ) → Fits n → IsPlain (decimal n)
 number-plain n h = all-plain is_ascii_digit digit-plain (decimal n) (decimal-number n h).digits
 
 epoch-plain : (e : ℕ) → Fits e → IsPlain (epoch_text e)
-epoch-plain e h = elim (cases_Bool (e == 0)) [
-  | inl none ↦ rw none refl
-  | inr some ↦ rw some (both (decimal e) (33 ∷ []) (number-plain e h) refl)
-]
+epoch-plain e h1 = grind (arith, cases_Bool, both, number-plain)
 
 dotted-plain : (ns : List ℕ) → AllByRecursion Fits ns → IsPlain (dotted ns)
 dotted-plain [] all = refl
 dotted-plain (n ∷ ns) all = both (46 ∷ decimal n) (dotted ns) (number-plain n all.0) (dotted-plain ns all.1)
 
 release-plain : (ns : List ℕ) → AllByRecursion Fits ns → IsPlain (release_text ns)
-release-plain [] all = refl
-release-plain (n ∷ ns) all = both (decimal n) (dotted ns) (number-plain n all.0) (dotted-plain ns all.1)
+release-plain ns h1 = grind (arith, both, number-plain, dotted-plain)
 
 kind-plain : (kind : PrereleaseKind) → IsPlain (kind_text kind)
-kind-plain Alpha = refl
-kind-plain Beta = refl
-kind-plain Rc = refl
+kind-plain kind = grind arith
 
 pre-plain : (p : Option Prerelease) → PrereleaseFits p → IsPlain (pre_text p)
-pre-plain None h = refl
-pre-plain (Some p) h = both (kind_text p.kind) (decimal p.number) (kind-plain p.kind) (number-plain p.number h)
+pre-plain p h1 = grind (arith, both, kind-plain, number-plain)
 
 post-plain : (o : Option ℕ) → FitsIfSome o → IsPlain (post_text o)
-post-plain None h = refl
-post-plain (Some n) h = number-plain n h
+post-plain o h1 = grind (arith, number-plain)
 
 dev-plain : (o : Option ℕ) → FitsIfSome o → IsPlain (dev_text o)
-dev-plain None h = refl
-dev-plain (Some n) h = number-plain n h
+dev-plain o h1 = grind (arith, number-plain)
 
 segment-plain : (s : Segment) → SegmentIsValid s → IsPlain (segment_text s)
-segment-plain (word t) h = all-plain is_word_byte word_byte-plain t h.0
-segment-plain (number n) h = number-plain n h
+segment-plain s h1 = grind (arith, all-plain, word_byte-plain, number-plain)
 
 segments-plain : (ss : List Segment) → AllByRecursion SegmentIsValid ss → IsPlain (dotted_segments ss)
 segments-plain [] all = refl
 segments-plain (s ∷ ss) all = both (46 ∷ segment_text s) (dotted_segments ss) (segment-plain s all.0) (segments-plain ss all.1)
 
 local-plain : (ss : List Segment) → AllByRecursion SegmentIsValid ss → IsPlain (local_text ss)
-local-plain [] all = refl
-local-plain (s ∷ ss) all = both (43 ∷ segment_text s) (dotted_segments ss) (segment-plain s all.0) (segments-plain ss all.1)
+local-plain ss h1 = grind (arith, both, segment-plain, segments-plain)
 
 pub text-plain : (v : Parts) → IsValid v → list_all is_version_byte (version_text v) ≡ true
 unfolding version_text

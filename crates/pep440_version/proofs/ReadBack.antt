@@ -1,5 +1,5 @@
 -- A text of the grammar has no white space and no capital, so it is parsed as it is.
-use Rattle.std.proofs.Common.{◌≡◌, ◌==◌, ◌<◌, ◌++◌, ℕ, zero, suc, Bool, true, false, not, ◌&&◌, nat_lt, Option, List, [], ◌∷◌, map, refl, sym, ap, ◌∙◌, arith, inl, inr, subst}
+use Rattle.std.proofs.Common.{◌≡◌, ◌==◌, ◌<◌, ◌++◌, ℕ, Bool, true, false, not, ◌&&◌, nat_lt, Option, List, [], ◌∷◌, map, refl, ap, arith, inl, inr}
 use Rattle.std.proofs.lemmas.Bool.{cases_Bool, eqb-true}
 use Rattle.std.proofs.lemmas.Bool.Decides.{nat_tests}
 use Rattle.std.proofs.lemmas.List.Folds.{list_all-append}
@@ -11,7 +11,7 @@ use Rattle.pep440_version.specs.declared.version.Prerelease.{Prerelease}
 use Rattle.pep440_version.specs.declared.version.PrereleaseKind.{PrereleaseKind}
 use Rattle.pep440_version.specs.Parts.{Parts, Segment}
 use Rattle.pep440_version.specs.Valid.{is_word_byte}
-use Rattle.pep440_version.specs.Grammar.{IsDev, IsEpoch, IsLocal, IsMark, IsNumber, IsNumbering, IsPattern, IsPatternText, IsPost, IsPostWord, IsPre, IsPreWord, IsRelease, IsSegment, IsSegments, IsSeparator, IsVersion, IsVersionText, bare, before, dash, dashed, dev, dot, epoch, last, last_segment, left_out, long_alpha, long_beta, mark, no_dev, no_epoch, no_local, no_mark, no_post, no_pre, numeric, plain, plus, post, pre, segment_before, short_alpha, short_beta, starred, textual, underscore, version, word_c, word_post, word_pre, word_preview, word_r, word_rc, word_rev, written}
+use Rattle.pep440_version.specs.Grammar.{IsDev, IsEpoch, IsLocal, IsMark, IsNumber, IsNumbering, IsPattern, IsPatternText, IsPost, IsPostWord, IsPre, IsPreWord, IsRelease, IsSegment, IsSegments, IsSeparator, IsVersion, IsVersionText, before, last, last_segment, segment_before}
 
 -- no white space, and not changed by a change to lower case
 abbrev pub is_text_byte : ℕ → Bool
@@ -47,80 +47,54 @@ digit-plain b h = grind (arith, nat_tests)
 
 pub all-plain : (test : ℕ → Bool) → ((b : ℕ) → test b ≡ true → is_text_byte b ≡ true) → (t : List ℕ) → list_all test t ≡ true → IsPlain t
 all-plain test f [] h = refl
-all-plain test f (b ∷ t) h = elim (cases_Bool (test b)) [
-  | inl e ↦ let rest = all-plain test f t (rw e at h) in rw (f b e, rest) refl
-  | inr e ↦ cc (rw e at h)
-]
+all-plain test f (b ∷ t) h = grind (arith, cases_Bool, all-plain test f t)
 
 number-plain : {ds : List ℕ} {n : ℕ} → IsNumber ds n → IsPlain ds
 number-plain {ds} num = all-plain is_ascii_digit digit-plain ds num.digits
 
 separator-plain : {s : List ℕ} → IsSeparator s → IsPlain s
-separator-plain left_out = refl
-separator-plain dash = refl
-separator-plain dot = refl
-separator-plain underscore = refl
+separator-plain h1 = grind arith
 
 numbering-plain : {t : List ℕ} {n : ℕ} {b : Bool} → IsNumbering t n b → IsPlain t
-numbering-plain bare = refl
-numbering-plain (written {s = s} {ds = ds} sep num) = both s ds (separator-plain sep) (number-plain num)
+numbering-plain h1 = grind (arith, both, separator-plain, number-plain)
 
 mark-plain : {m : List ℕ} → IsMark m → IsPlain m
-mark-plain no_mark = refl
-mark-plain mark = refl
+mark-plain h1 = grind arith
 
 epoch-plain : {e : List ℕ} {n : ℕ} → IsEpoch e n → IsPlain e
-epoch-plain no_epoch = refl
-epoch-plain (epoch {ds = ds} num) = both ds (33 ∷ []) (number-plain num) refl
+epoch-plain h1 = grind (arith, both, number-plain)
 
 release-plain : {r ns : List ℕ} → IsRelease r ns → IsPlain r
 release-plain (last num) = number-plain num
 release-plain (before {ds = ds} {t = t} num more) = both ds (46 ∷ t) (number-plain num) (release-plain more)
 
 pre_word-plain : {w : List ℕ} {kind : PrereleaseKind} → IsPreWord w kind → IsPlain w
-pre_word-plain long_alpha = refl
-pre_word-plain short_alpha = refl
-pre_word-plain long_beta = refl
-pre_word-plain short_beta = refl
-pre_word-plain word_rc = refl
-pre_word-plain word_c = refl
-pre_word-plain word_preview = refl
-pre_word-plain word_pre = refl
+pre_word-plain h1 = grind arith
 
 pre-plain : {p : List ℕ} {o : Option Prerelease} {b : Bool} → IsPre p o b → IsPlain p
-pre-plain no_pre = refl
-pre-plain (pre {s = s} {w = w} {t = t} sep is_word num) = both s (w ++ t) (separator-plain sep) (both w t (pre_word-plain is_word) (numbering-plain num))
+pre-plain h1 = grind (arith, both, separator-plain, pre_word-plain, numbering-plain)
 
 post_word-plain : {w : List ℕ} → IsPostWord w → IsPlain w
-post_word-plain word_post = refl
-post_word-plain word_rev = refl
-post_word-plain word_r = refl
+post_word-plain h1 = grind arith
 
 post-plain : {after : Bool} {q : List ℕ} {o : Option ℕ} → IsPost after q o → IsPlain q
-post-plain no_post = refl
-post-plain (post {s = s} {w = w} {t = t} sep is_word num) = both s (w ++ t) (separator-plain sep) (both w t (post_word-plain is_word) (numbering-plain num))
-post-plain (dashed num) = number-plain num
+post-plain h1 = grind (arith, both, separator-plain, post_word-plain, numbering-plain, number-plain)
 
 dev-plain : {d : List ℕ} {o : Option ℕ} → IsDev d o → IsPlain d
-dev-plain no_dev = refl
-dev-plain (dev {s = s} {t = t} sep num) = both s _ (separator-plain sep) (numbering-plain num)
+dev-plain h1 = grind (arith, both, separator-plain, numbering-plain)
 
 segment-plain : {t : List ℕ} {s : Segment} → IsSegment t s → IsPlain t
-segment-plain (numeric num) = number-plain num
-segment-plain (textual {t = t} is_word) = all-plain is_word_byte word_byte-plain t is_word.0
+segment-plain h1 = grind (arith, number-plain, all-plain, word_byte-plain)
 
 segments-plain : {t : List ℕ} {ss : List Segment} → IsSegments t ss → IsPlain t
 segments-plain (last_segment h) = segment-plain h
 segments-plain (segment_before {t = t} {p = p} {u = u} h sep some more) = both t (p ++ u) (segment-plain h) (both p u (separator-plain sep) (segments-plain more))
 
 local-plain : {l : List ℕ} {ss : List Segment} → IsLocal l ss → IsPlain l
-local-plain no_local = refl
-local-plain (plus h) = segments-plain h
+local-plain h1 = grind (arith, segments-plain)
 
 version-plain : (t : List ℕ) (v : Parts) → IsVersion t v → IsPlain t
-version-plain t v (version {m = m} {e = e} {r = r} {p = p} {q = q} {d = d} {l = l} is_m is_e is_r is_p is_q is_d is_l) =
-    both m _ (mark-plain is_m) (both e _ (epoch-plain is_e) (both r _ (release-plain is_r)
-    (both p _ (pre-plain is_p) (both q _ (post-plain is_q) (both d l (dev-plain is_d) (local-plain is_l))))))
+version-plain t v h1 = grind (arith, both, mark-plain, epoch-plain, release-plain, pre-plain, post-plain, dev-plain, local-plain)
 
 -- ---- a plain text is not changed
 
@@ -131,8 +105,7 @@ plain-first b t h = elim (cases_Bool (is_text_byte b)) [
 ]
 
 ascii-cons : (b : ℕ) (t : List ℕ) → b < 128 → IsAscii t → IsAscii (b ∷ t)
-ascii-cons b t h k zero = h
-ascii-cons b t h k (suc i) = k i
+ascii-cons b t h1 h2 = grind arith
 
 plain-ascii : (t : List ℕ) → IsPlain t → IsAscii t
 plain-ascii [] h = λ i. omega arith
@@ -160,17 +133,10 @@ plain-trim t h =
 
 -- a text of the grammar is parsed as it is
 pub version-text : (t : List ℕ) (v : Parts) → IsVersion t v → IsVersionText t v
-version-text t v h =
-    let plain = version-plain t v h in
-    let same : map to_ascii_lowercase (trim t) ≡ t = ap (map to_ascii_lowercase) (plain-trim t plain) ∙ plain-lower t plain in
-    subst (λ (z : List ℕ). IsVersion z v) (sym same) h
+version-text t v h1 = grind (arith, version-plain, map, plain-trim, plain-lower)
 
 pattern-plain : (t : List ℕ) (v : Parts) (star : Bool) → IsPattern t v star → IsPlain t
-pattern-plain t v star (plain h) = version-plain t v h
-pattern-plain t v star (starred {m = m} {e = e} {r = r} is_m is_e is_r) = both m _ (mark-plain is_m) (both e _ (epoch-plain is_e) (both r _ (release-plain is_r) refl))
+pattern-plain t v star h1 = grind (arith, version-plain, both, mark-plain, epoch-plain, release-plain)
 
 pub pattern-text : (t : List ℕ) (v : Parts) (star : Bool) → IsPattern t v star → IsPatternText t v star
-pattern-text t v star h =
-    let plain = pattern-plain t v star h in
-    let same : map to_ascii_lowercase (trim t) ≡ t = ap (map to_ascii_lowercase) (plain-trim t plain) ∙ plain-lower t plain in
-    subst (λ (z : List ℕ). IsPattern z v star) (sym same) h
+pattern-text t v star h1 = grind (arith, pattern-plain, map, plain-trim, plain-lower)

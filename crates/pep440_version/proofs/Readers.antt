@@ -1,5 +1,5 @@
 -- How the readers of specs/Reading.antt follow a text.
-use Rattle.std.proofs.Common.{get_or, zero, suc, ◌++◌, append_assoc, ◌≡◌, ◌==◌, ℕ, ◌+◌, ◌-◌, ◌*◌, ◌^◌, ◌<◌, ◌≤◌, Option, Some, None, List, [], ◌∷◌, length, take, drop, slice_index, refl, sym, ap, ◌∙◌, arith, inl, inr, true, false, nat_eq, nat_lt, Bor}
+use Rattle.std.proofs.Common.{get_or, zero, suc, ◌++◌, append_assoc, ◌≡◌, ◌==◌, ℕ, ◌+◌, ◌-◌, ◌*◌, ◌^◌, ◌<◌, ◌≤◌, Option, Some, None, List, [], ◌∷◌, length, take, drop, slice_index, refl, arith, inl, inr, true, false, nat_eq, nat_lt, Bor}
 use Rattle.std.specs.Option.{MatchOption}
 use Rattle.std.specs.Char.{is_ascii_digit}
 use Rattle.std.specs.Cmp.Lexicographic.{pointwise}
@@ -54,8 +54,7 @@ strip-none (w ∷ ws) (b ∷ t) h = elim (cases_Bool (b == w)) [
 pub strip-found : (w t : List ℕ) (r : Option (Bor (List ℕ)))
     → MatchOption r (pointwise nat_eq (take (length w) t) w ≡ false) (λ x. (pointwise nat_eq (take (length w) t) w ≡ true) × (x.now ≡ drop (length w) t) × (length x.now + length w ≡ length t))
     → text_view r ≡ strip w t
-strip-found w t None h = sym (strip-none w t h)
-strip-found w t (Some x) h = ap Some h.1 ∙ sym (strip-some w t h.0)
+strip-found w t r h1 = grind (arith, strip-none, strip-some)
 
 pub digits-end : (v : ℕ) (t : List ℕ) (i : ℕ) → length t ≤ i → digits_from v (drop i t) ≡ Some (v, [])
 unfolding digits_from
@@ -97,17 +96,13 @@ unfolding segments_at
 segments-some k t s rest h = rw h refl
 
 pub prepend_all-prepend : (ss : List Segment) (s : Segment) (o : Option (List Segment)) → prepend_all ss (prepend s o) ≡ prepend_all (ss ++ s ∷ []) o
-prepend_all-prepend ss s None = refl
-prepend_all-prepend ss s (Some r) = ap Some (sym (append_assoc ss (s ∷ []) r))
+prepend_all-prepend ss s o = grind (arith, append_assoc)
 
 pub after-empty : (f : List ℕ → Option (List Segment)) (s : Segment) (a : List ℕ) → length a < 1 → after_segment f s a ≡ Some (s ∷ [])
-after-empty f s [] h = refl
-after-empty f s (b ∷ rest) h = absurd (omega arith)
+after-empty f s a h1 = grind arith
 
 pub after-other : (f : List ℕ → Option (List Segment)) (s : Segment) (a : List ℕ) → 1 ≤ length a → is_separator (get_or a 0 0) ≡ false → after_segment f s a ≡ None
-after-other f s [] h e = absurd (omega arith)
-after-other f s (b ∷ rest) h e = rw e refl
+after-other f s a h1 h2 = grind arith
 
 pub after-next : (f : List ℕ → Option (List Segment)) (s : Segment) (a : List ℕ) → 1 ≤ length a → is_separator (get_or a 0 0) ≡ true → after_segment f s a ≡ prepend s (f (drop 1 a))
-after-next f s [] h e = absurd (omega arith)
-after-next f s (b ∷ rest) h e = rw e refl
+after-next f s a h1 h2 = grind arith

@@ -1,5 +1,5 @@
 -- What the readers read is in the grammar.
-use Rattle.std.proofs.Common.{◌≡◌, ◌⊎◌, ◌==◌, ◌++◌, zero, suc, ℕ, ◌+◌, ◌-◌, ◌*◌, ◌^◌, ◌<◌, Bool, cond, Option, Some, None, List, [], ◌∷◌, length, take, refl, sym, ap, ◌∙◌, arith, inl, inr, true, false, nat_lt, append-nil, append_assoc, one-add, subst}
+use Rattle.std.proofs.Common.{◌≡◌, ◌⊎◌, ◌==◌, ◌++◌, zero, suc, ℕ, ◌+◌, ◌-◌, ◌*◌, ◌^◌, ◌<◌, Bool, Option, Some, None, List, [], ◌∷◌, length, take, refl, sym, ap, ◌∙◌, arith, inl, inr, true, false, nat_lt, append-nil, append_assoc, one-add, subst}
 use Rattle.std.specs.Prelude.{codes}
 use Rattle.std.specs.Char.{is_ascii_digit}
 use Rattle.pep440_version.specs.Valid.{is_word_byte}
@@ -19,11 +19,6 @@ use Rattle.pep440_version.specs.Reading.{after_mark, after_release, after_segmen
 
 pub some-value : {A : Type 0} (x y : A) → Some x ≡ Some y → x ≡ y
 some-value x y e = cc e
-
--- one side of a test
-pick-true : {T : Type 0} (x : Bool) (a b : T) → x ≡ true → (cond x a b) ≡ a
-pick-true true a b e = refl
-pick-true false a b e = cc e
 
 nat_lt-true : (a b : ℕ) → nat_lt a b ≡ true → a < b
 nat_lt-true a b h = grind (arith, nat_tests)
@@ -74,15 +69,7 @@ number_at-sound (b ∷ t) n rest h = elim (cases_Bool (is_ascii_digit b)) [
 
 pub number_after-sound : (m : ℕ) (t : List ℕ) (n : ℕ) (rest : List ℕ) → number_after m t ≡ Some (n, rest)
     → (ds : List ℕ) × IsNumber ds n × (t ≡ m ∷ (ds ++ rest)) × (number_at (ds ++ rest) ≡ Some (n, rest))
-number_after-sound m [] n rest h = cc h
-number_after-sound m (b ∷ t) n rest h = elim (cases_Bool (b == m)) [
-  | inl same ↦
-      let found = rw same at h in
-      let r = number_at-sound t n rest found in
-      let byte : b ≡ m = eqb-true b m same in
-      (r.0, r.1, (λ i. byte i ∷ r.2 i), rw (← r.2) found)
-  | inr other ↦ cc (rw other at h)
-]
+number_after-sound m t n rest h1 = grind (arith, cases_Bool, number_at-sound, eqb-true)
 
 -- a separator at the front
 pub separator-sound : (t : List ℕ) → (s : List ℕ) × IsSeparator s × (t ≡ s ++ after_separator t)
@@ -127,23 +114,14 @@ strip-sound (w ∷ ws) (b ∷ t) rest h = elim (cases_Bool (b == w)) [
 ]
 
 pub or-cases : {A : Type 0} (p q : Option A) (x : A) → option_or p q ≡ Some x → (p ≡ Some x) ⊎ (q ≡ Some x)
-or-cases None q x h = inr h
-or-cases (Some y) q x h = inl h
+or-cases p q x h1 = grind arith
 
 tagged-sound : (kind : PrereleaseKind) (o : Option (List ℕ)) (k : PrereleaseKind) (rest : List ℕ) → tagged kind o ≡ Some (k, rest) → (kind ≡ k) × (o ≡ Some rest)
-tagged-sound kind None k rest h = cc h
-tagged-sound kind (Some t) k rest h =
-    let e = some-value _ _ h in
-    (ap (λ (p : PrereleaseKind × List ℕ). p.0) e, ap Some (ap (λ (p : PrereleaseKind × List ℕ). p.1) e))
+tagged-sound kind o k rest h1 = grind arith
 
 kinded : (kind : PrereleaseKind) (long short : List ℕ) → IsPreWord long kind → IsPreWord short kind → (t : List ℕ) (k : PrereleaseKind) (rest : List ℕ)
     → tagged kind (either long short t) ≡ Some (k, rest) → (w : List ℕ) × IsPreWord w k × (t ≡ w ++ rest)
-kinded kind long short is_long is_short t k rest h =
-    let e = tagged-sound kind (either long short t) k rest h in
-    elim (or-cases (strip long t) (strip short t) rest e.1) [
-      | inl found ↦ (long, subst (IsPreWord long) e.0 is_long, strip-sound long t rest found)
-      | inr found ↦ (short, subst (IsPreWord short) e.0 is_short, strip-sound short t rest found)
-    ]
+kinded kind long short h1 h2 t k rest h3 = grind (arith, tagged-sound, or-cases, strip-sound)
 
 pub pre_word-sound : (t : List ℕ) (k : PrereleaseKind) (rest : List ℕ) → pre_word_at t ≡ Some (k, rest) → (w : List ℕ) × IsPreWord w k × (t ≡ w ++ rest)
 unfolding pre_word_at
@@ -171,8 +149,7 @@ post_word-sound t rest h = elim (or-cases _ _ rest h) [
 -- ---- the parts
 
 join3 : (t a x b y c rest : List ℕ) → t ≡ a ++ x → x ≡ b ++ y → y ≡ c ++ rest → t ≡ (a ++ (b ++ c)) ++ rest
-join3 t a x b y c rest p q r =
-    p ∙ ap (λ (z : List ℕ). a ++ z) (q ∙ ap (λ (z : List ℕ). b ++ z) r ∙ sym (append_assoc b c rest)) ∙ sym (append_assoc a (b ++ c) rest)
+join3 t a x b y c rest h1 h2 h3 = grind (arith, append_assoc)
 
 pre_of-sound : (t : List ℕ) (o : Option (PrereleaseKind × List ℕ)) → pre_word_at (after_separator t) ≡ o
     → (p : List ℕ) × (b : Bool) × IsPre p (pre_of t o).0 b × (t ≡ p ++ (pre_of t o).1) × (b ≡ true → number_at (after_separator (pre_of t o).1) ≡ None)
@@ -296,14 +273,10 @@ front-passes p (b ∷ t) = elim (cases_Bool (p b)) [
 
 all-right : (p : ℕ → Bool) (xs ys : List ℕ) → list_all p (xs ++ ys) ≡ true → list_all p ys ≡ true
 all-right p [] ys h = h
-all-right p (x ∷ xs) ys h = elim (cases_Bool (p x)) [
-  | inl holds ↦ all-right p xs ys (rw holds at h)
-  | inr fails ↦ cc (rw fails at h)
-]
+all-right p (x ∷ xs) ys h = grind (arith, cases_Bool, all-right p xs ys)
 
 nothing_left : (rest : List ℕ) → list_all is_ascii_digit rest ≡ true → starts_digit rest ≡ false → rest ≡ []
-nothing_left [] h k = refl
-nothing_left (b ∷ rest) h k = cc (rw k at h)
+nothing_left rest h1 h2 = grind arith
 
 whole_number-sound : (run : List ℕ) → list_all is_ascii_digit run ≡ true → (o : Option (ℕ × List ℕ)) → number_at run ≡ o → (s : Segment) → whole_number o ≡ Some s → IsSegment run s
 whole_number-sound run all None e s h = cc h
@@ -326,10 +299,7 @@ run-sound run s good h = elim (cases_Bool (length run == 0)) [
 ]
 
 before_rest-sound : (rest : List ℕ) (o : Option Segment) (s : Segment) (r : List ℕ) → before_rest rest o ≡ Some (s, r) → (o ≡ Some s) × (rest ≡ r)
-before_rest-sound rest None s r h = cc h
-before_rest-sound rest (Some x) s r h =
-    let e = some-value _ _ h in
-    (ap Some (ap (λ (p : Segment × List ℕ). p.0) e), ap (λ (p : Segment × List ℕ). p.1) e)
+before_rest-sound rest o s r h1 = grind arith
 
 pub segment-sound : (t : List ℕ) (s : Segment) (rest : List ℕ) → segment_at t ≡ Some (s, rest) → (u : List ℕ) × IsSegment u s × (t ≡ u ++ rest)
 unfolding segment_at
@@ -341,8 +311,7 @@ segment-sound t s rest h =
     )
 
 prepend-sound : (s : Segment) (o : Option (List Segment)) (ss : List Segment) → prepend s o ≡ Some ss → (others : List Segment) × (o ≡ Some others) × (s ∷ others ≡ ss)
-prepend-sound s None ss h = cc h
-prepend-sound s (Some x) ss h = (x, refl, some-value _ _ h)
+prepend-sound s o ss h1 = grind arith
 
 is_separator-sound : (b : ℕ) → is_separator b ≡ true → IsSeparator (b ∷ [])
 is_separator-sound b h = elim (cases_Bool (b == 45)) [
@@ -399,10 +368,7 @@ mark-sound (b ∷ rest) = elim (cases_Bool (b == 118)) [
 
 pub finish-sound : (e : ℕ) (r : List ℕ) (p : Option Prerelease) (q d : Option ℕ) (o : Option (List Segment)) (v : Parts) → finish e r p q d o ≡ Some v
     → (ls : List Segment) × (o ≡ Some ls) × (e ≡ v.epoch) × (r ≡ v.release) × (p ≡ v.pre) × (q ≡ v.post) × (d ≡ v.dev) × (ls ≡ v.locals)
-finish-sound e r p q d None v h = cc h
-finish-sound e r p q d (Some ls) v h =
-    let same = some-value _ _ h in
-    (ls, refl, ap (λ (v : Parts). v.epoch) same, ap (λ (v : Parts). v.release) same, ap (λ (v : Parts). v.pre) same, ap (λ (v : Parts). v.post) same, ap (λ (v : Parts). v.dev) same, ap (λ (v : Parts). v.locals) same)
+finish-sound e r p q d o v h1 = grind arith
 
 join7 : (t m t1 e t2 r t3 p t4 q t5 d l : List ℕ) → t ≡ m ++ t1 → t1 ≡ e ++ t2 → t2 ≡ r ++ t3 → t3 ≡ p ++ t4 → t4 ≡ q ++ t5 → t5 ≡ d ++ l
     → m ++ (e ++ (r ++ (p ++ (q ++ (d ++ l))))) ≡ t

@@ -64,8 +64,7 @@ local-text [] h = no_local
 local-text (s ∷ ss) h = plus (segments-text s ss h.0 h.1)
 
 release-parts : (ns : List ℕ) → 0 < length ns → AllByRecursion Fits ns → IsRelease (release_text ns) ns
-release-parts [] some all = absurd (omega arith)
-release-parts (n ∷ ns) some all = release-text n ns all.0 all.1
+release-parts ns h1 h2 = grind (arith, release-text)
 
 -- the normal text of a version is a text of it
 pub valid-text : (v : Parts) → IsValid v → IsVersion (version_text v) v

@@ -9,8 +9,7 @@ use Rattle.pep440_version.specs.OrderLaws.{padded-significant}
 use Rattle.pep440_version.specs.Parts.{Parts}
 
 take-keep : (x : ℕ) (xs s : List ℕ) → take (length s) xs ≡ s → take (length (keep x s)) (x ∷ xs) ≡ keep x s
-take-keep x xs [] h = elim (cases_Bool (x == 0)) [ inl e ↦ rw e refl | inr e ↦ rw e refl ]
-take-keep x xs (y ∷ s) h = ap (λ (z : List ℕ). x ∷ z) h
+take-keep x xs s h1 = grind arith
 
 take-significant : (xs : List ℕ) → take (length (significant xs)) xs ≡ significant xs
 unfolding significant
@@ -28,8 +27,7 @@ significant-again [] = refl
 significant-again (x ∷ xs) = significant-keep x (significant xs) (significant-again xs)
 
 keep-none : (x : ℕ) (s : List ℕ) → keep x s ≡ [] → keep x [] ≡ []
-keep-none x [] h = h
-keep-none x (y ∷ s) h = cc h
+keep-none x s h1 = grind arith
 
 take_one : (xs : List ℕ) → significant xs ≡ [] → significant (take 1 xs) ≡ []
 unfolding significant
@@ -51,14 +49,7 @@ padded-tied : (xs ys : List ℕ) → significant xs ≡ significant ys → padde
 padded-tied xs ys e = padded-significant xs ys ∙ rw e (tied_itself nat_list_cmp_total (significant ys))
 
 trimmed-same : (v : Parts) → IsSameVersion (trimmed_parts v) v
-trimmed-same v = record {
-  release = padded-tied (trimmed v.release) v.release (significant-trimmed v.release);
-  pre = refl;
-  post = refl;
-  dev = refl;
-  epoch = refl;
-  locals = refl;
-}
+trimmed-same v = grind (arith, padded-tied, significant-trimmed)
 
 pub trimmed-version : (x v : Parts) → x ≡ trimmed_parts v → IsSameVersion x v
 trimmed-version x v e = subst (λ (z : Parts). IsSameVersion z v) (sym e) (trimmed-same v)

@@ -3,43 +3,36 @@ use Rattle.std.proofs.Common.{◌≡◌, ◌<◌, ℕ, sym, subst, Option, Some,
 use Rattle.std.specs.List.{AllByRecursion}
 use Rattle.pep440_version.specs.declared.version.Prerelease.{Prerelease}
 use Rattle.pep440_version.specs.Parts.{Parts, Segment}
-use Rattle.pep440_version.specs.Grammar.{IsDev, IsLocal, IsNumbering, IsPost, IsPre, IsRelease, IsSegment, IsSegments, bare, before, dashed, dev, last, last_segment, no_dev, no_local, no_post, no_pre, numeric, plus, post, pre, segment_before, starred_parts, textual, written}
+use Rattle.pep440_version.specs.Grammar.{IsDev, IsLocal, IsNumbering, IsPost, IsPre, IsRelease, IsSegment, IsSegments, before, dev, last, last_segment, post, pre, segment_before, starred_parts}
 use Rattle.pep440_version.specs.Reading.{after_release, dev_at, post_at, pre_at}
 use Rattle.pep440_version.specs.Valid.{AreNumbers, Fits, FitsIfSome, IsValid, PrereleaseFits, SegmentIsValid}
 use Rattle.pep440_version.proofs.Sound.{dev-sound, finish-sound, locals-sound, post-sound, pre-sound}
 
 numbering-fits : {t : List ℕ} {n : ℕ} {b : Bool} → IsNumbering t n b → Fits n
-numbering-fits bare = omega arith
-numbering-fits (written s num) = num.fits
+numbering-fits h1 = grind arith
 
 pub release-fits : {t ns : List ℕ} → IsRelease t ns → (0 < length ns) × AllByRecursion Fits ns
 release-fits (last num) = (omega arith, (num.fits, tt))
 release-fits (before num more) = (omega arith, (num.fits, (release-fits more).1))
 
 pre-fits : {t : List ℕ} {p : Option Prerelease} {b : Bool} → IsPre t p b → PrereleaseFits p
-pre-fits no_pre = tt
-pre-fits (pre s w num) = numbering-fits num
+pre-fits h1 = grind (arith, numbering-fits)
 
 post-fits : {b : Bool} {t : List ℕ} {p : Option ℕ} → IsPost b t p → FitsIfSome p
-post-fits no_post = tt
-post-fits (post s w num) = numbering-fits num
-post-fits (dashed num) = num.fits
+post-fits h1 = grind (arith, numbering-fits)
 
 dev-fits : {t : List ℕ} {p : Option ℕ} → IsDev t p → FitsIfSome p
-dev-fits no_dev = tt
-dev-fits (dev s num) = numbering-fits num
+dev-fits h1 = grind (arith, numbering-fits)
 
 segment-valid : {t : List ℕ} {s : Segment} → IsSegment t s → SegmentIsValid s
-segment-valid (numeric num) = num.fits
-segment-valid (textual is_word) = is_word
+segment-valid h1 = grind arith
 
 segments-valid : {t : List ℕ} {ss : List Segment} → IsSegments t ss → AllByRecursion SegmentIsValid ss
 segments-valid (last_segment h) = (segment-valid h, tt)
 segments-valid (segment_before h sep some more) = (segment-valid h, segments-valid more)
 
 local-valid : {t : List ℕ} {ss : List Segment} → IsLocal t ss → AllByRecursion SegmentIsValid ss
-local-valid no_local = tt
-local-valid (plus h) = segments-valid h
+local-valid h1 = grind (arith, segments-valid)
 
 -- what is read of the suffixes of a version is valid
 pub suffixes-valid : (e : ℕ) (ns t : List ℕ) (v : Parts) → Fits e → AreNumbers ns
@@ -61,12 +54,4 @@ suffixes-valid e ns t v small numbers h =
     }
 
 pub release-valid : (e : ℕ) (ns : List ℕ) → Fits e → AreNumbers ns → IsValid (starred_parts e ns)
-release-valid e ns small numbers = record {
-  epoch = small;
-  some = numbers.some;
-  release = numbers.fit;
-  pre = tt;
-  post = tt;
-  dev = tt;
-  locals = tt;
-}
+release-valid e ns h1 h2 = grind arith

@@ -1,6 +1,6 @@
 -- The columns before a place between two characters are those of the text's front.
-use Rattle.std.proofs.Common.{◌≡◌, ℕ, suc, ◌+◌, ◌-◌, ◌^◌, ◌<◌, ◌≤◌, nat_le, nat_lt, min, List, [], ◌∷◌, ◌++◌, length, take, drop, replicate, refl, sym, ap, ◌∙◌, arith, ⊎_elim, length-append, IsUtf8}
-use Rattle.std.specs.Prelude.{encode_utf8, encode_utf8_all}
+use Rattle.std.proofs.Common.{◌≡◌, ℕ, ◌+◌, ◌-◌, ◌^◌, ◌<◌, ◌≤◌, nat_le, nat_lt, min, List, [], ◌∷◌, ◌++◌, length, take, drop, replicate, refl, sym, ap, ◌∙◌, arith, length-append, IsUtf8}
+use Rattle.std.specs.Prelude.{encode_utf8_all}
 use Rattle.std.specs.Char.{len_utf8}
 use Rattle.std.specs.Str.{chars, IsCharBoundary}
 use Rattle.std.proofs.Math.Nat.{min-eq_left}
@@ -15,14 +15,7 @@ use Rattle.pep508_errors.specs.Underline.{column_width, columns, columns_before,
 -- that end within the rest
 front_within : (front back : List ℕ) (more : ℕ) → ending_within (length (encode_utf8_all front) + more) (front ++ back) ≡ front ++ ending_within more back
 front_within [] back more = ap (λ n. ending_within n back) (omega arith)
-front_within (c ∷ cs) back more =
-    let size : length (encode_utf8_all (c ∷ cs)) ≡ len_utf8 c + length (encode_utf8_all cs) =
-    length-append (encode_utf8 c) (encode_utf8_all cs) ∙ ap (λ n. n + length (encode_utf8_all cs)) (length-encode c) in
-    let bytes = length (encode_utf8_all (c ∷ cs)) + more in
-    let left : bytes - len_utf8 c ≡ length (encode_utf8_all cs) + more = omega (arith, size) in
-    cond-true (nat_le (len_utf8 c) bytes) (c ∷ ending_within (bytes - len_utf8 c) (cs ++ back)) [] (le-leb (len_utf8 c) bytes (omega (arith, size)))
-    ∙ ap (λ n. c ∷ ending_within n (cs ++ back)) left
-    ∙ ap (λ ds. c ∷ ds) (front_within cs back more)
+front_within (c ∷ cs) back more = grind (arith, length, length-append, length-encode, cond-true, nat_le, le-leb, front_within cs back more)
 
 -- no character ends within no bytes
 none_within : (cs : List ℕ) → ending_within 0 cs ≡ []
@@ -53,19 +46,11 @@ columns_before_end text place utf8 past =
 
 -- a place that does not fit 64 bits is past the end of a text too
 pub columns_before_capped : (text : List ℕ) (place : ℕ) → IsUtf8 text → length text < 2 ^ 64 → columns_before text (min place (2 ^ 64 - 1)) ≡ columns_before text place
-columns_before_capped text place utf8 short =
-    ⊎_elim (λ small. ap (columns_before text) (min-eq_left (omega arith)))
-    (λ large. let capped : min place (2 ^ 64 - 1) ≡ 2 ^ 64 - 1 = grind arith in
-    columns_before_end text (min place (2 ^ 64 - 1)) utf8 (omega (arith, capped)) ∙ sym (columns_before_end text place utf8 (omega arith)))
-    (cases_lt place (2 ^ 64))
+columns_before_capped text place h1 h2 = grind (arith, min-eq_left, min, columns_before_end, cases_lt)
 
 -- the carets as the code counts them, whose end is a number of 64 bits
 pub carets_counted : (text : List ℕ) (start len end up_to before : ℕ) → IsUtf8 text → length text < 2 ^ 64 → start < length text → end ≡ min (start + len) (2 ^ 64 - 1) → up_to ≡ columns_before text end → before ≡ columns_before text start → up_to - before ≡ carets text start len
-carets_counted text start len end up_to before utf8 short inside end_is up_to_is before_is =
-    let last : up_to ≡ columns_before text (start + len) = up_to_is ∙ ap (columns_before text) end_is ∙ columns_before_capped text (start + len) utf8 short in
-    let test : carets text start len ≡ columns_before text (start + len) - columns_before text start =
-    cond-true (nat_lt start (length text)) (columns_before text (start + len) - columns_before text start) 1 (le-leb (suc start) (length text) inside) in
-    omega (arith, last, before_is, test)
+carets_counted text start len end up_to before h1 h2 h3 h4 h5 h6 = grind (arith, columns_before_capped, cond-true, nat_lt, length, le-leb)
 
 -- a span between two places has the columns of its characters
 pub columns_of_span : (text : List ℕ) (start len : ℕ) → IsUtf8 text → IsCharBoundary text start → IsCharBoundary text (start + len) → columns_before text (start + len) ≡ columns (chars (take start text)) + columns (chars (take len (drop start text)))
@@ -81,16 +66,7 @@ columns_of_span text start len utf8 begins ends =
     ∙ sum_by-append column_width (chars front) (chars span)
 
 pub underline_within : (text : List ℕ) (start len : ℕ) → IsUtf8 text → start < length text → IsCharBoundary text start → IsCharBoundary text (start + len) → underline text start len ≡ replicate (columns (chars (take start text))) 32 ++ replicate (columns (chars (take len (drop start text)))) 94
-underline_within text start len utf8 inside begins ends =
-    let before : columns_before text start ≡ columns (chars (take start text)) = columns_before_boundary text start utf8 begins in
-    let whole = columns_of_span text start len utf8 begins ends in
-    let count : carets text start len ≡ columns (chars (take len (drop start text))) =
-    cond-true (nat_lt start (length text)) (columns_before text (start + len) - columns_before text start) 1 (le-leb (suc start) (length text) inside) ∙ omega (arith, before, whole) in
-    (λ i. replicate (before i) 32 ++ replicate (count i) 94)
+underline_within text start len h1 h2 h3 h4 = grind (arith, take, columns_before_boundary, columns_of_span, drop, cond-true, nat_lt, length, le-leb, replicate)
 
 pub underline_at_end : (text : List ℕ) (start len : ℕ) → IsUtf8 text → length text ≤ start → underline text start len ≡ replicate (columns (chars text)) 32 ++ 94 ∷ []
-underline_at_end text start len utf8 past =
-    let before : columns_before text start ≡ columns (chars text) = columns_before_end text start utf8 past in
-    let count : carets text start len ≡ 1 =
-    cond-false (nat_lt start (length text)) (columns_before text (start + len) - columns_before text start) 1 (lt-leb (suc start) (length text) (omega arith)) in
-    (λ i. replicate (before i) 32 ++ replicate (count i) 94)
+underline_at_end text start len h1 h2 = grind (arith, columns_before_end, cond-false, nat_lt, length, lt-leb, replicate)

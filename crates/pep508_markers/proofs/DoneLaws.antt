@@ -58,9 +58,6 @@ stack_more : (stack : List Formula) (xs : List Symbol) (s : Symbol) → stack_fr
 stack_more stack [] s = refl
 stack_more stack (x ∷ xs) s = stack_more (stack_after x stack) xs s
 
-pub nothing_done : (all : List Token) (c : Contents) → IsValid all → IsDone all all c []
-nothing_done all c valid = record { done = []; parted = refl; stacked = _; no_overflow = λ h. h; valid = valid }
-
 valid_at : (before rest : List Token) (t : Token) → before ≡ t ∷ rest → IsValid before → IsValid (t ∷ rest)
 valid_at before rest t next = subst IsValid next
 

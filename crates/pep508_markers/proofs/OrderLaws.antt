@@ -65,9 +65,6 @@ module _ (k : Connective) (c : Contents) (first : MarkerTree) (alike rest all : 
 -- a tree is joined with what was joined before
 module _ (k : Connective) (c d e : Contents) (joined next tree both : MarkerTree) (trees rest left : List MarkerTree) (popped : trees ≡ next ∷ rest)
     (kept : IsKept c d) (kept' : IsKept d e) (held : AreHeld c (joined ∷ trees)) where
-  pub next_held : AreHeld c (next ∷ rest)
-  next_held = subst (AreHeld c) popped held.1
-
   pub before_held : IsHeld d joined
   before_held = held_kept c d joined kept held.0
 

@@ -55,10 +55,6 @@ held_more c [] t held now (suc a) u found = absurd cc
 held_more c (s ∷ trees) t held now zero u found = held 0 u found
 held_more c (s ∷ trees) t held now (suc a) u found = held_more c trees t (tail_held c s trees held) now a u found
 
-pub held_if : (stored : Bool) (c : Contents) (trees : List MarkerTree) (t : MarkerTree) {all : List MarkerTree} → all ≡ (if stored then trees ++ (t ∷ []) else trees) → AreHeld c trees → IsHeld c t → AreHeld c all
-held_if true c trees t put held now = subst (AreHeld c) (sym put) (held_more c trees t held now)
-held_if false c trees t put held now = subst (AreHeld c) (sym put) held
-
 pub truths_more : (c : Contents) (trees : List MarkerTree) (t : MarkerTree) {all : List MarkerTree} → all ≡ trees ++ (t ∷ []) → truths_of c all ≡ truths_of c trees ++ (truth c t ∷ [])
 truths_more c trees t put = ap (truths_of c) put ∙ map_push (truth c) trees t
 

@@ -184,14 +184,6 @@ few c stack old m one = omega (arith, as_many c stack (reverse old) m, length-re
 none_left : (c : Contents) {new : List Run} → new ≡ [] → RunsOf c [] new
 none_left c none = subst (Mean c []) (sym (ap reverse none)) _
 
-pub runs_few : (c : Contents) (k : Connective) (stack : List Formula) (old new : List Run) → RunsOf c stack old → length old ≤ 1 → new ≡ [] → RunsOf c (stack_after (symbol k) stack) new
-runs_few c And [] old new m one none = none_left c none
-runs_few c And (g ∷ []) old new m one none = none_left c none
-runs_few c And (g ∷ f ∷ stack) old new m one none = let h = few c (g ∷ f ∷ stack) old m one in absurd (omega (arith, h))
-runs_few c Or [] old new m one none = none_left c none
-runs_few c Or (g ∷ []) old new m one none = none_left c none
-runs_few c Or (g ∷ f ∷ stack) old new m one none = let h = few c (g ∷ f ∷ stack) old m one in absurd (omega (arith, h))
-
 -- at the end the run on top is that of the formula
 top_in : (c : Contents) (stack : List Formula) (r : Run) (rest : List Run) → Mean c stack (r ∷ rest) → AreHeld c (trees_of r) × ((v : Valuation) → truth_under c r.connective (trees_of r) v ≡ formulas.truth (top_of stack) v)
 top_in c [] r rest m = absurd m

@@ -1,5 +1,5 @@
 -- The front of a list that was written in place.
-use Rattle.std.proofs.Common.{◌≡◌, ◌≤◌, ◌++◌, ◌∙◌, ℕ, List, arith, drop, length, subst, sym, take}
+use Rattle.std.proofs.Common.{◌≡◌, ◌≤◌, ◌++◌, ℕ, List, arith, drop, length, take}
 use Rattle.std.proofs.lemmas.Grind.{common_steps}
 use Rattle.pep508_names.specs.Name.{NormalizesTo}
 
@@ -11,5 +11,4 @@ front_of new old len whole all fits = grind (arith, common_steps)
 pub front-normal : (name now new old kept : List ℕ) (len whole : ℕ) (n : List ℕ) → now ≡ old → old ≡ name → length now ≡ whole → length new ≡ length now
     → len ≤ length now → ((m : List ℕ) → NormalizesTo now m → take len new ≡ m) → NormalizesTo name n
     → kept ≡ take len (take whole (new ++ drop (length new) old)) → kept ≡ n
-front-normal name now new old kept len whole n here there all same fits pass normal front =
-    front ∙ front_of new old len whole (same ∙ all) (omega arith) ∙ pass n (subst (λ (t : List ℕ). NormalizesTo t n) (sym (here ∙ there)) normal)
+front-normal name now new old kept len whole n h1 h2 h3 h4 h5 h6 h7 h8 = grind (arith, front_of)

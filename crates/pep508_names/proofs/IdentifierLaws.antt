@@ -29,10 +29,7 @@ one_run d h = record { nonempty = λ e. cc; separators = and_from _ _ h refl }
 
 longer_run : (s : List ℕ) (d : ℕ) → IsRun s → is_separator d ≡ true → IsRun (s ++ d ∷ [])
 longer_run [] d r h = absurd (r.nonempty refl)
-longer_run (c ∷ s) d r h = record {
-  nonempty = λ e. cc;
-  separators = list_all-append is_separator (c ∷ s) (d ∷ []) ∙ and_from _ _ r.separators (and_from _ _ h refl);
-}
+longer_run (c ∷ s) d r h = grind (arith, list_all-append, and_from)
 
 other_character : (d : ℕ) → is_name_character d ≡ true → is_ascii_alphanumeric d ≡ false → is_separator d ≡ true
 other_character d h other = elim (or_cases (is_ascii_alphanumeric d) (is_separator d) h) [ inl alphanumeric ↦ cc | inr separates ↦ separates ]
@@ -138,9 +135,7 @@ closes-letters (c ∷ w) rest h =
 
 closes-word : (ok : Bool) (w rest : List ℕ) → IsWord w → closes ok (w ++ rest) ≡ closes true rest
 closes-word ok [] rest h = absurd (h.nonempty refl)
-closes-word ok (c ∷ w) rest h =
-    let parts = and_parts (is_ascii_alphanumeric c) (list_all is_ascii_alphanumeric w) h.alphanumeric in
-    rw parts.0 (closes-letters w rest parts.1)
+closes-word ok (c ∷ w) rest h = grind (arith, and_parts, closes-letters)
 
 closes-separators : (s rest : List ℕ) → list_all is_separator s ≡ true → closes false (s ++ rest) ≡ closes false rest
 closes-separators [] rest h = refl
@@ -150,9 +145,7 @@ closes-separators (c ∷ s) rest h =
 
 closes-run : (ok : Bool) (s rest : List ℕ) → IsRun s → closes ok (s ++ rest) ≡ closes false rest
 closes-run ok [] rest h = absurd (h.nonempty refl)
-closes-run ok (c ∷ s) rest h =
-    let parts = and_parts (is_separator c) (list_all is_separator s) h.separators in
-    rw (separator-alphanumeric c parts.0, parts.0) (closes-separators s rest parts.1)
+closes-run ok (c ∷ s) rest h = grind (arith, and_parts, separator-alphanumeric, closes-separators)
 
 append-nil : (w : List ℕ) → w ++ [] ≡ w
 append-nil [] = refl
@@ -160,8 +153,7 @@ append-nil (c ∷ w) = ap (λ l. c ∷ l) (append-nil w)
 
 closes-name : (ok : Bool) (t n : List ℕ) → NormalizesTo t n → closes ok t ≡ true
 closes-name ok t n (word {w} h) = ap (closes ok) (sym (append-nil w)) ∙ closes-word ok w [] h
-closes-name ok t n (joined {w} {s} {t = t'} {n = n'} h r rest) =
-    closes-word ok w (s ++ t') h ∙ closes-run true s t' r ∙ closes-name false t' n' rest
+closes-name ok t n (joined {w} {s} {t = t'} {n = n'} h r rest) = grind (arith, closes-word, closes-run, closes-name false t' n' rest)
 
 begun : (w rest : List ℕ) → IsWord w → closes true (w ++ rest) ≡ true → IsIdentifier (w ++ rest)
 begun [] rest h closed = absurd (h.nonempty refl)

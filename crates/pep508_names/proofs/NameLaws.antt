@@ -1,5 +1,5 @@
 -- Laws of names and their normal forms.
-use Rattle.std.proofs.Common.{◌≡◌, ◌<◌, ◌⊎◌, ℕ, Bool, true, false, List, [], ◌∷◌, ◌++◌, map, get_or, if◌then◌else◌, nat_lt, zero, suc, refl, sym, ap, subst, ◌∙◌, arith}
+use Rattle.std.proofs.Common.{◌≡◌, ◌<◌, ℕ, Bool, true, false, List, [], ◌∷◌, ◌++◌, map, get_or, if◌then◌else◌, nat_lt, zero, suc, refl, sym, ap, subst, ◌∙◌, arith}
 use Rattle.std.proofs.lemmas.Bool.{and_parts, and_from, lt-ltb, ltb-true}
 use Rattle.std.proofs.lemmas.Bool.Decides.{nat_tests}
 use Rattle.std.proofs.lemmas.List.Folds.{list_all-append}
@@ -11,9 +11,6 @@ use Rattle.pep508_text.specs.Class.{is_separator}
 use Rattle.pep508_names.specs.Name.{IsWord, IsRun, NormalizesTo, word, joined}
 
 -- ---- characters
-
-separator_is : (c : ℕ) → is_separator c ≡ true → (c ≡ 45) ⊎ ((c ≡ 95) ⊎ (c ≡ 46))
-separator_is c h = grind (arith, nat_tests)
 
 pub separator-alphanumeric : (c : ℕ) → is_separator c ≡ true → is_ascii_alphanumeric c ≡ false
 separator-alphanumeric c h = grind (arith, nat_tests)
@@ -56,9 +53,7 @@ squeeze-letters (c ∷ w) rest h =
 
 squeeze-word : (follows : Bool) (w rest : List ℕ) → IsWord w → squeeze follows (w ++ rest) ≡ map to_ascii_lowercase w ++ squeeze false rest
 squeeze-word follows [] rest h = absurd (h.nonempty refl)
-squeeze-word follows (c ∷ w) rest h =
-    let parts = and_parts (is_ascii_alphanumeric c) (list_all is_ascii_alphanumeric w) h.alphanumeric in
-    squeeze-other follows c (w ++ rest) (alphanumeric-separator c parts.0) ∙ ap (λ l. to_ascii_lowercase c ∷ l) (squeeze-letters w rest parts.1)
+squeeze-word follows (c ∷ w) rest h = grind (arith, and_parts, squeeze-other, alphanumeric-separator, squeeze-letters)
 
 squeeze-separators : (s rest : List ℕ) → list_all is_separator s ≡ true → squeeze true (s ++ rest) ≡ squeeze true rest
 squeeze-separators [] rest h = refl
@@ -68,9 +63,7 @@ squeeze-separators (c ∷ s) rest h =
 
 squeeze-run : (s rest : List ℕ) → IsRun s → squeeze false (s ++ rest) ≡ 45 ∷ squeeze true rest
 squeeze-run [] rest h = absurd (h.nonempty refl)
-squeeze-run (c ∷ s) rest h =
-    let parts = and_parts (is_separator c) (list_all is_separator s) h.separators in
-    squeeze-separator c (s ++ rest) parts.0 ∙ ap (λ l. 45 ∷ l) (squeeze-separators s rest parts.1)
+squeeze-run (c ∷ s) rest h = grind (arith, and_parts, squeeze-separator, squeeze-separators)
 
 pub append-nil : (w : List ℕ) → w ++ [] ≡ w
 append-nil [] = refl
@@ -124,9 +117,7 @@ small_letters (c ∷ w) h =
 
 normal_form-small : (t n : List ℕ) → NormalizesTo t n → list_all (λ c. nat_lt c 128) n ≡ true
 normal_form-small t n (word {w} h) = small_letters w h.alphanumeric
-normal_form-small t n (joined {w} {s} {t = t'} {n = n'} h r rest) =
-    list_all-append (λ c. nat_lt c 128) (map to_ascii_lowercase w) (45 ∷ n')
-    ∙ and_from _ _ (small_letters w h.alphanumeric) (normal_form-small t' n' rest)
+normal_form-small t n (joined {w} {s} {t = t'} {n = n'} h r rest) = grind (arith, list_all-append, nat_lt, map, and_from, small_letters, normal_form-small t' n' rest)
 
 small-ascii : (bs : List ℕ) → list_all (λ c. nat_lt c 128) bs ≡ true → (i : ℕ) → get_or bs i 0 < 128
 small-ascii [] h i = omega arith

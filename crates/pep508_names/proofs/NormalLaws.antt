@@ -27,12 +27,7 @@ equal_from : (c : ℕ) → (c == 45) ≡ true → c ≡ 45
 equal_from c h = grind (arith, nat_tests)
 
 begins : (awaits : Bool) (c : ℕ) (cs : List ℕ) → ends_normal awaits (c ∷ cs) ≡ true → Begins awaits c cs
-begins awaits c cs h = go (is_small c) refl awaits refl h
-  where
-    go : (b : Bool) → is_small c ≡ b → (a : Bool) → awaits ≡ a → (if b then ends_normal false cs else (if a then false else (c == 45 && ends_normal true cs))) ≡ true → Begins awaits c cs
-    go true e a _ more = small e more
-    go false e true _ more = absurd cc
-    go false e false f more = let parts = and_parts (c == 45) (ends_normal true cs) more in dash f (equal_from c parts.0) parts.1
+begins awaits c cs h1 = grind (arith, small, and_parts, dash, equal_from)
 
 small-alphanumeric : (c : ℕ) → is_small c ≡ true → is_ascii_alphanumeric c ≡ true
 small-alphanumeric c h = grind (arith, nat_tests)

@@ -30,17 +30,6 @@ abbrev pub url_piece : (text url rest : List ℕ) → IsSuffix text (url ++ rest
 url_piece text url rest s utf8 = record { back = rest; begins = s; ends = utf8; length_is = length-append url rest }
 
 module _ {T E : Type 0} where
-  -- a message is said, as far as it is known
-  pub has_message : (b : Bool) (m : Pep508ErrorSource T E) (known : List ℕ) (said : Option (List ℕ)) → HasMessage b (Some known) m → IfSome said (λ bs. known ≡ bs) → HasMessage b said m
-  has_message false (sources.String message) known None h k = tt
-  has_message false (sources.String message) known (Some bs) h k = h ∙ k
-  has_message false (sources.UrlError fault) known said h k = absurd h
-  has_message false (sources.UnsupportedRequirement message) known said h k = absurd h
-  has_message true (sources.String message) known said h k = absurd h
-  has_message true (sources.UrlError fault) known said h k = absurd h
-  has_message true (sources.UnsupportedRequirement message) known None h k = tt
-  has_message true (sources.UnsupportedRequirement message) known (Some bs) h k = h ∙ k
-
   -- the error of a fault of the text
   pub error_by : (Finds : FaultKind → List ℕ → List ℕ → Type 0) {text : List ℕ} {fault : Fault} {error : Pep508Error T E} → IsFaultBy Finds text fault → TellsFault text fault error → IsErrorBy Finds text error
   error_by Finds {text} {fault} {error} f t = record {

@@ -25,17 +25,3 @@ module _ (text expanded : List ℕ) (surroundings : Surroundings) (meaning : Mea
   module _ {U : Type 0} (names : List ℕ → Surroundings → U → Type 0) where
     pub given_value : (gives : U → List ℕ → U → Type 0) (url given : U) → MakesNamed names gives (folder_of surroundings) meaning url → gives url text given → names text surroundings given
     given_value gives url given made g = made text surroundings given has refl g
-
-    pub no_given : {E : Type 0} (tells_size : E → Bool) (refusal : Refusal E)
-        → IfFault refusal (λ fault. tells_size fault ≡ false → NamesNone names (folder_of surroundings) meaning)
-        → IfFault refusal (λ fault. tells_size fault ≡ false → (url : U) → ¬ names text surroundings url)
-    no_given tells_size refusals.OutOfMemory h = tt
-    no_given tells_size refusals.SegmentAtEnd h = tt
-    no_given tells_size (refusals.Fault fault) h = λ small url named. h small text surroundings url has refl named
-
-  pub large_given : {E : Type 0} (may_overflow : List ℕ → Surroundings → Type 0) (tells_size : E → Bool) (refusal : Refusal E)
-      → IfFault refusal (λ fault. tells_size fault ≡ true → EachMayOverflow may_overflow (folder_of surroundings) meaning)
-      → IfFault refusal (λ fault. tells_size fault ≡ true → may_overflow text surroundings)
-  large_given may_overflow tells_size refusals.OutOfMemory h = tt
-  large_given may_overflow tells_size refusals.SegmentAtEnd h = tt
-  large_given may_overflow tells_size (refusals.Fault fault) h = λ large. h large text surroundings has refl

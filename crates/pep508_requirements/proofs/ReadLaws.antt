@@ -44,9 +44,6 @@ module _ {T E : Type 0} (names : List ℕ → T → Type 0) (text : List ℕ) wh
       whole : {f : Option Formula} {kinds : Kinds} → EndsWith (chars rest) f kinds → IsRequirement names text name extras wanted f kinds
       whole e = record { asked = asked; rest = chars rest; head = head; is_wanted = is_wanted; end = e }
 
-      pub read_as : (c : Contents) (t : MarkerTree) (kinds : Kinds) → IsTreeOfEnd c (chars rest) t kinds → IsReadAs names c text name extras wanted t kinds
-      read_as c t kinds h = record { formula = h.formula; requirement = whole h.end; no_overflow = h.no_overflow; means = h.means }
-
       module _ (tells_size : E → Bool) (may_overflow : List ℕ → Type 0) (value : List ℕ → List ℕ) where
         pub end_refusal : (refusal : Refusal (Pep508Error T E)) → IsEndRefusal text (asked_url asked) rest refusal → IsRefusal names tells_size may_overflow value text refusal
         end_refusal refusals.OutOfMemory h = tt

@@ -25,46 +25,21 @@ after_run-fails p c cs e = ap (λ b. cond b (after_run p cs) (c ∷ cs)) e
 -- the run and what follows it are the list
 pub run_of-after_run : (p : Class) (cs : List ℕ) → run_of p cs ++ after_run p cs ≡ cs
 run_of-after_run p [] = refl
-run_of-after_run p (c ∷ cs) = go (holds p c) (run_of-after_run p cs)
-  where
-    go : (b : Bool) → run_of p cs ++ after_run p cs ≡ cs → cond b (c ∷ run_of p cs) [] ++ cond b (after_run p cs) (c ∷ cs) ≡ c ∷ cs
-    go true shorter = ap (λ (x : List ℕ). c ∷ x) shorter
-    go false shorter = refl
-
--- no more of the class follows a longest run
-pub run_of-after_run-nil : (p : Class) (cs : List ℕ) → run_of p (after_run p cs) ≡ []
-run_of-after_run-nil p [] = refl
-run_of-after_run-nil p (c ∷ cs) = go (holds p c) refl (run_of-after_run-nil p cs)
-  where
-    go : (b : Bool) → holds p c ≡ b → run_of p (after_run p cs) ≡ [] → run_of p (cond b (after_run p cs) (c ∷ cs)) ≡ []
-    go true e shorter = shorter
-    go false e shorter = run_of-fails p c cs e
+run_of-after_run p (c ∷ cs) = grind (arith, cond, run_of-after_run p cs)
 
 -- to skip twice is to skip once
 pub after_run-after_run : (p : Class) (cs : List ℕ) → after_run p (after_run p cs) ≡ after_run p cs
 after_run-after_run p [] = refl
-after_run-after_run p (c ∷ cs) = go (holds p c) refl (after_run-after_run p cs)
-  where
-    go : (b : Bool) → holds p c ≡ b → after_run p (after_run p cs) ≡ after_run p cs → after_run p (cond b (after_run p cs) (c ∷ cs)) ≡ cond b (after_run p cs) (c ∷ cs)
-    go true e shorter = shorter
-    go false e shorter = after_run-fails p c cs e
+after_run-after_run p (c ∷ cs) = grind (arith, cond, after_run-fails, after_run-after_run p cs)
 
 -- all characters of a run are of the class
 pub run_all : (p : Class) (cs : List ℕ) → list_all (holds p) (run_of p cs) ≡ true
 run_all p [] = refl
-run_all p (c ∷ cs) = go (holds p c) refl (run_all p cs)
-  where
-    go : (b : Bool) → holds p c ≡ b → list_all (holds p) (run_of p cs) ≡ true → list_all (holds p) (cond b (c ∷ run_of p cs) []) ≡ true
-    go true e others = and_from _ _ e others
-    go false e others = refl
+run_all p (c ∷ cs) = grind (arith, cond, and_from, run_all p cs)
 
 shorter_than : (p : Class) (cs : List ℕ) → length (after_run p cs) ≤ length cs
 shorter_than p [] = omega arith
-shorter_than p (c ∷ cs) = go (holds p c) (shorter_than p cs)
-  where
-    go : (b : Bool) → length (after_run p cs) ≤ length cs → length (cond b (after_run p cs) (c ∷ cs)) ≤ length (c ∷ cs)
-    go true h = omega arith
-    go false h = omega arith
+shorter_than p (c ∷ cs) = grind (arith, length, cond, shorter_than p cs)
 
 -- what begins with no run begins with no character of the class
 pub after_run-first : (p : Class) (c : ℕ) (cs t : List ℕ) → after_run p t ≡ t → t ≡ c ∷ cs → holds p c ≡ false
@@ -80,15 +55,8 @@ after_run-first p c cs t longest e = go (holds p c) refl
         absurd (omega arith)
     go false h = refl
 
--- the list has one longest run, and it is that of the calls
-pub longest_run : (p : Class) (i : List ℕ) → Run p i (run_of p i) (after_run p i)
-longest_run p i = record { run_is = refl; rest_is = refl }
-
 pub run_same : {p : Class} {i r s o t : List ℕ} → Run p i r o → Run p i s t → (r ≡ s) × (o ≡ t)
 run_same a b = (sym a.run_is ∙ b.run_is, sym a.rest_is ∙ b.rest_is)
-
-pub run_joined : {p : Class} {i r o : List ℕ} → Run p i r o → r ++ o ≡ i
-run_joined {p} {i} {r} {o} a = ap (λ (x : List ℕ). x ++ o) (sym a.run_is) ∙ ap (λ (x : List ℕ). run_of p i ++ x) (sym a.rest_is) ∙ run_of-after_run p i
 
 -- a run of ASCII characters is known by its bytes, which are then its characters
 pub run_from_bytes : {p : Class} {i r o bytes : List ℕ} → bytes ≡ encode_utf8_all (run_of p i) → o ≡ after_run p i → bytes ≡ r → encode_utf8_all r ≡ r → Run p i r o

@@ -146,8 +146,7 @@ module _ (p : Class) where
   -- one more character of the class passes
   pub passed_in_run : (text rest after : List ℕ) (c : ℕ) → IsUtf8 text → Passed (run_of p) (after_run p) text rest → rest ≡ encode_utf8 c ++ after → chars rest ≡ c ∷ chars after
       → holds p c ≡ true → Passed (run_of p) (after_run p) text after
-  passed_in_run text rest after c utf8 passed bytes characters passes =
-      passed_more (run_of p) (after_run p) (run_of p) (after_run p) (run_of p) (after_run p) text rest after c utf8 passed bytes characters (run_of-holds p c (chars after) passes) (after_run-holds p c (chars after) passes)
+  passed_in_run text rest after c utf8 passed bytes characters passes = grind (arith, passed_more, run_of-holds, after_run-holds)
 
   -- a run ends at the end of the text
   pub stopped_at_end : (text rest : List ℕ) → IsUtf8 text → Passed (run_of p) (after_run p) text rest → chars rest ≡ [] → Stopped (run_of p) (after_run p) text rest
@@ -164,9 +163,7 @@ module _ (p : Class) where
   -- a byte of ASCII that is of the class passes
   pub passed_ascii : (text : List ℕ) (i : ℕ) → IsUtf8 text → Passed (run_of p) (after_run p) text (drop i text) → i < length text → get_or text i 0 < 128
       → holds p (get_or text i 0) ≡ true → Passed (run_of p) (after_run p) text (drop (i + 1) text)
-  passed_ascii text i utf8 passed within ascii passes =
-      let one = ascii_next text i within ascii passed.rest_utf8 in
-      passed_in_run text (drop i text) (drop (i + 1) text) (get_or text i 0) utf8 passed one.0 one.1 passes
+  passed_ascii text i h1 h2 h3 h4 h5 = grind (arith, ascii_next, passed_in_run, drop)
 
   -- or the run ends before it
   pub stopped_before_ascii : (text : List ℕ) (i : ℕ) → IsUtf8 text → Passed (run_of p) (after_run p) text (drop i text) → i < length text → get_or text i 0 < 128

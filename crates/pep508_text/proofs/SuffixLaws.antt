@@ -1,13 +1,13 @@
 -- Places in what is left of a text are places in the text.
-use Rattle.std.proofs.Common.{◌≡◌, ℕ, ◌+◌, ◌-◌, ◌<◌, ◌≤◌, cond, eqb, List, [], ◌∷◌, ◌++◌, length, get_or, drop, zero, suc, refl, sym, ap, ◌∙◌, subst, append_assoc, arith, length-append, IsUtf8, ⊎_elim}
+use Rattle.std.proofs.Common.{◌≡◌, ℕ, ◌+◌, ◌-◌, ◌<◌, ◌≤◌, cond, eqb, List, [], ◌∷◌, ◌++◌, length, get_or, drop, zero, suc, refl, sym, ap, ◌∙◌, subst, append_assoc, arith, length-append, IsUtf8}
 use Rattle.std.specs.Prelude.{encode_utf8}
 use Rattle.std.specs.Str.{IsAscii, IsCharBoundary}
 use Rattle.std.proofs.lemmas.List.{append-nil, append_cancel_right, drop_at}
-use Rattle.std.proofs.lemmas.Str.{encode_ascii, IsCharBoundary-before_ascii, IsUtf8-append, IsUtf8-from_ascii, IsUtf8-nil, IsCharBoundary-at_seam}
+use Rattle.std.proofs.lemmas.Str.{encode_ascii, IsUtf8-append, IsUtf8-from_ascii, IsUtf8-nil, IsCharBoundary-at_seam}
 use Rattle.std.proofs.lemmas.Bool.{cases_lt, eq-eqb}
 use Rattle.std.proofs.lemmas.Bool.Decides.{nat_tests}
 use Rattle.std.proofs.Math.Seq.{get_or-append_seam}
-use Rattle.pep508_text.specs.Suffix.{IsSuffix, IsPiece, StandsAt, IsSpan, within, at_end}
+use Rattle.pep508_text.specs.Suffix.{IsSuffix, IsPiece, StandsAt, IsSpan}
 
 pub suffix_self : (t : List ℕ) → IsUtf8 t → IsSuffix t t
 suffix_self t utf8 = record { front = []; joined = refl; utf8 = utf8 }
@@ -28,35 +28,13 @@ suffix_begins {t} {rest} s =
     let here : length s.front ≡ length t - length rest = omega (arith, ap length s.joined, length-append s.front rest) in
     subst (IsCharBoundary t) here (IsCharBoundary-at_seam t s.front rest s.joined s.utf8)
 
--- a piece of what is left is a piece of the text, as far from the end
-pub piece_of_suffix : {t rest piece : List ℕ} {left : ℕ} → IsSuffix t rest → IsPiece rest piece left → IsPiece t piece left
-piece_of_suffix s p = record { back = p.back; begins = suffix_then s p.begins; ends = p.ends; length_is = p.length_is }
-
--- the front of the rest is a piece of the text, from the rest on
-pub piece_in_front : {t piece back rest : List ℕ} → IsSuffix t rest → rest ≡ piece ++ back → IsUtf8 back → IsPiece t piece (length rest)
-piece_in_front {t} {back = back} s e ends = record { back = back; begins = subst (IsSuffix t) e s; ends = ends; length_is = ap length (sym e) }
-
--- an empty piece is between two characters, or at the end
-pub piece_nil : {t rest : List ℕ} → IsSuffix t rest → IsPiece t [] (length rest)
-piece_nil s = piece_in_front s refl s.utf8
-
-pub piece_at_end : (t : List ℕ) → IsPiece t [] 0
-piece_at_end t = piece_nil (suffix_nil t)
-
 -- a piece begins within the text, and ends there too
 pub piece_fits : {t piece : List ℕ} {left : ℕ} → IsPiece t piece left → (left ≤ length t) × (length piece ≤ left)
-piece_fits {t} {piece} {left} p =
-    let whole : length t ≡ length p.begins.front + length (piece ++ p.back) = ap length p.begins.joined ∙ length-append p.begins.front (piece ++ p.back) in
-    let parts : length (piece ++ p.back) ≡ length piece + length p.back = length-append piece p.back in
-    let size = p.length_is in
-    (omega arith, omega arith)
+piece_fits h1 = grind (arith, length, length-append)
 
 -- where it begins, counted from the front
 pub piece_start : {t piece : List ℕ} {left : ℕ} → (p : IsPiece t piece left) → length p.begins.front ≡ length t - left
-piece_start {t} {piece} {left} p =
-    let whole : length t ≡ length p.begins.front + length (piece ++ p.back) = ap length p.begins.joined ∙ length-append p.begins.front (piece ++ p.back) in
-    let size = p.length_is in
-    omega arith
+piece_start p = grind (arith, length, length-append)
 
 -- a piece is in the text at its place
 pub piece_stands : {t piece : List ℕ} {left : ℕ} → IsPiece t piece left → StandsAt t piece (length t - left)
@@ -75,18 +53,7 @@ piece_ends {t} {piece} {left} p =
 
 -- the span of a piece: the piece itself, or the length 1 at the end of the text
 pub span_of_piece : {t piece : List ℕ} {left len : ℕ} → IsPiece t piece left → (0 < left → len ≡ length piece) → (left ≡ 0 → len ≡ 1) → IsSpan t (length t - left) len
-span_of_piece {t} {piece} {left} {len} p inside ended = ⊎_elim spans stops (cases_lt 0 left)
-  where
-    spans : 0 < left → IsSpan t (length t - left) len
-    spans before_end =
-        let fits = piece_fits p in
-        within (omega (arith, fits.0)) (piece_begins p) (subst (λ n. IsCharBoundary t (length t - left + n)) (sym (inside before_end)) (piece_ends p))
-
-    stops : left ≤ 0 → IsSpan t (length t - left) len
-    stops none_left = at_end (omega arith) (ended (omega arith))
-
-pub span_at_end : (t : List ℕ) → IsSpan t (length t) 1
-span_at_end t = at_end refl refl
+span_of_piece h1 h2 h3 = grind (arith, cases_lt, length, piece_fits, piece_begins, piece_ends)
 
 pub len_inside : (left n : ℕ) → 0 < left → cond (eqb left 0) 1 n ≡ n
 len_inside left n inside = grind (arith, nat_tests)
@@ -109,15 +76,10 @@ last_index run front c joined = omega (arith, ap length joined, length-append fr
 
 -- it begins between two characters if it is ASCII
 pub last_begins : (run front : List ℕ) (c : ℕ) → run ≡ front ++ (c ∷ []) → c < 128 → IsCharBoundary run (length run - 1)
-last_begins run front c joined ascii =
-    let place = last_index run front c joined in
-    let here : get_or run (length front) 0 ≡ c = ap (λ (x : List ℕ). get_or x (length front) 0) joined ∙ get_or-append_seam front c [] 0 in
-    let inside : length front < length run = omega (arith, ap length joined, length-append front (c ∷ [])) in
-    subst (IsCharBoundary run) (sym place) (IsCharBoundary-before_ascii run (length front) inside (subst (λ (x : ℕ). x < 128) (sym here) ascii))
+last_begins run front c h1 h2 = grind (arith, last_index, get_or, length, get_or-append_seam, length-append)
 
 pub last_is : (run front : List ℕ) (c : ℕ) → run ≡ front ++ (c ∷ []) → drop (length run - 1) run ≡ c ∷ []
-last_is run front c joined =
-    ap (λ (n : ℕ). drop n run) (last_index run front c joined) ∙ ap (drop (length front)) joined ∙ drop_at front (c ∷ []) (length front) refl
+last_is run front c h1 = grind (arith, drop, last_index, length, drop_at)
 
 -- and with what follows it is the end of a text
 pub last_suffix : (text run front rest piece : List ℕ) (c : ℕ) → text ≡ run ++ rest → IsSuffix text rest → run ≡ front ++ (c ∷ []) → c < 128

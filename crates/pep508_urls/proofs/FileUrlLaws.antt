@@ -1,6 +1,6 @@
 -- The text of a file URL is accepted by the URL Standard: no byte of it is trimmed, stripped or a
 -- mark of a query or a fragment, and an empty host comes before the first slash of the path.
-use Rattle.std.proofs.Common.{◌≡◌, ◌≢◌, ℕ, ◌-◌, ◌<◌, ◌≤◌, ◌==◌, Bool, true, false, not, ◌&&◌, ◌||◌, List, [], ◌∷◌, ◌++◌, length, get_or, All, refl, sym, ap, ◌∙◌, subst, arith, None, Some, Ok, ⊎_elim, inl, inr}
+use Rattle.std.proofs.Common.{◌≡◌, ◌≢◌, ℕ, ◌-◌, ◌<◌, ◌≤◌, ◌==◌, Bool, true, false, not, ◌&&◌, ◌||◌, List, [], ◌∷◌, ◌++◌, length, get_or, All, refl, sym, ap, ◌∙◌, subst, arith, None, Some, Ok, ⊎_elim}
 use Rattle.std.specs.Prelude.{Option, option_map, codes, reverse, nat_lt}
 use Rattle.std.specs.List.{prefix_len, flat_map}
 use Rattle.std.proofs.lemmas.Bool.{cond-true, cond-false, cases_Bool, cases_lt, lt-leb}
@@ -27,10 +27,7 @@ use Rattle.pep508_urls.specs.PathUrl.{IsPathUrl, absolute, normal_url, path_url,
 -- ---- which bytes are escaped
 
 same_tests : (a b : Bool) → ((a && b) || (not a && not b)) ≡ true → a ≡ b
-same_tests true true e = refl
-same_tests true false e = sym e
-same_tests false true e = e
-same_tests false false e = refl
+same_tests a b h1 = grind arith
 
 listed : (b : ℕ) → b < 128 → contains FILE_PART b ≡ is_escaped b
 listed b ascii = same_tests _ _ (checked (λ x. (contains FILE_PART x && is_escaped x) || (not (contains FILE_PART x) && not (is_escaped x))) 128 refl b ascii)
@@ -61,9 +58,7 @@ kept_is_plain : (b : ℕ) → IsKept FILE_PART b → IsPlain b
 kept_is_plain b kept = plain_from_test b (passes_from_kept FILE_PART is_plain refl b kept)
 
 escape_is_plain : (b : ℕ) → IsEscapeByte b → IsPlain b
-escape_is_plain b (inl e) = (omega arith, (λ f. omega arith, λ f. omega arith))
-escape_is_plain b (inr (inl e)) = let low = e.0 in let high = e.1 in (omega arith, (λ f. omega arith, λ f. omega arith))
-escape_is_plain b (inr (inr e)) = let low = e.0 in let high = e.1 in (omega arith, (λ f. omega arith, λ f. omega arith))
+escape_is_plain b h1 = grind arith
 
 part_is_plain : (part : List ℕ) → All IsPlain (file_part part)
 part_is_plain part = ⊎_elim dropped written (cases_Bool (stays part))
@@ -126,10 +121,7 @@ abbrev IsWritten : List (List ℕ) → Type 0
 IsWritten all = (length (flat_map file_part all) == 0) ≡ false
 
 begins_later : (part : List ℕ) (all : List (List ℕ)) → (IsWritten all → Begins all) → stays part ≡ true → IsWritten (part ∷ all) → Begins (part ∷ all)
-begins_later part all later s some =
-    let same : flat_map file_part (part ∷ all) ≡ flat_map file_part all = ap (λ (x : List ℕ). x ++ flat_map file_part all) (cond-true _ _ _ s) in
-    let rest = later (ap (λ (x : List ℕ). length x == 0) (sym same) ∙ some) in
-    (rest.0, same ∙ rest.1)
+begins_later part all h1 h2 h3 = grind arith
 
 begins_here : (part : List ℕ) (all : List (List ℕ)) → stays part ≡ false → Begins (part ∷ all)
 begins_here part all s = (percent_encode FILE_PART part ++ flat_map file_part all, ap (λ (x : List ℕ). x ++ flat_map file_part all) (cond-false _ _ _ s))
@@ -167,6 +159,4 @@ whole_path_has_a_url whole normal e =
     (with_fragment read.0 cut.1, ap (option_map normal_url) e ∙ ap (λ (r : Parsed Parts). Some (and_then r (λ url. Ok (with_fragment url cut.1)))) read.1)
 
 pub path_has_url : (base : Option (List ℕ)) (path whole normal : List ℕ) → absolute base path ≡ Some whole → normalized whole ≡ Some normal → (url : Parts) × IsPathUrl base path url
-path_has_url base path whole normal a n =
-    let read = whole_path_has_a_url whole normal n in
-    (read.0, record { whole = whole; absolute_is = a; url_is = read.1 })
+path_has_url base path whole normal h1 h2 = grind (arith, whole_path_has_a_url)

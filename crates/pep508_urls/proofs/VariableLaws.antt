@@ -47,8 +47,7 @@ expands_dollar {value} front {text} {after} {expanded} lacks joined none e =
 
 -- what was appended in two steps
 pub grown_twice : (old a b tail : List ℕ) {middle new : List ℕ} → middle ≡ old ++ a → new ≡ middle ++ b → old ++ (a ++ (b ++ tail)) ≡ new ++ tail
-grown_twice old a b tail first second =
-    sym (ap (λ (x : List ℕ). x ++ tail) (second ∙ ap (λ (x : List ℕ). x ++ b) first) ∙ append_assoc (old ++ a) b tail ∙ append_assoc old a (b ++ tail))
+grown_twice old a b tail h1 h2 = grind (arith, append_assoc)
 
 -- a text with a name in braces at its front has one name there
 pub names_same : {name rest other_name more : List ℕ} → IsVariableName name → IsVariableName other_name → name ++ (125 ∷ rest) ≡ other_name ++ (125 ∷ more) → (name ≡ other_name) × (rest ≡ more)

@@ -111,12 +111,6 @@ step_here es found k e (steps.Include inner) knows here is =
     (plays_at es k e here is.0, (name, list.group, subst (λ o. IsSomeAnd o (λ x. x.content ≡ include name)) (sym here) is.1.1, known_at es found name list.normal list.group knows list.normalizes list.finds, list.follows))
 step_here es found k e steps.Faulty knows here is = is
 
--- the expansion of a group from that of its list
-pub expansion_of : (es : List EntryOf) (found : List ℕ → Option ℕ) (name : List ℕ) (start : ℕ) (strings : List ℕ) → KnowsFirsts es Group found → IsListOf found name start
-    → Expands es start strings → IsExpansion es name strings
-expansion_of es found name start strings knows list h =
-    (list.group, known_at es found name list.normal list.group knows list.normalizes list.finds, subst (λ k. Expands es k strings) list.follows h)
-
 -- a place after all entries
 pub plays_past : (xs : List ProjectEntry) (role : Role) (k : ℕ) → length xs ≤ k → Plays (entries_in xs) role k → ⊥
 plays_past xs role k past plays =

@@ -69,12 +69,6 @@ pub record Home (es : List EntryOf) (i : ℕ) (home : Option ℕ) : Type 0 where
 none_some : (p : ℕ) → None ≡ Some p → ⊥
 none_some p e = cc
 
-pub home_first : (es : List EntryOf) → Home es 0 None
-home_first es = record {
-  is_home = λ p e. absurd (none_some p e);
-  only = λ p plays below items. absurd (omega (arith, below));
-}
-
 home_head : (es : List EntryOf) (i : ℕ) (home : Option ℕ) (e : EntryOf) → slice_get es i ≡ Some e → role_of e ≡ Head → Home es i home → Home es (i + 1) (Some i)
 home_head es i home e here is h = record {
   is_home = λ p same. let at : i ≡ p = same_Some i p same in
@@ -149,12 +143,6 @@ means_one es name p q a b =
 pub record LinksBelow (es : List EntryOf) (i : ℕ) (ls : List Link) : Type 0 where
   pub sound : (p q : ℕ) → Has ls p q → Plays es Head p × Includes es p q
   pub complete : (p q : ℕ) → Plays es Head p → (inc : Includes es p q) → inc.place < i → Has ls p q
-
-pub links_none : (es : List EntryOf) → LinksBelow es 0 []
-links_none es = record {
-  sound = λ p q h. absurd h;
-  complete = λ p q plays inc below. absurd (omega (arith, below));
-}
 
 -- an entry with a target includes it, and begins no group
 target_is : (es : List EntryOf) (found : List ℕ → Option ℕ) (e : EntryOf) (content : ContentOf) (place : Option ℕ) (q : ℕ) → KnowsFirsts es Group found → e.content ≡ content → place ≡ Some q → Targets found content place

@@ -38,9 +38,6 @@ stays : (es : List EntryOf) (section : Section) (i : ℕ) (n : List ℕ) (o : Op
 stays es section i n None known other = below_more _ _ known (other refl)
 stays es section i n (Some k) known other = (known.0, omega (arith, known.1))
 
-pub knows_none : (es : List EntryOf) (section : Section) (found : List ℕ → Option ℕ) → ((n : List ℕ) → found n ≡ None) → Knows es section 0 found
-knows_none es section found none n = rw (none n) (λ k h. absurd (omega (arith, h)))
-
 -- an entry that gives no name
 pub knows_more : (es : List EntryOf) (section : Section) (i : ℕ) (e : EntryOf) (found : List ℕ → Option ℕ) → slice_get es i ≡ Some e
     → ((n : List ℕ) → Names section n e → ⊥) → Knows es section i found → Knows es section (i + 1) found

@@ -21,13 +21,6 @@ included_from es n d counted one found = rw (key_count-view es, ← counted, one
 pub not_included : (es : List Entry) (n : ℕ) → n ≡ length es → (n ≡ 1 → ⊥) → None ≡ included (members_view es)
 not_included es n counted other = rw (key_count-view es, ← counted, ne_eqb n 1 other)
 
--- an item is added to those before it
-pub add_item : (section : Section) (name : Option (List ℕ)) (i : ℕ) (vs : List Value) (d : Value) (done all : List EntryOf) → i < length vs
-    → done ++ item_entries section name i (items_view (drop i vs)) ≡ all
-    → (done ++ entry section name (Some i) (item_of section (view (get_or vs i d))) ∷ []) ++ item_entries section name (i + 1) (items_view (drop (i + 1) vs)) ≡ all
-add_item section name i vs d done all within so_far =
-    append_assoc done _ _ ∙ rw (items_view-drop vs i d within) at so_far
-
 pub add_fault : (project : Members) (i : ℕ) (vs : List Value) (d : Value) (done all : List EntryOf) → i < length vs
     → done ++ dynamic_faults project i (items_view (drop i vs)) ≡ all
     → (done ++ dynamic_entry i (dynamic_fault project (view (get_or vs i d)))) ++ dynamic_faults project (i + 1) (items_view (drop (i + 1) vs)) ≡ all

@@ -17,9 +17,6 @@ use Rattle.project_findings.specs.declared.places.EntryPlace.{EntryPlace}
 pub record Placing (file : List ℕ) (all left : List EntryOf) (found : List EntryPlace) : Type 0 where
   pub goes_on : (others : List EntryPlace) → HoldEach file left others → HoldEach file all (found ++ others)
 
-pub placing_none : (file : List ℕ) (es : List EntryOf) → Placing file es es []
-placing_none file es = record { goes_on = λ others holds. holds }
-
 pub placing_more : {file : List ℕ} {all left after : List EntryOf} {found new : List EntryPlace} (e : EntryOf) (place : EntryPlace)
     → Placing file all left found → left ≡ e ∷ after → Holds file (string_of e) place → new ≡ found ++ (place ∷ []) → Placing file all after new
 placing_more {file} {all} {left} {after} {found} {new} e place before begins holds new_is = record {

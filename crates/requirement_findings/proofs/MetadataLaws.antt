@@ -16,9 +16,6 @@ module _ {State : Type 0} (Text : State → List Character → CheckedText → S
   pub record CheckingFields (first now : State) (fields left : List Field) (checked : List CheckedField) : Type 0 where
     pub goes_on : (others : List CheckedField) (last : State) → ChecksFields Text Finds now left others last → ChecksFields Text Finds first fields (checked ++ others) last
 
-  pub fields_none : (state : State) (fields : List Field) → CheckingFields state state fields fields []
-  fields_none state fields = record { goes_on = λ others last checks. checks }
-
   pub fields_more : {first now next : State} {fields left after : List Field} {checked new : List CheckedField} (one : CheckedField)
       → CheckingFields first now fields left checked → left ≡ one.field ∷ after → ChecksField Text Finds one.field now one.checked next → new ≡ checked ++ (one ∷ []) → CheckingFields first next fields after new
   fields_more {first} {now} {next} {fields} {left} {after} {checked} {new} one before begins checks new_is = record {

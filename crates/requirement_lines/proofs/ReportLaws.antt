@@ -117,9 +117,6 @@ module _ {State Finding : Type 0} (Finds : State → List ℕ → List Finding �
   pub record Reporting (first now : State) (lines left : List (List Character)) (told : List (Report Finding)) : Type 0 where
     pub goes_on : (more : List (Report Finding)) (last : State) → Reports Finds now left more last → Reports Finds first lines (told ++ more) last
 
-  pub reporting_none : (state : State) (lines : List (List Character)) → Reporting state state lines lines []
-  reporting_none state lines = record { goes_on = λ more last r. r }
-
   pub reporting_more : {first now next : State} {lines left : List (List Character)} {told new : List (Report Finding)} (one : List Character) (some : Option (Report Finding))
       → Reporting first now lines (one ∷ left) told → ReportsLine Finds now one some next → new ≡ told ++ option_to_list some → Reporting first next lines left new
   reporting_more {first} {now} {next} {lines} {left} {told} {new} one None t finds new_is = record {

@@ -21,16 +21,6 @@ module _ (value_of : List ℕ → Option (List ℕ)) (others : List Character) w
   pub replacing_none : (all kept start : List Character) (within : Bool) → all ≡ kept ++ replaced value_of within (start ++ others) → Replacing all kept start start within
   replacing_none all kept start within e = record { pending = []; parts = refl; none = λ _. refl; goes_on = e }
 
-  -- a character within a variable
-  pub replacing_inside : {all kept start rest ps : List Character} {within still : Bool} (p : Character) → Replacing all kept start rest within → within ≡ true → rest ≡ p ∷ ps → still ≡ not (p.char == 125)
-      → Replacing all kept ps ps still
-  replacing_inside {all} {kept} {start} {rest} {ps} {within} {still} p r in_variable begins still_is =
-      replacing_none all kept ps still (
-      r.goes_on ∙ ap (λ (x : List Character). kept ++ (x ++ replaced value_of within (rest ++ others))) (r.none in_variable)
-      ∙ ap (λ (b : Bool). kept ++ replaced value_of b (rest ++ others)) in_variable
-      ∙ ap (λ (x : List Character). kept ++ replaced value_of true (x ++ others)) begins
-      ∙ ap (λ (b : Bool). kept ++ replaced value_of b (ps ++ others)) (sym still_is))
-
   -- one more character, which is replaced by `put`
   one_more : (p : Character) (ps : List Character) (value : Option (List ℕ)) → value ≡ value_at value_of ((p ∷ ps) ++ others)
       → replaced value_of false ((p ∷ ps) ++ others) ≡ in_place_of p value ++ replaced value_of (is_some value) (ps ++ others)
@@ -68,16 +58,6 @@ module _ (value_of : List ℕ → Option (List ℕ)) (others : List Character) w
             ∙ ap (λ (x : List Character). kept ++ x) (sym (append_assoc r.pending (p ∷ []) (replaced value_of false (ps ++ others))))
             ∙ ap (λ (b : Bool). kept ++ ((r.pending ++ (p ∷ [])) ++ replaced value_of b (ps ++ others))) (sym outside);
       }
-
-  -- the end of the piece
-  pub replacing_ended : {all kept start rest new : List Character} {within : Bool} (front : List Character) → Replacing all kept start rest within → rest ≡ [] → start ≡ front ++ rest → new ≡ kept ++ front
-      → all ≡ new ++ replaced value_of within others
-  replacing_ended {all} {kept} {start} {rest} {new} {within} front r none front_is new_is =
-      let pending_is : r.pending ≡ front = append_cancel_right r.pending front rest (sym r.parts ∙ front_is) in
-      r.goes_on ∙ ap (λ (x : List Character). kept ++ (x ++ replaced value_of within (rest ++ others))) pending_is
-      ∙ ap (λ (x : List Character). kept ++ (front ++ replaced value_of within (x ++ others))) none
-      ∙ sym (append_assoc kept front (replaced value_of within others))
-      ∙ ap (λ (x : List Character). x ++ replaced value_of within others) (sym new_is)
 
 -- ---- the name of a variable
 

@@ -13,9 +13,6 @@ pub record Reads (whole : List Character) (read : List ℕ) (rest : List Charact
   pub name_is : name_before whole ≡ name ++ name_before rest
   pub argument_is : argument_after whole ≡ argument_after rest
 
-pub reads_none : {read : List ℕ} (whole : List Character) → read ≡ [] → Reads whole read whole
-reads_none whole e = record { name = []; bytes = e; name_is = refl; argument_is = refl }
-
 pub reads_more : {whole rest ps : List Character} {read new : List ℕ} (p : Character) → Reads whole read rest → rest ≡ p ∷ ps → (p.char == 61) ≡ false → new ≡ read ++ encode_utf8 p.char → Reads whole new ps
 reads_more {whole} {rest} {ps} {read} {new} p r begins goes_on new_is = record {
   name = r.name ++ (p.char ∷ []);

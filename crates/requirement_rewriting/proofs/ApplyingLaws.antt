@@ -9,9 +9,6 @@ use Rattle.requirement_rewriting.specs.declared.applying.Edit.{Edit}
 pub record Making (bytes : List ℕ) (all : List Edit) (rest : List ℕ) (left : List Edit) (done : List ℕ) : Type 0 where
   pub goes_on : (more : List ℕ) → Makes (length bytes) rest left more → Makes (length bytes) bytes all (done ++ more)
 
-pub making_none : (bytes : List ℕ) (all : List Edit) → Making bytes all bytes all []
-making_none bytes all = record { goes_on = λ more m. m }
-
 -- the part between two bytes
 pub cut : (bytes : List ℕ) (start end : ℕ) → start ≤ end → drop start bytes ≡ take (end - start) (drop start bytes) ++ drop end bytes
 cut bytes start end le =

@@ -25,9 +25,6 @@ module _ {State : Type 0} (Answers : State → List ℕ → Option (List ℕ) �
   pub record Editing (first now : State) (text left : List ℕ) (done : List Edit) : Type 0 where
     pub goes_on : (edits : List Edit) (last : State) → EditsLines Answers size now left edits last → EditsLines Answers size first text (done ++ edits) last
 
-  pub editing_none : (state : State) (text : List ℕ) → Editing state state text text []
-  editing_none state text = record { goes_on = λ edits last e. e }
-
   pub editing_more : {first now next : State} {text left after : List ℕ} {done new : List Edit} (line : List Character) (one : List Edit)
       → Editing first now text left done → IsSuffix left after → logical_lines (characters left) ≡ line ∷ logical_lines (characters after)
       → EditsLine Answers size line left after now one next → new ≡ done ++ one → Editing first next text after new

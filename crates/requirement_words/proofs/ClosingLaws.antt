@@ -1,8 +1,8 @@
 -- Extras end at the first closing bracket.
-use Rattle.std.proofs.Common.{◌≡◌, ◌≢◌, ℕ, true, eqb, not, List, [], ◌∷◌, ◌++◌, All, append_assoc, refl, sym, ap, ◌∙◌, subst, lit<, IsUtf8}
+use Rattle.std.proofs.Common.{◌≡◌, ◌≢◌, ℕ, true, eqb, not, List, [], ◌∷◌, ◌++◌, All, append_assoc, refl, sym, ap, ◌∙◌, subst, lit<, IsUtf8, arith}
 use Rattle.std.specs.Prelude.{encode_utf8, encode_utf8_all}
 use Rattle.std.specs.Str.{chars}
-use Rattle.std.proofs.lemmas.Bool.{and_from, and_parts, eq-eqb, false≢true, not-true}
+use Rattle.std.proofs.lemmas.Bool.{and_from, and_parts, false≢true}
 use Rattle.std.proofs.lemmas.List.Elements.{All-head, All-tail}
 use Rattle.std.proofs.lemmas.Str.{chars_past_char, encode_ascii, encodes-chars, IsUtf8-from_ascii, IsUtf8-past_char}
 use Rattle.std.proofs.lemmas.Str.Ascii.{IsAscii-cons, IsAscii-nil}
@@ -34,19 +34,13 @@ closes_first inside e (some {input = j} h) =
 
 -- the first place of a character is one place
 other_first : (c d : ℕ) (x y : List ℕ) → not (eqb d c) ≡ true → c ∷ x ≡ d ∷ y → ⊥
-other_first c d x y other e = false≢true (sym (not-true _ other) ∙ eq-eqb d c (sym (same c d x y e)))
-  where
-    same : (a b : ℕ) (t u : List ℕ) → a ∷ t ≡ b ∷ u → a ≡ b
-    same a b t u f = cc
+other_first c d x y h1 h2 = grind arith
 
 first_place : (c : ℕ) (f g x y : List ℕ) → is_absent c f ≡ true → is_absent c g ≡ true → f ++ (c ∷ x) ≡ g ++ (c ∷ y) → x ≡ y
 first_place c [] [] x y a b e = tails c x y (c ∷ x) (c ∷ y) e refl refl
 first_place c [] (d ∷ g) x y a b e = absurd (other_first c d x (g ++ (c ∷ y)) (and_parts _ _ b).0 e)
 first_place c (d ∷ f) [] x y a b e = absurd (other_first c d y (f ++ (c ∷ x)) (and_parts _ _ a).0 (sym e))
-first_place c (d ∷ f) (k ∷ g) x y a b e = first_place c f g x y (and_parts _ _ a).1 (and_parts _ _ b).1 (behind d k (f ++ (c ∷ x)) (g ++ (c ∷ y)) e)
-  where
-    behind : (p q : ℕ) (t u : List ℕ) → p ∷ t ≡ q ∷ u → t ≡ u
-    behind p q t u h = cc
+first_place c (d ∷ f) (k ∷ g) x y a b e = grind (arith, and_parts, first_place c f g x y)
 
 -- ---- extras that are cut off a URL
 

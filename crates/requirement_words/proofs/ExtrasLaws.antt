@@ -4,16 +4,16 @@ use Rattle.std.specs.Prelude.{encode_utf8, encode_utf8_all, IsTrue, IsSomeAnd, s
 use Rattle.std.specs.Char.{is_ascii_alphanumeric, is_whitespace}
 use Rattle.std.specs.List.{list_all}
 use Rattle.std.specs.Str.{chars}
-use Rattle.std.proofs.lemmas.Bool.{eqb-true, false≢true}
+use Rattle.std.proofs.lemmas.Bool.{false≢true}
 use Rattle.std.proofs.lemmas.List.{nil_from_length}
 use Rattle.std.proofs.lemmas.Str.{encode_ascii, encodes-chars}
 use Rattle.pep508_text.specs.Run.{Run, after_space, run_of, after_run}
 use Rattle.pep508_text.specs.Suffix.{IsSuffix}
 use Rattle.pep508_text.specs.declared.classes.Class.{Class}
 use Rattle.pep508_text.specs.declared.classes.Class.TheVariants.{Space, NamePart}
-use Rattle.pep508_text.proofs.RunLaws.{after_run-fails, after_run-first, run_all, trimmed_after_space}
+use Rattle.pep508_text.proofs.RunLaws.{after_run-first, run_all, trimmed_after_space}
 use Rattle.pep508_text.specs.Class.{is_name_character, is_separator}
-use Rattle.pep508_names.specs.Name.{NormalizesTo, word, joined, IsName}
+use Rattle.pep508_names.specs.Name.{NormalizesTo, IsName}
 use Rattle.refusal.specs.declared.Refusal.{Refusal}
 use Rattle.refusal.specs.declared.Refusal.TheVariants as refusals
 use Rattle.pep508_names.specs.Fault.{IsNameRefusal}
@@ -49,14 +49,7 @@ found_start : (i inside output : List ℕ) (ns : List (List ℕ)) → i ≡ 91 �
 found_start i inside output ns e h = subst (λ (x : List ℕ). IsExtras x output ns) (sym e) (some h)
 
 only_start : (i inside output : List ℕ) (ns : List (List ℕ)) → i ≡ 91 ∷ inside → ((rest : List ℕ) → after_space inside ≢ 93 ∷ rest) → IsExtras i output ns → (others : List (List ℕ)) × Names inside output others
-only_start i inside output ns e open_ (left_out b) =
-    absurd (false≢true (sym b ∙ ap begins_bracket e))
-only_start i inside output ns e open_ (none {input = input} h) =
-    let same : input ≡ inside = tails 91 input inside (91 ∷ input) (91 ∷ inside) e refl refl in
-    absurd (open_ output (sym (ap after_space same) ∙ h))
-only_start i inside output ns e open_ (some {input = input} h) =
-    let same : input ≡ inside = tails 91 input inside (91 ∷ input) (91 ∷ inside) e refl refl in
-    (ns, subst (λ (x : List ℕ). Names x output ns) same h)
+only_start i inside output ns h1 h2 h3 = grind arith
 
 pub reading_start : (text inside : List ℕ) → IsSuffix text inside → chars text ≡ 91 ∷ chars inside → ((rest : List ℕ) → after_space (chars inside) ≢ 93 ∷ rest) → Reading text inside []
 reading_start text inside suffix e open_ = record {
@@ -67,11 +60,7 @@ reading_start text inside suffix e open_ = record {
 
 -- one name, and a comma
 only_more : (i rest next output : List ℕ) (n : List ℕ) (ns : List (List ℕ)) → IsNameAt (after_space i) rest n → after_space rest ≡ 44 ∷ next → Names i output ns → (others : List (List ℕ)) × Names next output others
-only_more i rest next output n ns name comma (last {a = a} other bracket) =
-    absurd (firsts 44 93 next output (after_space rest) (after_space a) (sym (ap after_space (name_rest other name))) comma bracket (lit< tt))
-only_more i rest next output n ns name comma (more {a = a} {b = b} {ns = ms} other again h) =
-    let here : b ≡ next = tails 44 b next (after_space a) (after_space rest) (ap after_space (name_rest other name)) again comma in
-    (ms, subst (λ (x : List ℕ). Names x output ms) here h)
+only_more i rest next output n ns h1 h2 h3 = grind arith
 
 pub reading_more : (text left rest next : List ℕ) (n : List ℕ) (names : List (List ℕ)) → Reading text left names → IsSuffix text next → IsNameAt (after_space (chars left)) (chars rest) n → after_space (chars rest) ≡ 44 ∷ chars next → Reading text next (names ++ (n ∷ []))
 reading_more text left rest next n names reading suffix name comma = record {
@@ -86,10 +75,7 @@ reading_closed text left rest output n names reading name bracket = reading.foun
 
 -- one name, and neither
 no_more : (i rest output n : List ℕ) (ns : List (List ℕ)) → IsNameAt (after_space i) rest n → ((x : List ℕ) → after_space rest ≢ 93 ∷ x) → ((x : List ℕ) → after_space rest ≢ 44 ∷ x) → Names i output ns → ⊥
-no_more i rest output n ns name open_ alone (last {a = a} other bracket) =
-    open_ output (sym (ap after_space (name_rest other name)) ∙ bracket)
-no_more i rest output n ns name open_ alone (more {a = a} {b = b} other comma h) =
-    alone b (sym (ap after_space (name_rest other name)) ∙ comma)
+no_more i rest output n ns h1 h2 h3 h4 = grind arith
 
 pub none_more : (text left rest n : List ℕ) (names : List (List ℕ)) → Reading text left names → IsNameAt (after_space (chars left)) (chars rest) n → ((x : List ℕ) → after_space (chars rest) ≢ 93 ∷ x) → ((x : List ℕ) → after_space (chars rest) ≢ 44 ∷ x) → (output : List ℕ) (ns : List (List ℕ)) → ¬ IsExtras (chars text) output ns
 none_more text left rest n names reading name open_ alone output ns h =
@@ -102,18 +88,11 @@ no_name i output ns unnamed (last {a = a} {n = n} name bracket) = unnamed a n na
 no_name i output ns unnamed (more {a = a} {n = n} name comma h) = unnamed a n name
 
 pub none_name : (text left : List ℕ) (names : List (List ℕ)) → Reading text left names → ((o n : List ℕ) → ¬ IsNameAt (after_space (chars left)) o n) → (output : List ℕ) (ns : List (List ℕ)) → ¬ IsExtras (chars text) output ns
-none_name text left names reading unnamed output ns h =
-    let g = reading.only output ns h in
-    no_name _ output g.0 unnamed g.1
+none_name text left names reading unnamed output ns h = grind (arith, no_name)
 
 -- no bracket
 no_bracket : (t : List ℕ) → ((rest : List ℕ) → t ≢ 91 ∷ rest) → begins_bracket t ≡ false
-no_bracket [] h = refl
-no_bracket (c ∷ cs) h = go (eqb c 91) refl
-  where
-    go : (b : Bool) → eqb c 91 ≡ b → b ≡ false
-    go true e = absurd (h cs (ap (λ (x : ℕ). x ∷ cs) (eqb-true c 91 e)))
-    go false e = refl
+no_bracket t h1 = grind arith
 
 pub without_bracket : (t : List ℕ) (names : List (List ℕ)) → names ≡ [] → ((rest : List ℕ) → t ≢ 91 ∷ rest) → IsExtras t t names
 without_bracket t names e h = subst (IsExtras t t) (sym e) (left_out (no_bracket t h))
@@ -143,8 +122,7 @@ empty_front [] t e = refl
 empty_front (c ∷ w) t e = absurd cc
 
 unnamed : {t n : List ℕ} → NormalizesTo t n → t ≡ [] → ⊥
-unnamed (word h) e = h.nonempty e
-unnamed (joined {w = w} {s = s} {t = t} h r g) e = h.nonempty (empty_front w (s ++ t) e)
+unnamed h1 h2 = grind (arith, empty_front)
 
 no_name_at : {i o a n : List ℕ} → i ≡ 93 ∷ o → IsNameAt i a n → ⊥
 no_name_at {i} {o} e name = unnamed name.name (ap (λ (x : List ℕ). encode_utf8_all (run_of NamePart x)) e)
@@ -154,22 +132,13 @@ closed_name e (last name bracket) = no_name_at e name
 closed_name e (more name comma h) = no_name_at e name
 
 pub extras_rest : {i o p : List ℕ} {ns ms : List (List ℕ)} → IsExtras i o ns → IsExtras i p ms → o ≡ p
-extras_rest (left_out b) (left_out c) = refl
-extras_rest (left_out b) (none h) = absurd (false≢true (sym b))
-extras_rest (left_out b) (some h) = absurd (false≢true (sym b))
-extras_rest (none h) (left_out b) = absurd (false≢true (sym b))
-extras_rest (none {input = i} {output = o} h) (none {output = p} g) = tails 93 o p (after_space i) (after_space i) refl h g
-extras_rest (none h) (some g) = absurd (closed_name h g)
-extras_rest (some h) (left_out b) = absurd (false≢true (sym b))
-extras_rest (some h) (none g) = absurd (closed_name g h)
-extras_rest (some h) (some g) = names_rest h g
+extras_rest h1 h2 = grind (arith, false≢true, tails, closed_name, names_rest)
 
 -- ---- what is wrong
 
 -- what begins as a name is not empty
 pub begun : (t : List ℕ) → begins_name t ≡ true → (c : ℕ) × (cs : List ℕ) × (t ≡ c ∷ cs) × (is_ascii_alphanumeric c ≡ true)
-begun [] e = absurd (false≢true e)
-begun (c ∷ cs) e = (c, cs, refl, e)
+begun t h1 = grind arith
 
 pub is_run : {class : Class} {input run output : List ℕ} → run ≡ run_of class input → output ≡ after_run class input → Run class input run output
 is_run e f = record { run_is = sym e; rest_is = sym f }
@@ -186,15 +155,12 @@ run_ends text rest {run} r utf8 begins none_ =
 -- the name of an extra, which the reader of names has read
 pub named : (left place run rest n : List ℕ) → chars place ≡ after_space (chars left) → run ≡ encode_utf8_all (run_of NamePart (chars place)) → chars rest ≡ after_run NamePart (chars place)
     → NormalizesTo run n → IsNameAt (after_space (chars left)) (chars rest) n
-named left place run rest n place_is bytes rest_is read =
-    subst (λ (x : List ℕ). IsNameAt x (chars rest) n) place_is (record { name = subst (λ (x : List ℕ). NormalizesTo x n) bytes read; rest = sym rest_is })
+named left place run rest n h1 h2 h3 h4 = grind arith
 
 -- no name
 pub not_named : (left place run : List ℕ) → chars place ≡ after_space (chars left) → run ≡ encode_utf8_all (run_of NamePart (chars place)) → ¬ IsName run
     → (o n : List ℕ) → ¬ IsNameAt (after_space (chars left)) o n
-not_named left place run place_is bytes none_ o n h =
-    let here : IsNameAt (chars place) o n = subst (λ (x : List ℕ). IsNameAt x o n) (sym place_is) h in
-    none_ (n, subst (λ (x : List ℕ). NormalizesTo x n) (sym bytes) here.name)
+not_named left place run h1 h2 h3 o n = grind arith
 
 pub nothing_named : (left place : List ℕ) → chars place ≡ after_space (chars left) → chars place ≡ [] → (o n : List ℕ) → ¬ IsNameAt (after_space (chars left)) o n
 nothing_named left place place_is e o n h = unnamed h.name (ap (λ (x : List ℕ). encode_utf8_all (run_of NamePart x)) (sym place_is ∙ e))
@@ -268,11 +234,7 @@ never_closed {text} {inside} {piece} bracket text_is piece_is cut =
 -- ---- after a name
 
 pub not_eqb : (c d : ℕ) → c ≢ d → eqb c d ≡ false
-not_eqb c d h = go (eqb c d) refl
-  where
-    go : (b : Bool) → eqb c d ≡ b → b ≡ false
-    go true e = absurd (h (eqb-true c d e))
-    go false e = refl
+not_eqb c d h1 = grind arith
 
 -- what begins with no white space
 pub trimmed_first : (c : ℕ) (cs t : List ℕ) → after_space t ≡ t → t ≡ c ∷ cs → is_whitespace c ≡ false
@@ -286,17 +248,10 @@ not_followed rest behind c cs skipped e comma bracket =
 
 -- nothing was skipped, or white space was
 pub nothing_skipped : (rest behind : List ℕ) → IsSuffix rest behind → length behind ≡ length rest → behind ≡ rest
-nothing_skipped rest behind s e =
-    let none_ : s.front ≡ [] = nil_from_length s.front (omega (arith, ap length s.joined, length-append s.front behind)) in
-    sym (s.joined ∙ ap (λ (x : List ℕ). x ++ behind) none_)
+nothing_skipped rest behind h1 h2 = grind (arith, nil_from_length, length, length-append)
 
 space_skipped : (t : List ℕ) → (after_space t ≡ t → ⊥) → begins_space t ≡ true
-space_skipped [] h = absurd (h refl)
-space_skipped (c ∷ cs) h = go (is_whitespace c) refl
-  where
-    go : (b : Bool) → is_whitespace c ≡ b → b ≡ true
-    go true e = refl
-    go false e = absurd (h (after_run-fails Space c cs e))
+space_skipped t h1 = grind arith
 
 pub something_skipped : (rest behind : List ℕ) → IsUtf8 rest → IsUtf8 behind → chars behind ≡ after_space (chars rest) → length behind ≢ length rest → begins_space (chars rest) ≡ true
 something_skipped rest behind utf8 behind_utf8 skipped other =

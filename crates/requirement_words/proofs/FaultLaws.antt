@@ -1,5 +1,5 @@
 -- Places of faults, and refusals.
-use Rattle.std.proofs.Common.{◌≡◌, ℕ, ◌-◌, ◌<◌, List, [], ◌∷◌, ◌++◌, length, drop, refl, sym, ap, ◌∙◌, subst, IsUtf8}
+use Rattle.std.proofs.Common.{◌≡◌, ℕ, ◌-◌, ◌<◌, List, [], ◌∷◌, ◌++◌, length, drop, refl, sym, ap, ◌∙◌, subst, IsUtf8, arith}
 use Rattle.std.specs.Prelude.{encode_utf8}
 use Rattle.refusal.specs.declared.Refusal.{Refusal}
 use Rattle.refusal.specs.declared.Refusal.TheVariants as refusals
@@ -26,8 +26,7 @@ fault_behind F G suffix wide fault = record {
 -- a fault with its kind and its place
 fault_of : (F : FaultKind → List ℕ → List ℕ → Type 0) {text : List ℕ} {fault : Fault} (kind : FaultKind) (place : Place) → fault.kind ≡ kind → fault.place ≡ place
     → IsFaultAt F text kind place.piece.now place.left → IsFaultBy F text fault
-fault_of F {text} {fault} kind place kind_is place_is f =
-    subst (λ (k : FaultKind). IsFaultAt F text k fault.place.piece.now fault.place.left) (sym kind_is) (subst (λ (p : Place). IsFaultAt F text kind p.piece.now p.left) (sym place_is) f)
+fault_of F kind place h1 h2 h3 = grind arith
 
 -- at the front of what is left
 pub fault_before : (F : FaultKind → List ℕ → List ℕ → Type 0) (kind : FaultKind) {text here rest : List ℕ} {fault : Fault} {place : Place} → IsSuffix text here → IsUtf8 rest
@@ -64,9 +63,7 @@ fault_at_last F kind front c {text} {run} {rest} {fault} {place} cut suffix join
 
 -- what a refusal says of the text, for what follows from it
 pub refused_by : (F : Fault → Type 0) (P Q : Type 0) (e : Refusal Fault) → (P → Q) → IsRefused F P e → IsRefused F Q e
-refused_by F P Q refusals.OutOfMemory f h = tt
-refused_by F P Q refusals.SegmentAtEnd f h = absurd h
-refused_by F P Q (refusals.Fault fault) f h = (h.0, f h.1)
+refused_by F P Q e h1 h2 = grind arith
 
 -- the same of a text that is the end of another
 pub refused_behind : (F G : FaultKind → List ℕ → List ℕ → Type 0) (whole text : List ℕ) (P Q : Type 0) (e : Refusal Fault) → IsSuffix whole text → ((k : FaultKind) (p b : List ℕ) → F k p b → G k p b) → (P → Q)

@@ -9,7 +9,7 @@ use Rattle.std.proofs.lemmas.Str.{chars-nil, encode_ascii, encodes_same}
 use Rattle.refusal.specs.declared.Refusal.{Refusal}
 use Rattle.refusal.specs.declared.Refusal.TheVariants as refusals
 use Rattle.pep440_specifier.specs.Specifier.{Specifier}
-use Rattle.pep508_text.specs.Class.{holds, is_comparison}
+use Rattle.pep508_text.specs.Class.{holds}
 use Rattle.pep508_text.specs.Run.{after_space, run_of, after_run}
 use Rattle.pep508_text.specs.declared.classes.Class.TheVariants.{NotSpace}
 use Rattle.pep508_text.specs.declared.classes.Class.TheVariants as classes
@@ -28,8 +28,7 @@ use Rattle.requirement_words.specs.declared.fault.Fault.{Fault}
 use Rattle.requirement_words.specs.declared.fault.FaultKind.{FaultKind}
 use Rattle.requirement_words.specs.declared.fault.FaultKind.TheVariants.{Blank, NoName, NameEnd, NoBody, UnclosedParenthesis, NoUrl, PathWithoutName, UrlWithoutName, ArchiveWithoutName}
 use Rattle.requirement_words.specs.declared.url.UrlPlace.TheVariants.{BehindName}
-use Rattle.requirement_words.proofs.Characters.{firsts, tails}
-use Rattle.requirement_words.proofs.ExtrasLaws.{name_rest, extras_rest, not_eqb}
+use Rattle.requirement_words.proofs.ExtrasLaws.{name_rest, extras_rest}
 use Rattle.requirement_words.proofs.NameEnds.{EndsSeparator}
 use Rattle.requirement_words.proofs.SpecifierLaws.{ends_there, last_piece, pieces_rest}
 
@@ -44,32 +43,21 @@ url_body i behind place rest text c cs e skipped text_is some_ rest_is =
     not_empty none = let both : [] ≡ c ∷ cs = sym chars-nil ∙ sym (ap chars none) ∙ some_ in absurd cc
 
 pub bare_first : {i : List ℕ} → IsBare i → (c : ℕ) (cs : List ℕ) → i ≡ c ∷ cs → 59 ≡ c
-bare_first ended c cs e = absurd cc
-bare_first (marked {output = o}) c cs e = head_same 59 c o cs e
-  where
-    head_same : (a b : ℕ) (x y : List ℕ) → a ∷ x ≡ b ∷ y → a ≡ b
-    head_same a b x y f = cc
+bare_first h1 c cs h2 = grind arith
 
 pub differ : (a b : ℕ) → a ≡ b → a < b → ⊥
 differ a b e less = omega arith
 
 -- after `@`
 pub body_at : {i o : List ℕ} {a : Asked} (behind : List ℕ) → i ≡ 64 ∷ behind → IsAsked i o a → (text : List ℕ) × IsUrl BehindName (after_space behind) o text × (a ≡ url text)
-body_at behind e (left_out b) = absurd (differ 59 64 (bare_first b 64 behind e) (lit< tt))
-body_at behind e (at_url {input = j} {output = o} {text = t} u) = (t, subst (λ (x : List ℕ). IsUrl BehindName (after_space x) o t) (tails 64 j behind (64 ∷ j) (64 ∷ behind) e refl refl) u, refl)
-body_at behind e (bare b s) = absurd (false≢true (sym (ap begins_specifier e) ∙ b))
-body_at behind e (enclosed {input = j} s) = absurd (firsts 40 64 j behind (40 ∷ j) (64 ∷ behind) e refl refl (lit< tt))
+body_at behind h1 h2 = grind arith
 
 -- after `(`
 pub body_enclosed : {i o : List ℕ} {a : Asked} (behind : List ℕ) → i ≡ 40 ∷ behind → IsAsked i o a → (set : List Specifier) × IsSpecifiers 41 (after_space behind) (41 ∷ o) set × (a ≡ specifiers set)
-body_enclosed behind e (left_out b) = absurd (differ 40 59 (sym (bare_first b 40 behind e)) (lit< tt))
-body_enclosed behind e (at_url {input = j} u) = absurd (firsts 40 64 behind j (40 ∷ behind) (64 ∷ j) (sym e) refl refl (lit< tt))
-body_enclosed behind e (bare b s) = absurd (false≢true (sym (ap begins_specifier e) ∙ b))
-body_enclosed behind e (enclosed {input = j} {output = o} {set = set} s) = (set, subst (λ (x : List ℕ). IsSpecifiers 41 (after_space x) (41 ∷ o) set) (tails 40 j behind (40 ∷ j) (40 ∷ behind) e refl refl) s, refl)
+body_enclosed behind h1 h2 = grind arith
 
 pub bare_begins : {i : List ℕ} → IsBare i → begins_specifier i ≡ true → ⊥
-bare_begins ended b = false≢true b
-bare_begins marked b = false≢true b
+bare_begins h1 h2 = grind arith
 
 -- before a specifier
 pub body_bare : {i o : List ℕ} {a : Asked} → begins_specifier i ≡ true → IsAsked i o a → (set : List Specifier) × IsSpecifiers 59 i o set × (a ≡ specifiers set)
@@ -83,20 +71,15 @@ pub no_head_named : (i : List ℕ) → ((o n : List ℕ) → ¬ IsNameAt (after_
 no_head_named i h output name extras asked head = h head.after_name name head.named
 
 pub no_head_extras : (i after n : List ℕ) → IsNameAt (after_space i) after n → ((o : List ℕ) (ns : List (List ℕ)) → ¬ IsExtras (after_space after) o ns) → (output name : List ℕ) (extras : List (List ℕ)) (asked : Asked) → ¬ IsHead i output name extras asked
-no_head_extras i after n named h output name extras asked head =
-    h head.after_extras extras (subst (λ (x : List ℕ). IsExtras (after_space x) head.after_extras extras) (name_rest head.named named) head.extras_are)
+no_head_extras i after n h1 h2 output name extras asked = grind arith
 
 pub no_head_asked : (i after n behind place : List ℕ) (ns : List (List ℕ)) → IsNameAt (after_space i) after n → IsExtras (after_space after) behind ns → place ≡ after_space behind
     → ((o : List ℕ) (a : Asked) → ¬ IsAskedIn i place o a) → (output name : List ℕ) (extras : List (List ℕ)) (asked : Asked) → ¬ IsHead i output name extras asked
-no_head_asked i after n behind place ns named extras_are skipped h output name extras asked head =
-    let again : IsExtras (after_space after) head.after_extras extras = subst (λ (x : List ℕ). IsExtras (after_space x) head.after_extras extras) (name_rest head.named named) head.extras_are in
-    h output asked (subst (λ (x : List ℕ). IsAskedIn i x output asked) (ap after_space (extras_rest again extras_are) ∙ sym skipped) head.asks)
+no_head_asked i after n behind place ns h1 h2 h3 h4 output name extras asked = grind (arith, name_rest, extras_rest)
 
 -- no URL after `@`
 pub no_url : (i behind place text : List ℕ) → i ≡ 64 ∷ behind → place ≡ after_space behind → text ≡ encode_utf8_all (url_of BehindName 0 place) → text ≡ [] → (output : List ℕ) (asked : Asked) → ¬ IsAsked i output asked
-no_url i behind place text e skipped text_is none output asked h =
-    let g = body_at behind e h in
-    g.1.some (ap (url_of BehindName 0) (sym skipped) ∙ encodes_same _ _ (sym text_is ∙ none))
+no_url i behind place text h1 h2 h3 h4 output asked = grind (arith, body_at, encodes_same)
 
 -- specifiers in parentheses
 pub enclosed_body : (i behind place rest output : List ℕ) (set : List Specifier) → i ≡ 40 ∷ behind → place ≡ after_space behind → IsSpecifiers 41 place rest set → rest ≡ 41 ∷ output → IsAsked i output (specifiers set)
@@ -132,22 +115,12 @@ is_ended i e = subst IsBare (sym e) ended
 -- the text after a name that is not `@`, a parenthesis or `;` begins a specifier
 pub specifier_begins : (i : List ℕ) (c : ℕ) (cs : List ℕ) → i ≡ c ∷ cs → may_follow_name c ≡ true → c ≢ 59
     → ((x : List ℕ) → i ≢ 64 ∷ x) → ((x : List ℕ) → i ≢ 40 ∷ x) → begins_specifier i ≡ true
-specifier_begins i c cs e may other at open_ =
-    ap begins_specifier e ∙ last_of (eqb c 64) (eqb c 40) (eqb c 59) (is_comparison c) may
-    (not_eqb c 64 (λ same. at cs (e ∙ ap (λ (x : ℕ). x ∷ cs) same))) (not_eqb c 40 (λ same. open_ cs (e ∙ ap (λ (x : ℕ). x ∷ cs) same))) (not_eqb c 59 other)
-  where
-    last_of : (x y z w : Bool) → (x || (y || (z || w))) ≡ true → x ≡ false → y ≡ false → z ≡ false → w ≡ true
-    last_of x y z w h e f g = sym (ap (λ (b : Bool). b || (y || (z || w))) e ∙ ap (λ (b : Bool). b || (z || w)) f ∙ ap (λ (b : Bool). b || w) g) ∙ h
+specifier_begins i c cs h1 h2 h3 h4 h5 = grind arith
 
 -- ---- the place of a URL
 
 pub url_placed : (text place u rest piece : List ℕ) → IsSuffix text place → place ≡ u ++ rest → url u ≡ url piece → IsSuffix text (piece ++ rest)
-url_placed text place u rest piece s joined e =
-    let same : u ≡ piece = inside u piece e in
-    subst (IsSuffix text) (joined ∙ ap (λ (x : List ℕ). x ++ rest) same) s
-  where
-    inside : (a b : List ℕ) → url a ≡ url b → a ≡ b
-    inside a b f = cc
+url_placed text place u rest piece h1 h2 h3 = grind arith
 
 pub url_is_something : (u : List ℕ) → url u ≢ nothing
 url_is_something u e = cc
@@ -202,11 +175,7 @@ enclosed_fault behind {text} {place} {piece} {kind} suffix at skipped f size =
 
 -- a piece up to the end of the text
 pub last_fault : {end : ℕ} {text piece : List ℕ} {kind : FaultKind} {size : ℕ} → IsFaultAt (FindsInSpecifiers end (chars text)) text kind piece size → size ≡ length piece → (left : List ℕ) × Preceded end (chars text) left × (after_piece end left ≡ [])
-last_fault {piece = piece} {size = size} f whole =
-    ends_there f.place.begins.utf8 (nil_from_length f.place.back (ended_by (length f.place.back) (length piece) size (length (piece ++ f.place.back)) (length-append piece f.place.back) f.place.length_is whole)) f.found
-  where
-    ended_by : (b p l t : ℕ) → t ≡ p + b → t ≡ l → l ≡ p → b ≡ 0
-    ended_by b p l t e g h = omega arith
+last_fault h1 h2 = grind (arith, ends_there, nil_from_length, length, length-append)
 
 -- the pieces that nothing closes
 pub open_pieces : (place rest : List ℕ) {set : List Specifier} → IsSpecifiers 41 (chars place) (chars rest) set → ((x : List ℕ) → chars rest ≢ 41 ∷ x) → (left : List ℕ) × Preceded 41 (chars place) left × (after_piece 41 left ≡ [])
@@ -274,32 +243,14 @@ nothing_in text behind output a b e f none_ =
 
 -- an archive has versions or a URL
 bare_nothing : {i o : List ℕ} {a : Asked} → IsBare i → IsAsked i o a → a ≡ nothing
-bare_nothing e (left_out f) = refl
-bare_nothing e (at_url {input = j} u) = absurd (differ 59 64 (bare_first e 64 j refl) (lit< tt))
-bare_nothing e (bare c s) = absurd (bare_begins e c)
-bare_nothing e (enclosed {input = j} s) = absurd (differ 40 59 (sym (bare_first e 40 j refl)) (lit< tt))
+bare_nothing h1 h2 = grind (arith, differ, bare_first, lit<, bare_begins)
 
 pub not_asked : (text behind : List ℕ) → IsBare behind → IsArchive (written_name text) → (output : List ℕ) (a : Asked) → ¬ IsAskedIn text behind output a
 not_asked text behind b is output a h = h.no_archive (bare_nothing b h.asks) is
 
 -- nothing of a requirement begins with the character
 pub broken_body : (i : List ℕ) (c : ℕ) (cs : List ℕ) → i ≡ c ∷ cs → may_follow_name c ≡ false → (output : List ℕ) (a : Asked) → ¬ IsAsked i output a
-broken_body i c cs e other output a b = false≢true (sym other ∙ follows b c cs e)
-  where
-    any : (x y z w : Bool) → w ≡ true → (x || (y || (z || w))) ≡ true
-    any true y z w h = refl
-    any false true z w h = refl
-    any false false true w h = refl
-    any false false false w h = h
-
-    head_of : (a b : ℕ) (x y : List ℕ) → a ∷ x ≡ b ∷ y → a ≡ b
-    head_of a b x y f = cc
-
-    follows : {i o : List ℕ} {a : Asked} → IsAsked i o a → (c : ℕ) (cs : List ℕ) → i ≡ c ∷ cs → may_follow_name c ≡ true
-    follows (left_out e) c cs f = ap may_follow_name (sym (bare_first e c cs f))
-    follows (at_url {input = j} u) c cs f = ap may_follow_name (sym (head_of 64 c j cs f))
-    follows (bare b s) c cs f = any (eqb c 64) (eqb c 40) (eqb c 59) (is_comparison c) (sym (ap begins_specifier f) ∙ b)
-    follows (enclosed {input = j} s) c cs f = ap may_follow_name (sym (head_of 40 c j cs f))
+broken_body i c cs h1 h2 output a = grind (arith, false≢true, bare_first, eqb)
 
 pub broken : (text behind : List ℕ) (c : ℕ) (cs : List ℕ) → behind ≡ c ∷ cs → may_follow_name c ≡ false → (output : List ℕ) (a : Asked) → ¬ IsAskedIn text behind output a
 broken text behind c cs e other output a h = broken_body behind c cs e other output a h.asks
@@ -313,9 +264,7 @@ not_in text behind h o a g = h o a g.asks
 -- ---- refusals of the whole
 
 pub refused_with : (F : Fault → Type 0) (P : Type 0) (e : Refusal Fault) → P → IsRefused F ⊤ e → IsRefused F P e
-refused_with F P refusals.OutOfMemory p h = tt
-refused_with F P refusals.SegmentAtEnd p h = absurd h
-refused_with F P (refusals.Fault fault) p h = (h.0, p)
+refused_with F P e h1 h2 = grind arith
 
 pub nothing_no_url : (piece : List ℕ) → nothing ≡ url piece → ⊥
 nothing_no_url piece e = cc

@@ -87,16 +87,7 @@ record First (o : Operator) : Type 0 where
   no_bracket : (first_char o == 91) ≡ false
 
 first_of : (o : Operator) → First o
-first_of Equal = record { is = refl; unnamed = refl; begins = refl; dark = refl; no_bracket = refl }
-first_of EqualStar = record { is = refl; unnamed = refl; begins = refl; dark = refl; no_bracket = refl }
-first_of ExactEqual = record { is = refl; unnamed = refl; begins = refl; dark = refl; no_bracket = refl }
-first_of NotEqual = record { is = refl; unnamed = refl; begins = refl; dark = refl; no_bracket = refl }
-first_of NotEqualStar = record { is = refl; unnamed = refl; begins = refl; dark = refl; no_bracket = refl }
-first_of TildeEqual = record { is = refl; unnamed = refl; begins = refl; dark = refl; no_bracket = refl }
-first_of LessThan = record { is = refl; unnamed = refl; begins = refl; dark = refl; no_bracket = refl }
-first_of LessThanEqual = record { is = refl; unnamed = refl; begins = refl; dark = refl; no_bracket = refl }
-first_of GreaterThan = record { is = refl; unnamed = refl; begins = refl; dark = refl; no_bracket = refl }
-first_of GreaterThanEqual = record { is = refl; unnamed = refl; begins = refl; dark = refl; no_bracket = refl }
+first_of o = grind arith
 
 -- a specifier's text begins with it
 begins_with : (a b back x : List ℕ) (c : ℕ) → a ≡ c ∷ b → (w : List ℕ) × ((a ++ back) ++ x ≡ c ∷ w)
@@ -214,11 +205,7 @@ body_text (specifiers (s ∷ ss)) tail left a e =
 body_text (url text) tail left a e = absurd a
 
 pub head_reads : (name : List ℕ) (extras : List (List ℕ)) (asked : Asked) (tail left : List ℕ) → IsPrintable name extras asked → IsTailText tail left → IsHead (head_text name extras asked ++ tail) left name extras asked
-head_reads name extras asked tail left p e =
-    let whole = head_of name extras asked (asked_text asked ++ tail) left p.named p.extras_are (body_text asked tail left p.asks e) in
-    let same : (name ++ (extras_text extras ++ asked_text asked)) ++ tail ≡ name ++ (extras_text extras ++ (asked_text asked ++ tail)) =
-    append_assoc name (extras_text extras ++ asked_text asked) tail ∙ ap (λ (x : List ℕ). name ++ x) (append_assoc (extras_text extras) (asked_text asked) tail) in
-    subst (λ (x : List ℕ). IsHead x left name extras asked) (sym same) whole
+head_reads name extras asked tail left h1 h2 = grind (arith, head_of, body_text, append_assoc)
 
 -- ---- the text is ASCII
 

@@ -1,5 +1,5 @@
 -- The last character of a run of a name's characters.
-use Rattle.std.proofs.Common.{◌≡◌, ◌||◌, ◌+◌, ◌-◌, ◌<◌, ℕ, zero, suc, Bool, Option, true, false, List, [], ◌∷◌, ◌++◌, length, refl, sym, ap, ◌∙◌, subst, arith, length-append, IsUtf8}
+use Rattle.std.proofs.Common.{◌≡◌, ◌||◌, ◌+◌, ◌-◌, ◌<◌, ℕ, Bool, Option, true, false, List, [], ◌∷◌, ◌++◌, length, refl, sym, ap, ◌∙◌, subst, arith, length-append, IsUtf8}
 use Rattle.std.specs.Prelude.{IsTrue, IsSomeAnd, slice_get, Some}
 use Rattle.std.specs.Char.{is_ascii_alphanumeric}
 use Rattle.std.specs.List.{list_all}
@@ -19,8 +19,7 @@ pub name_byte : (c : ℕ) → is_name_character c ≡ true → c < 128
 name_byte c h = grind (arith, nat_tests)
 
 ascii-cons : (b : ℕ) (t : List ℕ) → b < 128 → IsAscii t → IsAscii (b ∷ t)
-ascii-cons b t h k zero = h
-ascii-cons b t h k (suc i) = k i
+ascii-cons b t h1 h2 = grind arith
 
 pub name_ascii : (cs : List ℕ) → list_all is_name_character cs ≡ true → IsAscii cs
 name_ascii [] h = λ i. omega arith
@@ -70,9 +69,7 @@ pub record EndsSeparator (run : List ℕ) : Type 0 where
   pub ascii : c < 128
 
 last_holds : (t : List ℕ) (d : ℕ) → list_all is_name_character (t ++ (d ∷ [])) ≡ true → is_name_character d ≡ true
-last_holds t d h =
-    let both = and_parts (list_all is_name_character t) (list_all is_name_character (d ∷ [])) (sym (list_all-append is_name_character t (d ∷ [])) ∙ h) in
-    (and_parts (is_name_character d) true both.1).0
+last_holds t d h1 = grind (arith, and_parts, list_all-append)
 
 pub ends_separator : (run rest : List ℕ) (a : ℕ) → IsUtf8 run → chars run ≡ a ∷ rest
     → list_all is_name_character (chars run) ≡ true → is_ascii_alphanumeric a ≡ true → ¬ IsName run → EndsSeparator run

@@ -13,7 +13,7 @@ use Rattle.pep508_text.proofs.RunLaws.{trimmed_cons}
 use Rattle.pep508_text.specs.Class.{is_name_character}
 use Rattle.pep508_names.specs.Name.{NormalizesTo, word, joined}
 use Rattle.pep508_names.proofs.IdentifierLaws.{names_are_identifiers}
-use Rattle.requirement_words.specs.Archive.{IsArchive, archive, compressed}
+use Rattle.requirement_words.specs.Archive.{IsArchive}
 use Rattle.pep508_text.specs.Class.{holds}
 use Rattle.pep508_text.specs.declared.classes.Class.{Class}
 use Rattle.pep508_text.specs.declared.classes.Class.TheVariants.{NamePart}
@@ -59,9 +59,7 @@ name_before n c t h other = let ends = run_fails NamePart c t other in name_at n
 
 -- the run of a name's characters there
 pub name_run : (n t : List ℕ) → IsNormal n → run_of NamePart t ≡ [] → after_run NamePart t ≡ t → encode_utf8_all (run_of NamePart (after_space (n ++ t))) ≡ n
-name_run n t h none all =
-    ap (λ (x : List ℕ). encode_utf8_all (run_of NamePart x)) (name_trimmed n t h) ∙ ap encode_utf8_all (run_over NamePart n t (name_parts n h) none all).0
-    ∙ encodes-IsAscii n (name_ascii n (name_parts n h))
+name_run n t h1 h2 h3 = grind (arith, name_trimmed, run_over, name_parts, encodes-IsAscii, name_ascii)
 
 -- names with commas, and the bracket
 pub names_read : (n : List ℕ) (ns : List (List ℕ)) (t : List ℕ) → IsNormal n → AllByRecursion IsNormal ns → Names (n ++ (later_names ns ++ (93 ∷ t))) t (n ∷ ns)
@@ -84,16 +82,11 @@ word_no_dot (c ∷ w) h =
 
 normal_no_dot : {t n : List ℕ} → NormalizesTo t n → is_absent 46 n ≡ true
 normal_no_dot (word {w = w} h) = word_no_dot w h.alphanumeric
-normal_no_dot (joined {w = w} {n = n} h r g) =
-    list_all-append (λ d. not (eqb d 46)) (map to_ascii_lowercase w) (45 ∷ n) ∙ and_from _ _ (word_no_dot w h.alphanumeric) (and_from _ _ refl (normal_no_dot g))
+normal_no_dot (joined {w = w} {n = n} h r g) = grind (arith, list_all-append, not, eqb, map, and_from, word_no_dot, normal_no_dot g)
 
 no_dot_before : (before back : List ℕ) → is_absent 46 (before ++ (46 ∷ back)) ≡ true → ⊥
-no_dot_before before back h =
-    let both = and_parts (is_absent 46 before) (is_absent 46 (46 ∷ back)) (sym (list_all-append (λ d. not (eqb d 46)) before (46 ∷ back)) ∙ h) in
-    let one = and_parts false (is_absent 46 back) both.1 in
-    cc one.0
+no_dot_before before back h1 = grind (arith, and_parts, is_absent, list_all-append, not, eqb)
 
 -- so it is not the name of an archive
 pub normal_no_archive : (n : List ℕ) → IsNormal n → ¬ IsArchive n
-normal_no_archive n h (archive {before = b} {extension = e} g is) = no_dot_before b e (ap (is_absent 46) (sym g.joined) ∙ normal_no_dot h)
-normal_no_archive n h (compressed {before = b} {extension = e} g is tar) = no_dot_before b e (ap (is_absent 46) (sym g.joined) ∙ normal_no_dot h)
+normal_no_archive n h1 = grind (arith, no_dot_before, is_absent, normal_no_dot)

@@ -11,12 +11,10 @@ use Rattle.requirement_words.specs.Nameless.{NamesNoPackage, IsPathOrUrl, dotted
 
 -- a list is cut at a place by the element there
 pub cut_at : (bs : List ℕ) (k c : ℕ) → k < length bs → get_or bs k 0 ≡ c → bs ≡ take k bs ++ (c ∷ drop (k + 1) bs)
-cut_at bs k c within here =
-    sym (take-append-drop k bs) ∙ ap (λ (x : List ℕ). take k bs ++ x) (drop_more bs k 0 within ∙ ap (λ (b : ℕ). b ∷ drop (k + 1) bs) here)
+cut_at bs k c h1 h2 = grind (arith, take-append-drop, take, drop_more, drop)
 
 pub stands : (bs before rest : List ℕ) (c : ℕ) → bs ≡ before ++ (c ∷ rest) → (length before < length bs) × (get_or bs (length before) 0 ≡ c)
-stands bs before rest c e =
-    (omega (arith, ap length e, length-append before (c ∷ rest)), ap (λ (x : List ℕ). get_or x (length before) 0) e ∙ get_or_at before c rest 0 (length before) refl)
+stands bs before rest c h1 = grind (arith, length, length-append, get_or, get_or_at)
 
 -- ---- extensions
 
@@ -29,17 +27,7 @@ some_of (b ∷ x) h = omega arith
 
 pub extension_at : (name : List ℕ) (k : ℕ) → k < length name → get_or name k 0 ≡ 46 → ((i : ℕ) → k < i → i < length name → get_or name i 0 ≢ 46) → k ≢ 0
     → HasExtension name (take k name) (drop (k + 1) name)
-extension_at name k within here last some = record {
-  some = not_nil (take k name) (positive (length-take k name));
-  joined = cut_at name k 46 within here;
-  no_dot = λ i short e. last (k + 1 + i) (omega arith) (later i short (length-drop (k + 1) name)) (sym (get_or-drop (k + 1) name i 0) ∙ e);
-}
-  where
-    positive : length (take k name) ≡ min k (length name) → 0 < length (take k name)
-    positive e = omega arith
-
-    later : (i : ℕ) → i < length (drop (k + 1) name) → length (drop (k + 1) name) ≡ length name - (k + 1) → k + 1 + i < length name
-    later i short e = omega arith
+extension_at name k h1 h2 h3 h4 = grind (arith, not_nil, take, length-take, cut_at, length-drop, get_or-drop, length, min, drop)
 
 -- a dot comes after the first byte
 pub extension_dot : {name before extension : List ℕ} → HasExtension name before extension → (length before < length name) × (get_or name (length before) 0 ≡ 46) × (0 < length before)
@@ -72,8 +60,7 @@ extension_same {name} {a} {b} {e} {f} h g =
 -- ---- archives
 
 pub no_extension : {name : List ℕ} → ((before extension : List ℕ) → ¬ HasExtension name before extension) → ¬ IsArchive name
-no_extension h (archive {before = b} {extension = e} g is) = h b e g
-no_extension h (compressed {before = b} {extension = e} g is tar) = h b e g
+no_extension h1 = grind arith
 
 pub other_extension : {name before extension : List ℕ} → HasExtension name before extension → is_archive_extension extension ≡ false → is_compressed_extension extension ≡ false → ¬ IsArchive name
 other_extension h e f (archive g is) = false≢true (sym e ∙ ap is_archive_extension (extension_same h g).1 ∙ is)

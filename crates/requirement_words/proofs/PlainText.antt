@@ -1,6 +1,6 @@
 -- The text of a specifier does not change if white space is removed, with or without a space after
 -- it.
-use Rattle.std.proofs.Common.{◌≡◌, ℕ, ◌<◌, zero, suc, true, List, [], ◌∷◌, ◌++◌, refl, ap, arith}
+use Rattle.std.proofs.Common.{◌≡◌, ℕ, ◌<◌, true, List, [], ◌∷◌, ◌++◌, refl, ap, arith}
 use Rattle.std.specs.List.{list_all}
 use Rattle.std.specs.Str.{IsAscii, drop_trailing_whitespace, skip_leading_whitespace, trim, trim_end, trim_start}
 use Rattle.std.proofs.lemmas.Bool.{and_parts}
@@ -19,8 +19,7 @@ plain-first b t h =
     (byte-is_plain b parts.0, parts.1)
 
 pub ascii-cons : (b : ℕ) (t : List ℕ) → b < 128 → IsAscii t → IsAscii (b ∷ t)
-ascii-cons b t h k zero = h
-ascii-cons b t h k (suc i) = k i
+ascii-cons b t h1 h2 = grind arith
 
 pub plain-ascii : (t : List ℕ) → IsPlain t → IsAscii t
 plain-ascii [] h = IsAscii-nil

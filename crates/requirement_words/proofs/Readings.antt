@@ -1,5 +1,5 @@
 -- A text has one reading: each part is determined by its place.
-use Rattle.std.proofs.Common.{◌≡◌, ℕ, List, [], ◌∷◌, ◌++◌, Option, Some, refl, sym, ap, ◌∙◌, subst, lit<}
+use Rattle.std.proofs.Common.{◌≡◌, ℕ, List, [], ◌∷◌, ◌++◌, Option, refl, sym, ap, ◌∙◌, subst, lit<, arith}
 use Rattle.std.specs.Str.{chars}
 use Rattle.std.proofs.lemmas.Bool.{false≢true}
 use Rattle.std.proofs.lemmas.List.Sorted.{ranks_by}
@@ -10,12 +10,12 @@ use Rattle.pep440_specifier.proofs.Texts.{one_specifier}
 use Rattle.pep508_names.proofs.NameLaws.{normal_form-unique}
 use Rattle.pep508_text.specs.Run.{after_space, after_run}
 use Rattle.pep508_urls.proofs.ExtrasLaws.{extras_same}
-use Rattle.requirement_words.specs.Extras.{IsNameAt, Names, last, more, IsExtras, left_out, none, some}
-use Rattle.requirement_words.specs.Head.{Asked, nothing, specifiers, url, IsUrl, begins_specifier, IsBare, IsAsked, IsHead}
+use Rattle.requirement_words.specs.Extras.{IsNameAt, Names, last, more, IsExtras, left_out}
+use Rattle.requirement_words.specs.Head.{Asked, nothing, specifiers, url, IsUrl, IsBare, IsAsked, IsHead}
 use Rattle.requirement_words.specs.Head as bodies
-use Rattle.requirement_words.specs.Specifiers.{piece_of, Pieces, IsSetOf, IsSpecifiers}
+use Rattle.requirement_words.specs.Specifiers.{Pieces, IsSetOf, IsSpecifiers}
 use Rattle.requirement_words.specs.Specifiers as pieces
-use Rattle.requirement_words.specs.Tail.{IsTail, unmarked, marked}
+use Rattle.requirement_words.specs.Tail.{IsTail}
 use Rattle.requirement_words.specs.Unnamed.{IsCut, bare, with_extras, IsUnnamedHead}
 use Rattle.pep508_text.specs.declared.classes.Class.TheVariants as classes
 use Rattle.requirement_words.specs.declared.url.UrlPlace.{UrlPlace}
@@ -42,15 +42,7 @@ names_same (more {a = a} {b = q} {output = o} {ns = ns} x comma h) (more {a = b}
     ∙ ap (λ (l : List (List ℕ)). m ∷ l) (names_same (subst (λ (z : List ℕ). Names z o ns) same h) g)
 
 pub extras_alike : {i o p : List ℕ} {ns ms : List (List ℕ)} → IsExtras i o ns → IsExtras i p ms → ns ≡ ms
-extras_alike (left_out b) (left_out c) = refl
-extras_alike (left_out b) (none h) = absurd (false≢true (sym b))
-extras_alike (left_out b) (some h) = absurd (false≢true (sym b))
-extras_alike (none h) (left_out b) = absurd (false≢true (sym b))
-extras_alike (none h) (none g) = refl
-extras_alike (none h) (some g) = absurd (closed_name h g)
-extras_alike (some h) (left_out b) = absurd (false≢true (sym b))
-extras_alike (some h) (none g) = absurd (closed_name g h)
-extras_alike (some h) (some g) = names_same h g
+extras_alike h1 h2 = grind (arith, false≢true, closed_name, names_same)
 
 pub extras_same_and_rest : (i o p : List ℕ) (ns ms : List (List ℕ)) → IsExtras i o ns → IsExtras i p ms → (o ≡ p) × (ns ≡ ms)
 extras_same_and_rest i o p ns ms h g = (extras_rest h g, extras_alike h g)
@@ -85,10 +77,7 @@ url_same : {place : UrlPlace} {i o p t u : List ℕ} → IsUrl place i o t → I
 url_same x y = (sym x.rest ∙ y.rest, x.text_is ∙ sym y.text_is)
 
 body_left_out : {i o : List ℕ} {a : Asked} → IsBare i → IsAsked i o a → (i ≡ o) × (nothing ≡ a)
-body_left_out b (bodies.left_out c) = (refl, refl)
-body_left_out b (bodies.at_url {input = j} u) = absurd (differ 59 64 (bare_first b 64 j refl) (lit< tt))
-body_left_out b (bodies.bare begins s) = absurd (bare_begins b begins)
-body_left_out b (bodies.enclosed {input = j} s) = absurd (differ 40 59 (sym (bare_first b 40 j refl)) (lit< tt))
+body_left_out h1 h2 = grind (arith, differ, bare_first, lit<, bare_begins)
 
 body_same : {i o p : List ℕ} {a b : Asked} → IsAsked i o a → IsAsked i p b → (o ≡ p) × (a ≡ b)
 body_same (bodies.left_out b) h = body_left_out b h
@@ -128,13 +117,4 @@ unnamed_head_same i o p given other u v ns ms h g =
 -- ---- the end of a requirement
 
 pub tail_same : (rest : List ℕ) (m n : Option (List ℕ)) → IsTail rest m → IsTail rest n → m ≡ n
-tail_same rest m n h g = alike h g
-  where
-    ended : (c : ℕ) (x t : List ℕ) → t ≡ [] → t ≡ c ∷ x → ⊥
-    ended c x t e f = cc
-
-    alike : {k l : Option (List ℕ)} → IsTail rest k → IsTail rest l → k ≡ l
-    alike (unmarked e) (unmarked f) = refl
-    alike (unmarked e) (marked {marker = t} f) = absurd (ended 59 t (after_space rest) e f)
-    alike (marked {marker = t} e) (unmarked f) = absurd (ended 59 t (after_space rest) f e)
-    alike (marked {marker = t} e) (marked {marker = u} f) = ap Some (tails 59 t u (after_space rest) (after_space rest) refl e f)
+tail_same rest m n h1 h2 = grind arith

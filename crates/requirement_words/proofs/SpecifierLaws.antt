@@ -1,8 +1,8 @@
 -- Reading a list of specifiers piece by piece.
-use Rattle.std.proofs.Common.{◌≡◌, ◌≢◌, ℕ, Bool, true, false, eqb, List, [], ◌∷◌, ◌++◌, refl, sym, ap, ◌∙◌, subst, append_assoc, append-nil, IsUtf8}
+use Rattle.std.proofs.Common.{◌≡◌, ◌≢◌, ℕ, false, List, [], ◌∷◌, ◌++◌, refl, sym, ap, ◌∙◌, subst, append_assoc, append-nil, IsUtf8, arith}
 use Rattle.std.specs.Prelude.{encode_utf8_all}
 use Rattle.std.specs.Str.{chars}
-use Rattle.std.proofs.lemmas.Bool.{eqb-true, false≢true}
+use Rattle.std.proofs.lemmas.Bool.{false≢true}
 use Rattle.std.proofs.lemmas.List.{append_cancel_left}
 use Rattle.std.proofs.lemmas.Str.{encodes-chars, encodes_same}
 use Rattle.pep508_text.proofs.RunLaws.{run_of-after_run}
@@ -26,19 +26,11 @@ pub record Reading (end : ℕ) (text left : List ℕ) (list : List Specifier) : 
   pub only : (output : List ℕ) (all : List Specifier) → Pieces end (chars text) output all → (others : List Specifier) × Pieces end (chars left) output others
 
 pub reading_start : (end : ℕ) (text : List ℕ) (list : List Specifier) → list ≡ [] → IsSuffix text text → Reading end text text list
-reading_start end text list e suffix = record {
-  suffix = suffix;
-  found = λ output others h. subst (λ (x : List Specifier). Pieces end (chars text) output (x ++ others)) (sym e) h;
-  only = λ output all h. (all, h);
-}
+reading_start end text list h1 h2 = grind arith
 
 -- one specifier, and a comma
 only_more : (end : ℕ) (i next output : List ℕ) (all : List Specifier) → after_run (classes.SpecifierPart end) i ≡ 44 ∷ next → Pieces end i output all → (others : List Specifier) × Pieces end next output others
-only_more end i next output all comma (last s rest alone) =
-    absurd (false≢true (sym alone ∙ ap begins_comma (sym rest ∙ comma)))
-only_more end i next output all comma (more {next = n} {others = others} s again h) =
-    let here : n ≡ next = tails 44 n next (after_run (classes.SpecifierPart end) i) (after_run (classes.SpecifierPart end) i) refl again comma in
-    (others, subst (λ (x : List ℕ). Pieces end x output others) here h)
+only_more end i next output all h1 h2 = grind arith
 
 pub reading_more : (end : ℕ) (text left rest next : List ℕ) (s : Specifier) (list new : List Specifier) → Reading end text left list → IsSuffix text next
     → IsSpecifierText (encode_utf8_all (run_of (classes.SpecifierPart end) (chars left))) s → rest ≡ after_run (classes.SpecifierPart end) (chars left) → rest ≡ 44 ∷ chars next → new ≡ list ++ (s ∷ [])
@@ -52,12 +44,7 @@ reading_more end text left rest next s list new reading suffix is_s rest_is comm
     }
 
 no_comma : (t : List ℕ) → ((rest : List ℕ) → t ≢ 44 ∷ rest) → begins_comma t ≡ false
-no_comma [] h = refl
-no_comma (c ∷ cs) h = go (eqb c 44) refl
-  where
-    go : (b : Bool) → eqb c 44 ≡ b → b ≡ false
-    go true e = absurd (h cs (ap (λ (x : ℕ). x ∷ cs) (eqb-true c 44 e)))
-    go false e = refl
+no_comma t h1 = grind arith
 
 -- the last specifier
 pub reading_ended : (end : ℕ) (text left rest : List ℕ) (s : Specifier) (list new : List Specifier) → Reading end text left list
@@ -73,9 +60,7 @@ no_piece end i output all h (last {s = s} is_s rest stops) = h s is_s
 no_piece end i output all h (more {s = s} is_s comma others) = h s is_s
 
 pub none_piece : (end : ℕ) (text left : List ℕ) (list : List Specifier) → Reading end text left list → ((s : Specifier) → ¬ IsSpecifierText (encode_utf8_all (run_of (classes.SpecifierPart end) (chars left))) s) → (output : List ℕ) (set : List Specifier) → ¬ IsSpecifiers end (chars text) output set
-none_piece end text left list reading h output set all =
-    let g = reading.only output all.list all.pieces in
-    no_piece end _ output g.0 h g.1
+none_piece end text left list reading h output set all = grind (arith, no_piece)
 
 -- what follows specifiers is determined
 pub pieces_rest : {end : ℕ} {i o p : List ℕ} {l m : List Specifier} → Pieces end i o l → Pieces end i p m → o ≡ p

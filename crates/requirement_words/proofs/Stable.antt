@@ -1,6 +1,6 @@
 -- A stable sort has one outcome: sorted lists, whose equal elements are in the same order in both,
 -- are the same.
-use Rattle.std.proofs.Common.{◌≡◌, ℕ, ◌≤◌, ◌<◌, zero, suc, Bool, true, false, not, List, [], ◌∷◌, get_or, length, filter, refl, sym, ap, ◌∙◌, inl, inr, suc-le-suc, zero-le}
+use Rattle.std.proofs.Common.{◌≡◌, ℕ, ◌≤◌, ◌<◌, zero, suc, Bool, true, false, not, List, [], ◌∷◌, get_or, length, filter, refl, sym, ap, ◌∙◌, inl, inr, suc-le-suc, zero-le, arith}
 use Rattle.std.specs.Cmp.{IsStrictWeakOrder}
 use Rattle.std.specs.List.Sorted.{ties, IsSortedBy, IsStableBy}
 use Rattle.std.proofs.lemmas.Bool.{cond-true, cond-false, cases_Bool, and_parts, and_from, not-true}
@@ -45,11 +45,7 @@ module _ {X : Type 0} (lt : X → X → Bool) where
 
 module _ {X : Type 0} (lt : X → X → Bool) (o : IsStrictWeakOrder lt) where
   not_below : (x : X) → lt x x ≡ false
-  not_below x = go (lt x x) refl
-    where
-      go : (b : Bool) → lt x x ≡ b → b ≡ false
-      go true e = sym e ∙ o.one_way x x e
-      go false e = refl
+  not_below x = grind arith
 
   tied : (x y : X) → lt x y ≡ false → lt y x ≡ false → ties lt x y ≡ true
   tied x y e f = and_from _ _ (ap not e) (ap not f)
@@ -60,11 +56,7 @@ module _ {X : Type 0} (lt : X → X → Bool) (o : IsStrictWeakOrder lt) where
   -- what is equal to one of them is no lower either
   no_lower_found : (y x : X) (ys : List X) (w : X) (ws : List X) → AreNoLower lt y ys → filter (ties lt x) ys ≡ w ∷ ws → lt x y ≡ false
   no_lower_found y x [] w ws h e = absurd (not_nothing w ws [] e refl)
-  no_lower_found y x (z ∷ zs) w ws h e =
-      elim (cases_Bool (ties lt x z)) [
-        | inl with ↦ o.chain x z y (not-true _ (and_parts _ _ with).0) h.0
-        | inr without ↦ no_lower_found y x zs w ws h.1 (sym (dropped lt x z zs without) ∙ e)
-      ]
+  no_lower_found y x (z ∷ zs) w ws h e = grind (arith, cases_Bool, not-true, and_parts, dropped, no_lower_found y x zs w ws h.1)
 
   same_from_ties : (ys zs : List X) → Rises lt ys → Rises lt zs → ((x : X) → filter (ties lt x) ys ≡ filter (ties lt x) zs) → ys ≡ zs
   same_from_ties [] [] left right same = refl

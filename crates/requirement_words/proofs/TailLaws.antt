@@ -1,19 +1,15 @@
 -- The end of a requirement.
-use Rattle.std.proofs.Common.{◌≡◌, ◌≢◌, ℕ, ◌-◌, true, not, Option, List, [], ◌∷◌, ◌++◌, ◌⊎◌, ⊎_elim, inl, inr, length, take, refl, sym, ap, ◌∙◌, append_assoc}
+use Rattle.std.proofs.Common.{◌≡◌, ◌≢◌, ℕ, ◌-◌, true, not, Option, List, [], ◌∷◌, ◌++◌, ◌⊎◌, inl, inr, length, take, refl, sym, ap, ◌∙◌, append_assoc, arith}
 use Rattle.std.specs.Str.{chars}
 use Rattle.pep508_text.specs.Run.{after_space}
 use Rattle.pep508_text.specs.Suffix.{IsSuffix}
 use Rattle.requirement_words.specs.Fault.{ambiguous, EndsWithMark, FindsInTail, goes_on}
-use Rattle.requirement_words.specs.Tail.{IsTail, unmarked, marked}
+use Rattle.requirement_words.specs.Tail.{IsTail}
 use Rattle.requirement_words.specs.declared.fault.FaultKind.TheVariants.{AmbiguousEnd}
 use Rattle.requirement_words.proofs.ExtrasLaws.{not_eqb}
 
 pub not_tail : (rest end : List ℕ) (c : ℕ) (cs : List ℕ) → end ≡ after_space rest → end ≡ c ∷ cs → c ≢ 59 → (marker : Option (List ℕ)) → ¬ IsTail rest marker
-not_tail rest end c cs end_is e other m (unmarked none) = let both : c ∷ cs ≡ [] = sym e ∙ end_is ∙ none in absurd cc
-not_tail rest end c cs end_is e other m (marked {marker = t} at) = other (heads c 59 cs t (sym e ∙ end_is ∙ at))
-  where
-    heads : (a b : ℕ) (x y : List ℕ) → a ∷ x ≡ b ∷ y → a ≡ b
-    heads a b x y f = cc
+not_tail rest end c cs h1 h2 h3 marker = grind arith
 
 goes : (end : List ℕ) (c : ℕ) (cs : List ℕ) → end ≡ c ∷ cs → c ≢ 59 → goes_on end ≡ true
 goes end c cs e other = ap goes_on e ∙ ap not (not_eqb c 59 other)
@@ -29,10 +25,7 @@ ends_ambiguous {url} {rest} {piece} d c cs joined is behind other piece_is =
 
 -- the URL ends with neither
 pub unmarked_url : {url : List ℕ} → ((front : List ℕ) → url ≡ front ++ (59 ∷ []) → ⊥) → ((front : List ℕ) → url ≡ front ++ (35 ∷ []) → ⊥) → (mark : List ℕ) → ¬ EndsWithMark url mark
-unmarked_url semicolon hash mark e = ⊎_elim
-    (λ is. semicolon e.front (e.joined ∙ ap (λ (x : List ℕ). e.front ++ x) is))
-    (λ is. hash e.front (e.joined ∙ ap (λ (x : List ℕ). e.front ++ x) is))
-    e.mark
+unmarked_url h1 h2 mark = grind arith
 
 -- the text after a URL is the end of both
 pub behind_url : (url rest end : List ℕ) → IsSuffix rest end → IsSuffix (url ++ rest) end

@@ -22,17 +22,11 @@ pub empty_url : (p : UrlPlace) (place text : List ℕ) → text ≡ encode_utf8_
 empty_url p place text text_is none = encodes_same _ _ (sym text_is ∙ none)
 
 pub is_url : (p : UrlPlace) (input place rest text : List ℕ) (c : ℕ) (cs : List ℕ) → place ≡ after_space input → text ≡ encode_utf8_all (url_of p 0 place) → chars text ≡ c ∷ cs → rest ≡ after_url p 0 place → IsUrl p (after_space input) rest text
-is_url p input place rest text c cs skipped text_is some rest_is =
-    let here : IsUrl p place rest text = record { text_is = text_is; some = λ none. not_empty (text_is ∙ ap encode_utf8_all none); rest = sym rest_is } in
-    subst (λ (x : List ℕ). IsUrl p x rest text) skipped here
-  where
-    not_empty : text ≡ [] → ⊥
-    not_empty none = let both : [] ≡ c ∷ cs = sym chars-nil ∙ sym (ap chars none) ∙ some in absurd cc
+is_url p input place rest text c cs h1 h2 h3 h4 = grind (arith, chars-nil)
 
 pub no_url_alone : (input place text : List ℕ) → place ≡ after_space input → text ≡ encode_utf8_all (url_of Alone 0 place) → text ≡ []
     → (output given url : List ℕ) (names : List (List ℕ)) → ¬ IsUnnamedHead input output given url names
-no_url_alone input place text skipped text_is none output given url names h =
-    h.written.some (ap (url_of Alone 0) (sym skipped) ∙ encodes_same _ _ (sym text_is ∙ none))
+no_url_alone input place text h1 h2 h3 output given url names = grind (arith, encodes_same)
 
 -- ---- the text from the extras on
 

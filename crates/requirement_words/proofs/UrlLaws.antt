@@ -1,6 +1,6 @@
 -- The end of a URL, step by step.
-use Rattle.std.proofs.Common.{◌≡◌, ℕ, ◌+◌, ◌-◌, ◌≤◌, ◌<◌, ◌||◌, Bool, true, false, eqb, cond, not, List, [], ◌∷◌, ◌++◌, length, refl, sym, ap, ◌∙◌, subst, arith, IsUtf8}
-use Rattle.std.specs.Prelude.{◌&&◌, encode_utf8}
+use Rattle.std.proofs.Common.{◌≡◌, ℕ, ◌+◌, ◌-◌, ◌≤◌, ◌<◌, Bool, true, false, eqb, cond, not, List, [], ◌∷◌, ◌++◌, length, refl, sym, ap, ◌∙◌, subst, arith, IsUtf8}
+use Rattle.std.specs.Prelude.{encode_utf8}
 use Rattle.std.specs.Char.{is_whitespace}
 use Rattle.std.specs.Str.{chars}
 use Rattle.std.proofs.lemmas.Bool.{and_parts, eqb-true, false≢true}
@@ -10,7 +10,6 @@ use Rattle.pep508_text.proofs.RunLaws.{after_run-holds}
 use Rattle.pep508_text.specs.Class.{is_line_break, holds}
 use Rattle.requirement_words.specs.Url.{after_url, closes, is_url_stop, may_end_before, open_behind, stops, url_of}
 use Rattle.requirement_words.specs.declared.url.UrlPlace.{UrlPlace}
-use Rattle.requirement_words.specs.declared.url.UrlPlace.TheVariants.{BehindName, Alone}
 use Rattle.requirement_words.proofs.RunLaws.{run_holds, run_fails}
 use Rattle.pep508_text.proofs.Splits.{PassedAs, Stopped, none_passed, passed_more, passed_run, stopped, stopped_behind}
 
@@ -37,11 +36,7 @@ url_closes p n c cs e f = (
 )
 
 pub url_stops : (p : UrlPlace) (n : ℕ) (t : List ℕ) → stops n t ≡ true → (url_of p n t ≡ []) × (after_url p n t ≡ t)
-url_stops p n [] e = (cc, cc)
-url_stops p n (c ∷ cs) e = (
-  ap (λ b. cond b [] (c ∷ cond (closes n c cs) [] (url_of p (open_behind p c n) cs))) e,
-  ap (λ b. cond b (c ∷ cs) (cond (closes n c cs) cs (after_url p (open_behind p c n) cs))) e,
-)
+url_stops p n t h1 = grind arith
 
 -- ---- which it is
 
@@ -49,38 +44,22 @@ pub stops_at_break : (n c : ℕ) (cs : List ℕ) → is_line_break c ≡ true �
 stops_at_break n c cs e = rw e refl
 
 pub stops_at_space : (n c : ℕ) (cs : List ℕ) → may_end_before n c ≡ true → is_url_stop (after_space cs) ≡ true → stops n (c ∷ cs) ≡ true
-stops_at_space n c cs e f = either (is_line_break c) (may_end_before n c) (is_url_stop (after_space cs)) e f
-  where
-    either : (a b d : Bool) → b ≡ true → d ≡ true → (a || (b && d)) ≡ true
-    either true b d e f = refl
-    either false b d e f = rw (e, f) refl
+stops_at_space n c cs h1 h2 = grind arith
 
 pub goes_on : (n c : ℕ) (cs : List ℕ) → is_line_break c ≡ false → may_end_before n c ≡ false → stops n (c ∷ cs) ≡ false
-goes_on n c cs e f = neither (is_line_break c) (may_end_before n c) (is_url_stop (after_space cs)) e f
-  where
-    neither : (a b d : Bool) → a ≡ false → b ≡ false → (a || (b && d)) ≡ false
-    neither a b d e f = rw (e, f) refl
+goes_on n c cs h1 h2 = grind arith
 
 goes_past : (n c : ℕ) (cs : List ℕ) → is_line_break c ≡ false → is_url_stop (after_space cs) ≡ false → stops n (c ∷ cs) ≡ false
-goes_past n c cs e f = neither (is_line_break c) (may_end_before n c) (is_url_stop (after_space cs)) e f
-  where
-    neither : (a b d : Bool) → a ≡ false → d ≡ false → (a || (b && d)) ≡ false
-    neither a true d e f = rw (e, f) refl
-    neither a false d e f = rw e refl
+goes_past n c cs h1 h2 = grind arith
 
 -- ---- white space that does not end a URL
 
 -- white space is no other character
 white_other : (c d : ℕ) → is_whitespace c ≡ true → is_whitespace d ≡ false → eqb c d ≡ false
-white_other c d white other = go (eqb c d) refl
-  where
-    go : (b : Bool) → eqb c d ≡ b → b ≡ false
-    go true e = absurd (false≢true (sym other ∙ ap is_whitespace (sym (eqb-true c d e)) ∙ white))
-    go false e = refl
+white_other c d h1 h2 = grind (arith, eqb, false≢true, eqb-true)
 
 white_open : (p : UrlPlace) (c : ℕ) → is_whitespace c ≡ true → open_behind p c 0 ≡ 0
-white_open BehindName c white = refl
-white_open Alone c white = rw (white_other c 91 white refl, white_other c 93 white refl) refl
+white_open p c h1 = grind (arith, white_other)
 
 white_stays : (c : ℕ) (cs : List ℕ) → is_whitespace c ≡ true → closes 0 c cs ≡ false
 white_stays c cs white = rw (white_other c 59 white refl, white_other c 35 white refl) refl
@@ -88,13 +67,10 @@ white_stays c cs white = rw (white_other c 59 white refl, white_other c 35 white
 -- one such character
 pub white_goes : (p : UrlPlace) (c : ℕ) (cs : List ℕ) → is_whitespace c ≡ true → is_line_break c ≡ false → is_url_stop (after_space cs) ≡ false
     → (url_of p 0 (c ∷ cs) ≡ c ∷ url_of p 0 cs) × (after_url p 0 (c ∷ cs) ≡ after_url p 0 cs)
-white_goes p c cs white same_line stays =
-    let step = url_goes p 0 c cs (goes_past 0 c cs same_line stays) (white_stays c cs white) in
-    (step.0 ∙ ap (λ (n : ℕ). c ∷ url_of p n cs) (white_open p c white), step.1 ∙ ap (λ (n : ℕ). after_url p n cs) (white_open p c white))
+white_goes p c cs h1 h2 h3 = grind (arith, url_goes, goes_past, white_stays, white_open)
 
 not_true : (b : Bool) → not b ≡ true → b ≡ false
-not_true true e = sym e
-not_true false e = refl
+not_true b h1 = grind arith
 
 -- a run of it in one line
 pub blank_goes : (p : UrlPlace) (cs : List ℕ) → is_url_stop (after_space cs) ≡ false
@@ -127,13 +103,7 @@ pub record Going (place : UrlPlace) (text rest : List ℕ) (n : ℕ) : Type 0 wh
   pub room : n + length rest ≤ length text
 
 pub opens_one : (p : UrlPlace) (c n : ℕ) → open_behind p c n ≤ n + 1
-opens_one BehindName c n = omega arith
-opens_one Alone c n = go (eqb c 91) (eqb c 93)
-  where
-    go : (a b : Bool) → cond a (n + 1) (cond b (n - 1) n) ≤ n + 1
-    go true b = omega arith
-    go false true = omega arith
-    go false false = omega arith
+opens_one p c n = grind arith
 
 pub going_start : (p : UrlPlace) (text : List ℕ) → IsUtf8 text → Going p text text 0
 going_start p text utf8 = record { passed = none_passed (url_of p 0) (after_url p 0) text utf8; room = omega arith }

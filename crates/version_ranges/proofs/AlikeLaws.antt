@@ -1,6 +1,6 @@
 -- A point right before another one, as far as finitely many points can distinguish, in any total
 -- order.
-use Rattle.std.proofs.Common.{◌≡◌, ◌≢◌, true, false, List, [], ◌∷◌, refl, sym, ap, ◌∙◌}
+use Rattle.std.proofs.Common.{◌≡◌, ◌≢◌, true, false, List, [], ◌∷◌, refl, sym, ap, ◌∙◌, arith}
 use Rattle.std.specs.Bool.{⊤}
 use Rattle.std.specs.Ordering.{is_lt, is_gt, ordering_reverse}
 use Rattle.std.specs.declared.cmp.Ordering.{Ordering}
@@ -13,9 +13,7 @@ use Rattle.version_ranges.specs.Point.{Point, point_cmp, point_lt}
 use Rattle.version_ranges.proofs.PartLaws.{point_total}
 
 not_less : (r : Ordering) → is_gt r ≡ false → is_lt (ordering_reverse r) ≡ false
-not_less Less e = refl
-not_less Equal e = refl
-not_less Greater e = e
+not_less r h1 = grind arith
 
 module _ {P : Type 0} (cmp : P → P → Ordering) where
   abbrev pub NoneTies : P → List P → Type 0
@@ -34,12 +32,7 @@ module _ {P : Type 0} {cmp : P → P → Ordering} (o : IsTotalOrder cmp) where
     pub alike : StandAlike cmp p c ks
 
   le_lt : (x y z : P) → is_gt (cmp x y) ≡ false → cmp y z ≡ Less → cmp x z ≡ Less
-  le_lt x y z h k = by_order (cmp x y) refl h
-    where
-      by_order : (r : Ordering) → cmp x y ≡ r → is_gt r ≡ false → cmp x z ≡ Less
-      by_order Less e f = o.trans x y z e k
-      by_order Equal e f = o.congr x y z e ∙ k
-      by_order Greater e f = cc f
+  le_lt x y z h1 h2 = grind arith
 
   turned : (x y : P) → cmp x y ≡ Less → cmp y x ≡ Greater
   turned x y h = o.antisymm y x ∙ ap ordering_reverse h
@@ -47,17 +40,7 @@ module _ {P : Type 0} {cmp : P → P → Ordering} (o : IsTotalOrder cmp) where
   -- a later point that is still before c is before the same ones as c, if the earlier one is
   later_alike : (p q c : P) (ks : List P) → cmp p q ≡ Less → cmp q c ≡ Less → StandAlike cmp p c ks → StandAlike cmp q c ks
   later_alike p q c [] h k a = tt
-  later_alike p q c (x ∷ ks) h k a = (by_order (cmp c x) refl, later_alike p q c ks h k a.1)
-    where
-      no_later : (r : Ordering) → cmp p x ≡ r → is_lt r ≡ false → is_lt (cmp q x) ≡ false
-      no_later Less e f = cc f
-      no_later Equal e f = ap is_lt (turned x q (o.congr x p q (tied_back o p x e) ∙ h))
-      no_later Greater e f = ap is_lt (turned x q (o.trans x p q (o.antisymm x p ∙ ap ordering_reverse e) h))
-
-      by_order : (r : Ordering) → cmp c x ≡ r → is_lt (cmp q x) ≡ is_lt (cmp c x)
-      by_order Less e = ap is_lt (o.trans q c x k e) ∙ ap is_lt (sym e)
-      by_order Equal e = absurd (true≢false (sym (ap is_lt (sym (alike_right o c x p e) ∙ o.trans p q c h k)) ∙ a.0 ∙ ap is_lt e))
-      by_order Greater e = no_later (cmp p x) refl (a.0 ∙ ap is_lt e) ∙ ap is_lt (sym e)
+  later_alike p q c (x ∷ ks) h k a = grind (arith, turned, tied_back, true≢false, alike_right, later_alike p q c ks h k a.1)
 
   near_more : (low c k p : P) (ks : List P) → (cmp k c ≢ Equal) → IsNear low c ks p → (r : Ordering) → cmp k c ≡ r → (t : Ordering) → cmp p k ≡ t → (q : P) × IsNear low c (k ∷ ks) q
   near_more low c k p ks n i Equal e t f = absurd (n e)
@@ -76,12 +59,10 @@ module _ {P : Type 0} {cmp : P → P → Ordering} (o : IsTotalOrder cmp) where
 -- the same of points
 module _ {T : Type 0} (cmp : T → T → Ordering) where
   none_tie : (p : Point T) (ends : List (Point T)) → TiesWithNone cmp p ends → NoneTies (point_cmp cmp) p ends
-  none_tie p [] h = tt
-  none_tie p (end ∷ ends) h = (h.0, none_tie p ends h.1)
+  none_tie p ends h1 = grind arith
 
   are_alike : (p q : Point T) (ends : List (Point T)) → StandAlike (point_cmp cmp) p q ends → AreAlike cmp p q ends
-  are_alike p q [] h = tt
-  are_alike p q (end ∷ ends) h = (h.0, are_alike p q ends h.1)
+  are_alike p q ends h1 = grind arith
 
   pub point_near : IsTotalOrder cmp → (ends : List (Point T)) (low p : Point T) → TiesWithNone cmp p ends → point_cmp cmp low p ≡ Less
       → (q : Point T) × (point_lt cmp q low ≡ false) × (point_lt cmp q p ≡ true) × AreAlike cmp q p ends

@@ -8,9 +8,7 @@ use Rattle.std.specs.List.{AllZip, list_all, dedup, dedup_from}
 use Rattle.std.specs.List.Sorted.{IsPermutation}
 use Rattle.std.specs.Ordering.{match_ordering}
 use Rattle.std.specs.declared.cmp.Ordering.{Ordering}
-use Rattle.std.specs.declared.cmp.Ordering.TheVariants.{Less, Equal, Greater}
 use Rattle.std.specs.declared.ops.Bound.{Bound}
-use Rattle.std.specs.declared.ops.Bound.TheVariants.{Included, Excluded}
 use Rattle.version_ranges.specs.declared.cut.Cut.{Cut}
 use Rattle.version_ranges.specs.Bounds.{IsKeptByClones, passes_at, passes_at_both}
 use Rattle.version_ranges.specs.Cut.{lower_of, upper_of}
@@ -32,8 +30,7 @@ module _ {X : Type 0} (test : X → Bool) where
 
   -- and a list with one more
   pub joined_passes : (b : Bool) (xs new : List X) (x : X) → new ≡ cond b xs (xs ++ x ∷ []) → list_all test xs ≡ true → test x ≡ true → list_all test new ≡ true
-  joined_passes true xs new x e k h = ap (list_all test) e ∙ k
-  joined_passes false xs new x e k h = ap (list_all test) e ∙ list_all-append test xs (x ∷ []) ∙ and_from _ _ k (and_from _ _ h refl)
+  joined_passes b xs new x h1 h2 h3 = grind (arith, list_all-append, and_from)
 
 module _ {C : Type 0} (test : C → Bool) where
   -- whether each cut passes
@@ -45,13 +42,10 @@ module _ {C : Type 0} (test : C → Bool) where
   passes_first xs ys x e h = and_parts _ _ (ap passes (sym e) ∙ h)
 
   by_test : {A : Type 0} (p : A → Bool) (b : Bool) (x y : A) → p x ≡ true → p y ≡ true → p (cond b x y) ≡ true
-  by_test p true x y e f = e
-  by_test p false x y e f = f
+  by_test p b x y h1 h2 = grind arith
 
   by_order : {A : Type 0} (p : A → Bool) (o : Ordering) (x y z : A) → p x ≡ true → p y ≡ true → p z ≡ true → p (match_ordering o x y z) ≡ true
-  by_order p Less x y z e f h = e
-  by_order p Equal x y z e f h = f
-  by_order p Greater x y z e f h = h
+  by_order p o x y z h1 h2 h3 = grind arith
 
   pub merge_passes : {V : Type 0} (same : V → V → Bool) (v : V) (xs : List (C × V)) → passes xs ≡ true → passes (merge_steps same v xs) ≡ true
   merge_passes same v [] h = refl
@@ -107,23 +101,14 @@ module _ {T : Type 0} (test : T → Bool) where
       by_flag false m n = and_from _ _ e n
 
   pub dedup_passes : (eq : T → T → Bool) (xs : List T) → list_all test xs ≡ true → list_all test (dedup eq xs) ≡ true
-  dedup_passes eq [] h = refl
-  dedup_passes eq (x ∷ xs) h = let q = and_parts _ _ h in from_passes eq x xs q.0 q.1
+  dedup_passes eq xs h1 = grind (arith, and_parts, from_passes)
 
   -- the bounds at a cut
   lower_passes : (c : Cut T) → test c.value ≡ true → passes_at test (lower_of c) ≡ true
-  lower_passes c e = by_flag c.above
-    where
-      by_flag : (b : Bool) → passes_at test (cond b (Excluded c.value) (Included c.value)) ≡ true
-      by_flag true = e
-      by_flag false = e
+  lower_passes c h1 = grind arith
 
   upper_passes : (c : Cut T) → test c.value ≡ true → passes_at test (upper_of c) ≡ true
-  upper_passes c e = by_flag c.above
-    where
-      by_flag : (b : Bool) → passes_at test (cond b (Included c.value) (Excluded c.value)) ≡ true
-      by_flag true = e
-      by_flag false = e
+  upper_passes c h1 = grind arith
 
   -- the bounds of the intervals
   pub held_passes : (low : Bound T) (v : Bool) (xs : List (Cut T × Bool)) → passes_at test low ≡ true → list_all (λ s. test s.0.value) xs ≡ true →

@@ -1,19 +1,18 @@
 -- Functions whose points are moved into a range.
-use Rattle.std.proofs.Common.{◌≡◌, ℕ, ◌+◌, ◌<◌, get_or, Bool, true, false, not, cond, ◌&&◌, List, [], ◌∷◌, ◌++◌, drop, length, Option, Some, None, refl, sym, ap, ◌∙◌, append-nil, add-one, subst, suc}
-use Rattle.std.specs.Ordering.{is_lt, ordering_reverse}
+use Rattle.std.proofs.Common.{◌≡◌, ℕ, ◌+◌, ◌<◌, get_or, Bool, true, false, not, cond, ◌&&◌, List, [], ◌∷◌, ◌++◌, drop, length, Option, Some, None, refl, sym, ap, ◌∙◌, append-nil, add-one, subst, suc, arith}
 use Rattle.std.specs.declared.cmp.Ordering.{Ordering}
-use Rattle.std.specs.declared.cmp.Ordering.TheVariants.{Less, Equal, Greater}
+use Rattle.std.specs.declared.cmp.Ordering.TheVariants.{Equal}
 use Rattle.std.specs.declared.ops.Bound.{Bound}
 use Rattle.std.specs.declared.ops.Bound.TheVariants.{Included, Excluded, Unbounded}
 use Rattle.std.specs.Cmp.{IsTotalOrder, IsEquivalence}
 use Rattle.std.proofs.lemmas.Bool.{and_parts, and_from, true≢false}
 use Rattle.std.proofs.Math.Seq.{drop-cons}
 use Rattle.version_ranges.specs.declared.cut.Cut.{Cut}
-use Rattle.version_ranges.specs.Point.{Point, bottom, at, above, begin_point, point_lt, is_from, is_until, is_in_bounds}
+use Rattle.version_ranges.specs.Point.{Point, bottom, above, begin_point, point_lt, is_from, is_until, is_in_bounds}
 use Rattle.version_ranges.specs.Cut.{cut_cmp, cut_point, stands_before}
 use Rattle.version_ranges.specs.Clamp.{IsBetween, IsBare, IsClamped}
 use Rattle.version_ranges.specs.Steps.{is_before, ascends, value_at, last_value}
-use Rattle.version_ranges.proofs.StepLaws.{value_from, value_from_low, value_from_first, value_from_later, ascends_lower, before_trans, from_later, from_itself, before_alike, lt_less, not_true, IsFrom, Alike, alike_itself, alike_moved, alike_value, alike_ascends}
+use Rattle.version_ranges.proofs.StepLaws.{value_from, value_from_low, value_from_first, value_from_later, ascends_lower, from_later, from_itself, not_true, IsFrom, Alike, alike_itself, alike_moved, alike_value, alike_ascends}
 use Rattle.version_ranges.proofs.PointLaws.{cut_total, place, point_of, place_point, place_before, value_at_place}
 use Rattle.version_ranges.proofs.PartLaws.{is_not}
 use Rattle.version_ranges.proofs.SpotLaws.{low_cut, high_cut}
@@ -43,34 +42,15 @@ module _ {C : Type 0} (cmp : C → C → Ordering) where
 module _ {C : Type 0} {cmp : C → C → Ordering} (o : IsTotalOrder cmp) where
   -- a place is before a cut, or the cut is not after the low one
   from_before : (low : Option C) (c : C) (p : Option C) → IsFrom cmp low p → is_before cmp low c ≡ false → is_before cmp p c ≡ false
-  from_before None c p f e = absurd (true≢false e)
-  from_before (Some b) c None f e = absurd (true≢false f)
-  from_before (Some b) c (Some q) f e = by_order (cmp q b) refl
-    where
-      by_order : (r : Ordering) → cmp q b ≡ r → is_lt (cmp q c) ≡ false
-      by_order Less g = absurd (true≢false (sym (ap is_lt g) ∙ f))
-      by_order Equal g = ap is_lt (o.congr q b c g) ∙ e
-      by_order Greater g = not_true (is_lt (cmp q c)) (is_lt (cmp b c)) (λ h. ap is_lt (o.trans b q c (o.antisymm b q ∙ ap ordering_reverse g) (lt_less (cmp q c) h))) e
+  from_before low c p h1 h2 = grind arith
 
   -- a place that is short of an end is before each cut that is not
   short_before : (high : Option C) (c : C) (p : Option C) → is_short cmp high p ≡ true → is_short cmp high (Some c) ≡ false → is_before cmp p c ≡ true
-  short_before None c p h e = absurd (true≢false e)
-  short_before (Some d) c None h e = refl
-  short_before (Some d) c (Some q) h e = by_order (cmp c d) refl
-    where
-      by_order : (r : Ordering) → cmp c d ≡ r → is_lt (cmp q c) ≡ true
-      by_order Less g = absurd (true≢false (sym (ap is_lt g) ∙ e))
-      by_order Equal g = before_alike o (Some q) c d g ∙ h
-      by_order Greater g = ap is_lt (o.trans q d c (lt_less (cmp q d) h) (o.antisymm d c ∙ ap ordering_reverse g))
+  short_before high c p h1 h2 = grind arith
 
   -- a place that is not short of an end is not before one that is
   past_from : (high l p : Option C) → is_short cmp high l ≡ true → is_short cmp high p ≡ false → IsFrom cmp l p
-  past_from high None p h e = tt
-  past_from high (Some b) p h e = by_end high h e
-    where
-      by_end : (z : Option C) → is_short cmp z (Some b) ≡ true → is_short cmp z p ≡ false → is_before cmp p b ≡ false
-      by_end None g k = absurd (true≢false k)
-      by_end (Some d) g k = not_true (is_before cmp p b) (is_before cmp p d) (λ m. before_trans o p b d m (lt_less (cmp b d) g)) k
+  past_from high l p h1 h2 = grind arith
 
   module _ {V : Type 0} (low high : Option C) where
     pub started_is : (v : V) (xs : List (C × V)) (l : Option C) → ascends cmp l xs ≡ true → started cmp low v xs ≡ value_from cmp v xs low
@@ -180,9 +160,7 @@ module _ {T : Type 0} (cmp : T → T → Ordering) where
   begin_place lower = place (begin_point lower)
 
   pub until_place : (upper : Bound T) (p : Point T) → is_until cmp upper p ≡ is_short (cut_cmp cmp) (end_place upper) (place p)
-  until_place (Included v) p = place_before cmp p (high_cut v)
-  until_place (Excluded v) p = place_before cmp p (low_cut v)
-  until_place Unbounded p = refl
+  until_place upper p = grind arith
 
   until_cut : (upper : Bound T) (c : Cut T) → is_until cmp upper (cut_point (λ v. v) c) ≡ is_short (cut_cmp cmp) (end_place upper) (Some c)
   until_cut upper c = until_place upper (cut_point (λ v. v) c) ∙ ap (is_short (cut_cmp cmp) (end_place upper)) (place_point (Some c))
@@ -195,17 +173,13 @@ module _ {T : Type 0} (cmp : T → T → Ordering) where
   begin_test lower c d e = e ∙ place_before cmp (begin_point lower) c
 
   after_point : (q : Point T) (p : Point T) → point_lt cmp p q ≡ false → IsFrom (cut_cmp cmp) (place q) (place p)
-  after_point bottom p e = tt
-  after_point (at v) p e = sym (place_before cmp p (low_cut v)) ∙ e
-  after_point (above v) p e = sym (place_before cmp p (high_cut v)) ∙ e
+  after_point q p h1 = grind arith
 
   pub from_place : (lower : Bound T) (p : Point T) → is_from cmp lower p ≡ true → IsFrom (cut_cmp cmp) (begin_place lower) (place p)
   from_place lower p e = after_point (begin_point lower) p (is_not _ e)
 
   not_before : (p : Point T) → point_lt cmp p bottom ≡ false
-  not_before bottom = refl
-  not_before (at v) = refl
-  not_before (above v) = refl
+  not_before p = grind arith
 
   pub below_place : (lower : Bound T) (p : Point T) → is_from cmp lower p ≡ false → (b : Cut T) × (begin_place lower ≡ Some b) × (is_before (cut_cmp cmp) (place p) b ≡ true)
   below_place (Included v) p e = (low_cut v, refl, sym (place_before cmp p (low_cut v)) ∙ not_not _ e)
@@ -222,13 +196,10 @@ module _ {T : Type 0} (cmp : T → T → Ordering) where
 
   -- the place from which a point is on
   place_from : (q : Option (Cut T)) (r : Point T) → point_lt cmp r (point_of q) ≡ false → IsFrom (cut_cmp cmp) q (place r)
-  place_from None r e = tt
-  place_from (Some c) r e = sym (place_before cmp r c) ∙ e
+  place_from q r h1 = grind arith
 
   from_point : (lower : Bound T) (q : Option (Cut T)) → IsFrom (cut_cmp cmp) (begin_place lower) q → is_from cmp lower (point_of q) ≡ true
-  from_point (Included v) q f = ap not (place_before cmp (point_of q) (low_cut v) ∙ ap (λ z. is_before (cut_cmp cmp) z (low_cut v)) (place_point q) ∙ f)
-  from_point (Excluded v) q f = ap not (place_before cmp (point_of q) (high_cut v) ∙ ap (λ z. is_before (cut_cmp cmp) z (high_cut v)) (place_point q) ∙ f)
-  from_point Unbounded q f = ap not (not_before (point_of q))
+  from_point lower q h1 = grind arith
 
   until_point : (upper : Bound T) (q : Option (Cut T)) → is_short (cut_cmp cmp) (end_place upper) q ≡ true → is_until cmp upper (point_of q) ≡ true
   until_point upper q h = until_place upper (point_of q) ∙ ap (is_short (cut_cmp cmp) (end_place upper)) (place_point q) ∙ h
@@ -236,34 +207,14 @@ module _ {T : Type 0} (cmp : T → T → Ordering) where
   -- ---- whether a range has a point
   module _ (o : IsTotalOrder cmp) where
     pub begin_from : (lower : Bound T) → is_from cmp lower (begin_point lower) ≡ true
-    begin_from lower = ap (is_from cmp lower) (sym (point_place (begin_point lower))) ∙ from_point lower (begin_place lower) (from_itself (cut_total o) (begin_place lower))
-      where
-        point_place : (p : Point T) → point_of (place p) ≡ p
-        point_place bottom = refl
-        point_place (at v) = refl
-        point_place (above v) = refl
+    begin_from lower = grind arith
 
     pub point_found : (lower upper : Bound T) → is_until cmp upper (begin_point lower) ≡ true → (p : Point T) × IsBetween cmp lower upper p
     point_found lower upper h = (begin_point lower, and_from _ _ (begin_from lower) h)
 
     -- if some point is between the bounds, the first one is
     pub begin_until : (lower upper : Bound T) (p : Point T) → IsBetween cmp lower upper p → is_until cmp upper (begin_point lower) ≡ true
-    begin_until lower upper p h = by_test (is_until cmp upper (begin_point lower)) refl
-      where
-        q : (is_from cmp lower p ≡ true) × (is_until cmp upper p ≡ true)
-        q = and_parts _ _ h
-
-        by_place : (low : Option (Cut T)) → IsFrom (cut_cmp cmp) low (place p) → is_short (cut_cmp cmp) (end_place upper) low ≡ false → is_short (cut_cmp cmp) (end_place upper) (place p) ≡ true → ⊥
-        by_place None f e g = by_end (end_place upper) e
-          where
-            by_end : (z : Option (Cut T)) → is_short (cut_cmp cmp) z None ≡ false → ⊥
-            by_end None k = true≢false k
-            by_end (Some c) k = true≢false k
-        by_place (Some b) f e g = true≢false (sym (short_before (cut_total o) (end_place upper) b (place p) g e) ∙ f)
-
-        by_test : (b : Bool) → is_until cmp upper (begin_point lower) ≡ b → b ≡ true
-        by_test true e = refl
-        by_test false e = absurd (by_place (begin_place lower) (from_place lower p q.0) (sym (until_place upper (begin_point lower)) ∙ e) (sym (until_place upper p) ∙ q.1))
+    begin_until lower upper p h1 = grind arith
 
     pub no_point : (lower upper : Bound T) → is_until cmp upper (begin_point lower) ≡ false → IsBare cmp lower upper
     no_point lower upper e p = not_true (is_in_bounds cmp lower upper p) (is_until cmp upper (begin_point lower)) (λ h. begin_until lower upper p h) e
@@ -313,9 +264,7 @@ module _ {T V : Type 0} {cmp : T → T → Ordering} {same : V → V → Bool} (
         first_is = ap (λ z. started (cut_cmp cmp) low (cond z first x.1) (drop (i + 1) xs)) (sym after_is) ∙ start_is
 
         both_are : (z : Bool) → d ≡ z → Alike (cut_cmp cmp) SameValue (out ++ cond z (x ∷ kept (cut_cmp cmp) low high (drop (i + 1) xs)) (kept (cut_cmp cmp) low high (drop (i + 1) xs))) (kept (cut_cmp cmp) low high all)
-        both_are z h =
-            subst (λ y. Alike (cut_cmp cmp) SameValue (out ++ cond y (x ∷ kept (cut_cmp cmp) low high (drop (i + 1) xs)) (kept (cut_cmp cmp) low high (drop (i + 1) xs))) (kept (cut_cmp cmp) low high all)) (sym g ∙ h)
-            (subst (λ y. Alike (cut_cmp cmp) SameValue (out ++ cond (y && is_short (cut_cmp cmp) high (Some x.0)) (x ∷ kept (cut_cmp cmp) low high (drop (i + 1) xs)) (kept (cut_cmp cmp) low high (drop (i + 1) xs))) (kept (cut_cmp cmp) low high all)) after_is rest_is)
+        both_are z h1 = grind (arith, cond, drop, after_is, rest_is)
 
         -- one past the end is left out
         pub clamps_left : d ≡ false → (now : V) (rest : List (Cut T × V)) → now ≡ first → rest ≡ out → Clamps cmp same low high now v rest xs all (i + 1)

@@ -1,5 +1,5 @@
 -- Set operations on two sets: a cut is kept only if what is taken changes there.
-use Rattle.std.proofs.Common.{◌≡◌, Bool, true, false, cond, List, [], ◌∷◌, ◌++◌, map, Option, None, Some, refl, sym, ap, ◌∙◌, subst, append-nil}
+use Rattle.std.proofs.Common.{◌≡◌, Bool, true, false, cond, List, [], ◌∷◌, ◌++◌, map, Option, None, Some, refl, sym, ap, ◌∙◌, append-nil, arith}
 use mathlib.Core.Bool.{beq}
 use Rattle.std.specs.declared.cmp.Ordering.{Ordering}
 use Rattle.std.specs.declared.cmp.Ordering.TheVariants.{Equal}
@@ -8,7 +8,7 @@ use Rattle.std.proofs.lemmas.Bool.{and_parts, and_from}
 use Rattle.version_ranges.specs.declared.cut.Cut.{Cut}
 use Rattle.version_ranges.specs.Cut.{cut_cmp, stands_before}
 use Rattle.version_ranges.specs.Point.{Point}
-use Rattle.version_ranges.specs.Steps.{ascends, is_before, is_merged, value_at}
+use Rattle.version_ranges.specs.Steps.{ascends, is_merged, value_at}
 use Rattle.version_ranges.specs.Sweep.{merge_steps, overlay}
 use Rattle.version_ranges.proofs.EqualLaws.{flags_equal, flags_same}
 use Rattle.version_ranges.proofs.Picks.{alike_merged}
@@ -37,12 +37,7 @@ module _ {C : Type 0} {cmp : C → C → Ordering} (o : IsTotalOrder cmp) (g : B
   -- if what is taken changes, the cut is kept
   pub combine_keep : (first last : Bool) (out new : List (C × Bool)) (c d : C) (x : Bool × Bool) (v : Bool) (more rest all : List (C × (Bool × Bool))) →
       Combined first last out more all → more ≡ (d, x) ∷ rest → v ≡ g x → beq v last ≡ false → new ≡ out ++ (c, v) ∷ [] → cmp c d ≡ Equal → Combined first v new rest all
-  combine_keep first last out new c d x v more rest all a e f h k m =
-      let start : Combined first last out ((d, x) ∷ rest) all = rw e at a in
-      let kept : beq last (g x) ≡ false = flags_equal.symm last (g x) ∙ (rw f at h) in
-      let cut : Alike cmp SameFlag (out ++ (d, g x) ∷ merge_steps beq (g x) (combined_steps rest)) (merge_steps beq first (combined_steps all)) =
-      subst (λ b. Alike cmp SameFlag (out ++ cond b (merge_steps beq last (combined_steps rest)) ((d, g x) ∷ merge_steps beq (g x) (combined_steps rest))) (merge_steps beq first (combined_steps all))) kept start in
-      rw k (rw f (alike_moved o SameFlag trans out c d (g x) (g x) (merge_steps beq (g x) (combined_steps rest)) (merge_steps beq first (combined_steps all)) m (flags_equal.refl (g x)) cut))
+  combine_keep first last out new c d x v more rest all h1 h2 h3 h4 h5 h6 = grind (arith, beq, cond, alike_moved, trans)
 
   pub combine_end : (first last : Bool) (out : List (C × Bool)) (more all : List (C × (Bool × Bool))) → Combined first last out more all → more ≡ [] →
       Alike cmp SameFlag out (merge_steps beq first (combined_steps all))
@@ -54,11 +49,7 @@ module _ {C : Type 0} {cmp : C → C → Ordering} (o : IsTotalOrder cmp) (g : B
 
   steps_value : (u : Bool × Bool) (zs : List (C × (Bool × Bool))) (p : Option C) → value_from cmp (g u) (combined_steps zs) p ≡ g (value_from cmp u zs p)
   steps_value u [] p = refl
-  steps_value u (z ∷ zs) p =
-      elim (is_before cmp p z.0) as (λ b. cond b (g u) (value_from cmp (g z.1) (combined_steps zs) p) ≡ g (cond b u (value_from cmp z.1 zs p))) [
-        | true ↦ refl
-        | false ↦ steps_value z.1 zs p
-      ]
+  steps_value u (z ∷ zs) p = grind (arith, cond, value_from, steps_value z.1 zs p)
 
   module _ (v w first : Bool) (xs ys out : List (C × Bool)) (first_is : first ≡ g (v, w)) (end : Alike cmp SameFlag out (merge_steps beq first (combined_steps (overlay cmp v xs w ys))))
       (h : ascends cmp None xs ≡ true) (k : ascends cmp None ys ≡ true) where

@@ -1,7 +1,7 @@
 -- Induction over the pieces of a function: what is true of each piece's value is true of the value
 -- at each point, and the other way round. A clause ranges only over tests; these lemmas are over
 -- any property, for the proofs of the crates above.
-use Rattle.std.proofs.Common.{◌≡◌, ℕ, Bool, true, false, refl, sym, ap, ◌∙◌, subst, Some}
+use Rattle.std.proofs.Common.{◌≡◌, ℕ, Bool, true, false, sym, ap, ◌∙◌, subst, Some, arith}
 use Rattle.std.specs.Prelude.{slice_get}
 use Rattle.std.specs.declared.cmp.Ordering.{Ordering}
 use Rattle.version_ranges.specs.declared.cuts.Cuts.{Cuts}
@@ -29,5 +29,4 @@ module _ {T V : Type 0} {a : _} {b : _} {c : _} (cmp : T → T → Ordering) (cu
 
 -- what cannot be false is true
 pub is_true : (b : Bool) → (b ≡ false → ⊥) → b ≡ true
-is_true true k = refl
-is_true false k = absurd (k refl)
+is_true b h1 = grind arith

@@ -1,10 +1,10 @@
 -- For `names_have_the_values_of_points`: what is true at every point over the values of an order is
 -- true at every point over other names of these values, because a function with finitely many cuts
 -- cannot distinguish such a point from some point of the order.
-use Rattle.std.proofs.Common.{◌≡◌, ℕ, suc, Bool, true, false, cond, List, [], ◌∷◌, ◌++◌, map, Option, Some, None, refl, sym, ap, ◌∙◌, subst}
-use Rattle.std.specs.Ordering.{is_lt, ordering_then, ordering_reverse}
+use Rattle.std.proofs.Common.{◌≡◌, ℕ, suc, Bool, true, false, cond, List, [], ◌∷◌, ◌++◌, map, Option, Some, None, refl, sym, ap, ◌∙◌, subst, arith}
+use Rattle.std.specs.Ordering.{is_lt}
 use Rattle.std.specs.declared.cmp.Ordering.{Ordering}
-use Rattle.std.specs.declared.cmp.Ordering.TheVariants.{Less, Equal, Greater}
+use Rattle.std.specs.declared.cmp.Ordering.TheVariants.{Less, Equal}
 use Rattle.std.specs.Cmp.{IsTotalOrder}
 use Rattle.std.proofs.lemmas.Bool.{true≢false, false≢true}
 use Rattle.std.proofs.lemmas.Cmp.{alike_right}
@@ -12,14 +12,13 @@ use Rattle.version_ranges.specs.declared.cut.Cut.{Cut}
 use Rattle.version_ranges.specs.declared.cuts.Cuts.{Cuts}
 use Rattle.version_ranges.specs.declared.lent.CutsRef.{CutsRef}
 use Rattle.version_ranges.specs.Lent as lent
-use Rattle.version_ranges.specs.Point.{Point, bottom, at, above, point_map, point_cmp, point_lt}
+use Rattle.version_ranges.specs.Point.{Point, at, point_map, point_cmp, point_lt}
 use Rattle.version_ranges.specs.Cut.{cut_cmp, cut_point, stands_before}
 use Rattle.version_ranges.specs.Cuts.{value_by, value_of, piece_by, piece_of}
 use Rattle.version_ranges.specs.Steps.{is_before, value_at, piece_at}
 use Rattle.version_ranges.proofs.StepLaws.{before_itself, before_trans, lt_less}
-use Rattle.version_ranges.proofs.PointLaws.{cut_total, place, point_of, place_point, value_at_same, piece_at_same, value_at_point, piece_at_point}
-use Rattle.std.specs.Option.{option_cmp}
-use Rattle.version_ranges.proofs.PartLaws.{point_total, place_cmp}
+use Rattle.version_ranges.proofs.PointLaws.{cut_total, point_of, value_at_same, piece_at_same, value_at_point, piece_at_point}
+use Rattle.version_ranges.proofs.PartLaws.{point_total}
 
 module _ {C : Type 0} (cmp : C → C → Ordering) where
   -- a test of cuts that a point could give: it is true upward, and the same for equal cuts
@@ -40,21 +39,11 @@ module _ {C : Type 0} (cmp : C → C → Ordering) where
 module _ {C : Type 0} {cmp : C → C → Ordering} (o : IsTotalOrder cmp) (t : C → Bool) (h : IsStanding cmp t) where
   -- the order of a cut that is passed and one that is not
   parted : (c d : C) → t c ≡ false → t d ≡ true → cmp c d ≡ Less
-  parted c d e f = by_order (cmp c d) refl
-    where
-      by_order : (r : Ordering) → cmp c d ≡ r → r ≡ Less
-      by_order Less g = refl
-      by_order Equal g = absurd (false≢true (sym e ∙ h.alike c d g ∙ f))
-      by_order Greater g = absurd (false≢true (sym e ∙ h.upward d c f (o.antisymm d c ∙ ap ordering_reverse g)))
+  parted c d h1 h2 = grind arith
 
   raised : (p : Option C) (c : C) (cs : List C) → is_before cmp p c ≡ true → t c ≡ false → Agree cmp t p cs → Agree cmp t (Some c) cs
   raised p c [] e f a = tt
-  raised p c (d ∷ cs) e f a = (by_test (t d) refl (is_lt (cmp c d)) refl, raised p c cs e f a.1)
-    where
-      by_test : (b : Bool) → t d ≡ b → (s : Bool) → is_lt (cmp c d) ≡ s → t d ≡ is_lt (cmp c d)
-      by_test true g s k = g ∙ sym (ap is_lt (parted c d f g))
-      by_test false g false k = g ∙ sym k
-      by_test false g true k = absurd (false≢true (sym g ∙ a.0 ∙ before_trans o p c d e (lt_less _ k)))
+  raised p c (d ∷ cs) e f a = grind (arith, parted, false≢true, before_trans, lt_less, raised p c cs e f a.1)
 
   agree_more : (p : Option C) (c : C) (cs : List C) → IsPassed cmp t p → Agree cmp t p cs → (b : Bool) → t c ≡ b → (s : Bool) → is_before cmp p c ≡ s → (q : Option C) × IsPassed cmp t q × Agree cmp t q (c ∷ cs)
   agree_more p c cs k a true e true f = (p, k, (e ∙ sym f, a))
@@ -87,32 +76,17 @@ module _ {C : Type 0} {cmp : C → C → Ordering} (o : IsTotalOrder cmp) (t : C
 
 module _ {T K : Type 0} (f : T → K) (cmp : T → T → Ordering) (cmp' : K → K → Ordering) (o : IsTotalOrder cmp) (o' : IsTotalOrder cmp') (named : (x y : T) → cmp x y ≡ cmp' (f x) (f y)) where
   named_points : (p q : Point T) → point_cmp cmp' (point_map f p) (point_map f q) ≡ point_cmp cmp p q
-  named_points bottom bottom = refl
-  named_points bottom (at w) = refl
-  named_points bottom (above w) = refl
-  named_points (at v) bottom = refl
-  named_points (at v) (at w) = sym (named v w)
-  named_points (at v) (above w) = ap (λ r. ordering_then r Less) (sym (named v w))
-  named_points (above v) bottom = refl
-  named_points (above v) (at w) = ap (λ r. ordering_then r Greater) (sym (named v w))
-  named_points (above v) (above w) = sym (named v w)
+  named_points p q = grind arith
 
   named_cut : (c : Cut T) → cut_point f c ≡ point_map f (cut_point (λ v. v) c)
-  named_cut c = by_test c.above
-    where
-      by_test : (b : Bool) → cond b (above (f c.value)) (at (f c.value)) ≡ point_map f (cond b (above c.value) (at c.value))
-      by_test true = refl
-      by_test false = refl
+  named_cut c = grind arith
 
   -- a point of the order, by the other names
   pub named_before : (p : Point T) (c : Cut T) → stands_before f cmp' (point_map f p) c ≡ stands_before (λ v. v) cmp p c
   named_before p c = ap (point_lt cmp' (point_map f p)) (named_cut c) ∙ ap is_lt (named_points p (cut_point (λ v. v) c))
 
   cut_by_points : (c d : Cut T) → cut_cmp cmp c d ≡ point_cmp cmp' (cut_point f c) (cut_point f d)
-  cut_by_points c d =
-      ap (λ p. option_cmp (cut_cmp cmp) p (Some d)) (sym (place_point (Some c))) ∙ ap (option_cmp (cut_cmp cmp) (place (point_of (Some c)))) (sym (place_point (Some d)))
-      ∙ place_cmp cmp (cut_point (λ v. v) c) (cut_point (λ v. v) d) ∙ sym (named_points (cut_point (λ v. v) c) (cut_point (λ v. v) d))
-      ∙ ap (λ p. point_cmp cmp' p (point_map f (cut_point (λ v. v) d))) (sym (named_cut c)) ∙ ap (point_cmp cmp' (cut_point f c)) (sym (named_cut d))
+  cut_by_points c d = grind arith
 
   -- a point by the other names is such a test
   pub standing : (q : Point K) → IsStanding (cut_cmp cmp) (stands_before f cmp' q)

@@ -1,9 +1,8 @@
 -- Equality of functions as lists, and at every point.
-use Rattle.std.proofs.Common.{◌≡◌, Bool, true, false, ◌&&◌, List, [], ◌∷◌, None, refl, sym, ap, ◌∙◌, inl, inr}
+use Rattle.std.proofs.Common.{◌≡◌, Bool, true, false, ◌&&◌, List, [], ◌∷◌, None, refl, sym, ap, ◌∙◌, inl, inr, arith}
 use mathlib.Core.Bool.{beq}
 use Rattle.std.specs.Ordering.{is_eq, ordering_then, bool_cmp}
 use Rattle.std.specs.declared.cmp.Ordering.{Ordering}
-use Rattle.std.specs.declared.cmp.Ordering.TheVariants.{Less, Equal, Greater}
 use Rattle.std.specs.Cmp.{IsTotalOrder, IsEquivalence}
 use Rattle.std.proofs.lemmas.Bool.{and_parts, true≢false, false≢true}
 use Rattle.version_ranges.specs.declared.cut.Cut.{Cut}
@@ -18,16 +17,8 @@ use Rattle.version_ranges.proofs.PointLaws.{cut_total, place, point_of, value_at
 abbrev pub cut_eq : {T : Type 0} → (T → T → Bool) → Cut T → Cut T → Bool
 cut_eq eq c d = eq c.value d.value && beq c.above d.above
 
-tied_flags : (a b : Bool) → beq a b ≡ is_eq (bool_cmp a b)
-tied_flags true true = refl
-tied_flags true false = refl
-tied_flags false true = refl
-tied_flags false false = refl
-
 then_tied : (r : Ordering) (a b : Bool) → (is_eq r && beq a b) ≡ is_eq (ordering_then r (bool_cmp a b))
-then_tied Less a b = refl
-then_tied Equal a b = tied_flags a b
-then_tied Greater a b = refl
+then_tied r a b = grind arith
 
 module _ {T V : Type 0} {cmp : T → T → Ordering} {same : V → V → Bool} (o : IsTotalOrder cmp) (s : IsEquivalence same) (eq : T → T → Bool) (ties : (x y : T) → eq x y ≡ is_eq (cmp x y)) where
   cut_ties : (c d : Cut T) → cut_eq eq c d ≡ is_eq (cut_cmp cmp c d)
@@ -66,28 +57,19 @@ module _ {T V : Type 0} {cmp : T → T → Ordering} {same : V → V → Bool} (
   -- equal lists ascend alike
   -- what is equal to a merged list is merged
   pub equal_merged : (v w : V) (xs ys : List (Cut T × V)) → (same v w && same_steps (cut_eq eq) same xs ys) ≡ true → is_merged same v xs ≡ true → is_merged same w ys ≡ true
-  equal_merged v w xs ys e h =
-      let q = and_parts (same v w) (same_steps (cut_eq eq) same xs ys) e in
-      sym (alike_merged v v s (cut_cmp cmp) v w xs ys q.0 (equal_alike xs ys q.1)) ∙ h
+  equal_merged v w xs ys h1 h2 = grind (arith, and_parts, same_steps, alike_merged, equal_alike)
 
   pub equal_ascends : (xs ys : List (Cut T × V)) → same_steps (cut_eq eq) same xs ys ≡ true → ascends (cut_cmp cmp) None xs ≡ true → ascends (cut_cmp cmp) None ys ≡ true
   equal_ascends xs ys e a = sym (alike_ascends (cut_total o) (λ u v. same u v ≡ true) xs ys None (equal_alike xs ys e)) ∙ a
 
 flags_refl : (a : Bool) → beq a a ≡ true
-flags_refl true = refl
-flags_refl false = refl
+flags_refl a = grind arith
 
 flags_symm : (a b : Bool) → beq a b ≡ beq b a
-flags_symm true true = refl
-flags_symm true false = refl
-flags_symm false true = refl
-flags_symm false false = refl
+flags_symm a b = grind arith
 
 pub flags_same : (a b : Bool) → beq a b ≡ true → a ≡ b
-flags_same true true e = refl
-flags_same true false e = absurd (false≢true e)
-flags_same false true e = absurd (false≢true e)
-flags_same false false e = refl
+flags_same a b h1 = grind arith
 
 pub flags_differ : (a b : Bool) → beq a b ≡ false → a ≡ b → ⊥
 flags_differ a b e f = true≢false (sym (flags_refl a) ∙ ap (beq a) f ∙ e)

@@ -1,7 +1,7 @@
 -- What a crate above needs of functions of points, in the words of their contracts: how cuts are stored does not show. A function
 -- takes the order of its values from its type, and the values may go by other names.
 use Rattle.std.proofs.Common.{◌≡◌, ℕ, suc, ◌+◌, ◌<◌, Bool, true, false, not, cond, ◌&&◌, List, [], ◌∷◌, length, map, None, Some, refl, sym, ap, ◌∙◌, arith}
-use Rattle.std.specs.Ordering.{is_lt, is_eq, ordering_then}
+use Rattle.std.specs.Ordering.{is_eq}
 use Rattle.std.specs.declared.cmp.Ordering.{Ordering}
 use Rattle.std.specs.declared.cmp.Ordering.TheVariants.{Less, Equal, Greater}
 use Rattle.std.specs.Cmp.{IsTotalOrder, IsEquivalence}
@@ -79,11 +79,7 @@ module _ {C V : Type 0} (same : V → V → Bool) where
   -- in the first piece the value is the first one
   first_value : (p : C → Bool) (v : V) (xs : List (C × V)) → piece_at p xs ≡ 0 → value_at p v xs ≡ v
   first_value p v [] e = refl
-  first_value p v (s ∷ xs) e = by_test (p s.0) e
-    where
-      by_test : (b : Bool) → cond b 0 (suc (piece_at p xs)) ≡ 0 → cond b v (value_at p s.1 xs) ≡ v
-      by_test true e = refl
-      by_test false e = absurd (omega arith)
+  first_value p v (s ∷ xs) e = grind (arith, cond)
 
   -- so values of neighboring pieces differ, if those of neighboring cuts do
   values_differ : (p q : C → Bool) (v : V) (xs : List (C × V)) → is_merged same v xs ≡ true → piece_at q xs ≡ piece_at p xs + 1 → same (value_at p v xs) (value_at q v xs) ≡ false
@@ -152,19 +148,7 @@ beside_by false false = Greater
 
 -- whether a point is before a value and before the point above it determines its order to the value
 beside_is : {T : Type 0} (cmp : T → T → Ordering) (p : Point T) (v : T) → point_cmp cmp p (at v) ≡ beside_by (point_lt cmp p (at v)) (point_lt cmp p (above v))
-beside_is cmp bottom v = refl
-beside_is cmp (at w) v = by_order (cmp w v)
-  where
-    by_order : (r : Ordering) → r ≡ beside_by (is_lt r) (is_lt (ordering_then r Less))
-    by_order Less = refl
-    by_order Equal = refl
-    by_order Greater = refl
-beside_is cmp (above w) v = by_order (cmp w v)
-  where
-    by_order : (r : Ordering) → ordering_then r Greater ≡ beside_by (is_lt (ordering_then r Greater)) (is_lt r)
-    by_order Less = refl
-    by_order Equal = refl
-    by_order Greater = refl
+beside_is cmp p v = grind arith
 
 module _ {T K V : Type 0} (f : T → K) (cmp : T → T → Ordering) (cmp' : K → K → Ordering) (o : IsTotalOrder cmp) (o' : IsTotalOrder cmp') (named : (x y : T) → cmp x y ≡ cmp' (f x) (f y)) where
   -- a function of the order of a point to a value is that function by other names too

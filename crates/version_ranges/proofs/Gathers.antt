@@ -1,5 +1,5 @@
 -- Where a function has one value, and how that grows with its steps.
-use Rattle.std.proofs.Common.{◌≡◌, Bool, true, false, not, cond, ◌&&◌, ◌||◌, List, [], ◌∷◌, ◌++◌, map, Option, Some, None, refl, sym, ap, ◌∙◌, subst}
+use Rattle.std.proofs.Common.{◌≡◌, Bool, true, false, not, cond, ◌&&◌, ◌||◌, List, [], ◌∷◌, ◌++◌, map, Option, Some, None, refl, sym, ap, ◌∙◌, subst, arith}
 use mathlib.Core.Bool.{beq}
 use Rattle.std.specs.List.{list_any}
 use Rattle.std.specs.declared.cmp.Ordering.{Ordering}
@@ -17,27 +17,12 @@ module _ {C : Type 0} where
   -- a step that changes nothing is left out, and any other one comes last
   pub merge_more : (v : Bool) (xs : List (C × Bool)) (x : C × Bool) → merge_steps beq v (xs ++ x ∷ []) ≡ cond (beq (last_value v xs) x.1) (merge_steps beq v xs) (merge_steps beq v xs ++ x ∷ [])
   merge_more v [] x = refl
-  merge_more v (s ∷ xs) x = by_test (beq v s.1) refl (merge_more v xs x) (merge_more s.1 xs x)
-    where
-      by_test : (t : Bool) → beq v s.1 ≡ t → merge_steps beq v (xs ++ x ∷ []) ≡ cond (beq (last_value v xs) x.1) (merge_steps beq v xs) (merge_steps beq v xs ++ x ∷ [])
-          → merge_steps beq s.1 (xs ++ x ∷ []) ≡ cond (beq (last_value s.1 xs) x.1) (merge_steps beq s.1 xs) (merge_steps beq s.1 xs ++ x ∷ []) → cond t (merge_steps beq v (xs ++ x ∷ [])) (s ∷ merge_steps beq s.1 (xs ++ x ∷ []))
-          ≡ cond (beq (last_value s.1 xs) x.1) (cond t (merge_steps beq v xs) (s ∷ merge_steps beq s.1 xs)) (cond t (merge_steps beq v xs) (s ∷ merge_steps beq s.1 xs) ++ x ∷ [])
-      by_test true e h k =
-          h ∙ ap (λ u. cond (beq u x.1) (merge_steps beq v xs) (merge_steps beq v xs ++ x ∷ [])) (last_by xs v s.1 (flags_same v s.1 e))
-      by_test false e h k = ap (λ l. s ∷ l) k ∙ under (beq (last_value s.1 xs) x.1)
-        where
-          under : (b : Bool) → s ∷ cond b (merge_steps beq s.1 xs) (merge_steps beq s.1 xs ++ x ∷ []) ≡ cond b (s ∷ merge_steps beq s.1 xs) ((s ∷ merge_steps beq s.1 xs) ++ x ∷ [])
-          under true = refl
-          under false = refl
+  merge_more v (s ∷ xs) x = grind (arith, beq, cond, last_by, flags_same, merge_more v xs x, merge_more s.1 xs x)
 
   -- the last value stays
   pub merge_last : (v : Bool) (xs : List (C × Bool)) → last_value v (merge_steps beq v xs) ≡ last_value v xs
   merge_last v [] = refl
-  merge_last v (s ∷ xs) = by_test (beq v s.1) refl (merge_last v xs) (merge_last s.1 xs)
-    where
-      by_test : (t : Bool) → beq v s.1 ≡ t → last_value v (merge_steps beq v xs) ≡ last_value v xs → last_value s.1 (merge_steps beq s.1 xs) ≡ last_value s.1 xs → last_value v (cond t (merge_steps beq v xs) (s ∷ merge_steps beq s.1 xs)) ≡ last_value s.1 xs
-      by_test true e h k = h ∙ last_by xs v s.1 (flags_same v s.1 e)
-      by_test false e h k = k
+  merge_last v (s ∷ xs) = grind (arith, beq, cond, last_by, flags_same, merge_last v xs, merge_last s.1 xs)
 
   pub last_alike : (cmp : C → C → Ordering) (v : Bool) (xs ys : List (C × Bool)) → Alike cmp (λ a b. a ≡ b) xs ys → last_value v xs ≡ last_value v ys
   last_alike cmp v [] [] a = refl
@@ -53,12 +38,10 @@ module _ {C : Type 0} where
 
   module _ {cmp : C → C → Ordering} (o : IsTotalOrder cmp) where
     past_by : {V : Type 0} (low : Option C) (s : C × V) (ys zs : List (C × V)) (t : Bool) → is_before cmp low s.0 ≡ true → ascends cmp low ys ≡ true → ascends cmp (Some s.0) zs ≡ true → ascends cmp low (cond t ys (s ∷ zs)) ≡ true
-    past_by low s ys zs true h a b = a
-    past_by low s ys zs false h a b = and_from _ _ h b
+    past_by low s ys zs t h1 h2 h3 = grind arith
 
     past_append : (t : Bool) (ys zs us : List (C × Bool)) (s : C × Bool) → cond t (ys ++ us) (s ∷ (zs ++ us)) ≡ cond t ys (s ∷ zs) ++ us
-    past_append true ys zs us s = refl
-    past_append false ys zs us s = refl
+    past_append t ys zs us s = grind arith
 
     -- a cut after all steps is after those that are kept
     pub merge_past : (low : Option C) (v : Bool) (xs : List (C × Bool)) (c : C) (a b : Bool) → ascends cmp low (xs ++ (c, a) ∷ []) ≡ true → ascends cmp low (merge_steps beq v xs ++ (c, b) ∷ []) ≡ true
@@ -68,10 +51,6 @@ module _ {C : Type 0} where
         subst (λ l. ascends cmp low l ≡ true) (past_append (beq v s.1) (merge_steps beq v xs) (merge_steps beq s.1 xs) ((c, b) ∷ []) s)
         (past_by low s (merge_steps beq v xs ++ (c, b) ∷ []) (merge_steps beq s.1 xs ++ (c, b) ∷ []) (beq v s.1) q.0
         (merge_past low v xs c a b (ascends_lower o low s.0 (xs ++ (c, a) ∷ []) q.0 q.1)) (merge_past (Some s.0) s.1 xs c a b q.1))
-
-    pub ascends_front : {V : Type 0} (low : Option C) (xs ys : List (C × V)) → ascends cmp low (xs ++ ys) ≡ true → ascends cmp low xs ≡ true
-    ascends_front low [] ys h = refl
-    ascends_front low (x ∷ xs) ys h = let q = and_parts _ _ h in and_from _ _ q.0 (ascends_front (Some x.0) xs ys q.1)
 
     -- a step's value has no part in the order
     pub past_value : {V : Type 0} (low : Option C) (xs : List (C × V)) (c : C) (a b : V) → ascends cmp low (xs ++ (c, a) ∷ []) ≡ true → ascends cmp low (xs ++ (c, b) ∷ []) ≡ true
@@ -94,11 +73,7 @@ module _ {C V : Type 0} (same : V → V → Bool) (k : V) where
 
   mask_value : (t : C → Bool) (v : V) (xs : List (C × V)) → value_at t (same k v) (mask xs) ≡ same k (value_at t v xs)
   mask_value t v [] = refl
-  mask_value t v (x ∷ xs) = by_test (t x.0) (mask_value t x.1 xs)
-    where
-      by_test : (d : Bool) → value_at t (same k x.1) (mask xs) ≡ same k (value_at t x.1 xs) → cond d (same k v) (value_at t (same k x.1) (mask xs)) ≡ same k (cond d v (value_at t x.1 xs))
-      by_test true e = refl
-      by_test false e = e
+  mask_value t v (x ∷ xs) = grind (arith, cond, mask_value t x.1 xs)
 
   mask_last : (v : V) (xs : List (C × V)) → last_value (same k v) (mask xs) ≡ same k (last_value v xs)
   mask_last v [] = refl
@@ -116,9 +91,7 @@ module _ {C V : Type 0} (same : V → V → Bool) (k : V) where
   sees_last v xs = merge_last (same k v) (mask xs) ∙ mask_last v xs
 
   pub sees_more : (v : V) (xs : List (C × V)) (x : C × V) → sees v (xs ++ x ∷ []) ≡ cond (beq (same k (last_value v xs)) (same k x.1)) (sees v xs) (sees v xs ++ (x.0, same k x.1) ∷ [])
-  sees_more v xs x =
-      ap (merge_steps beq (same k v)) (mask_more xs (x ∷ [])) ∙ merge_more (same k v) (mask xs) (x.0, same k x.1)
-      ∙ ap (λ u. cond (beq u (same k x.1)) (sees v xs) (sees v xs ++ (x.0, same k x.1) ∷ [])) (mask_last v xs)
+  sees_more v xs x = grind (arith, beq, mask_more, merge_more, cond, mask_last)
 
   -- a value that no step has
   none_by : (v : V) (xs : List (C × V)) (u : Bool) → same k v ≡ u → list_any (same k) (map (λ s. s.1) xs) ≡ false → u ≡ false → merge_steps beq u (mask xs) ≡ []

@@ -1,5 +1,5 @@
 -- The intervals of a set: its points and no other, in order.
-use Rattle.std.proofs.Common.{◌≡◌, Bool, true, false, not, cond, ◌&&◌, ◌||◌, List, [], ◌∷◌, Option, Some, None, refl, sym, ap, ◌∙◌}
+use Rattle.std.proofs.Common.{◌≡◌, Bool, true, false, not, cond, ◌&&◌, ◌||◌, List, [], ◌∷◌, Option, Some, None, refl, sym, ap, ◌∙◌, arith}
 use mathlib.Core.Bool.{beq}
 use Rattle.std.specs.List.{list_any}
 use Rattle.std.specs.declared.cmp.Ordering.{Ordering}
@@ -33,14 +33,10 @@ module _ {T : Type 0} {cmp : T → T → Ordering} (o : IsTotalOrder cmp) where
 
   covers_by : (p : Point T) (from : Bool) (until : Bool) (v w : Bool) (more : Bool) → from ≡ true → (until ≡ true → more ≡ false) → (until ≡ false → w ≡ more) →
       cond until v w ≡ cond v ((from && until) || more) more
-  covers_by p from true true w more e f g = ap (λ b. (b && true) || more) (sym e)
-  covers_by p from true false w more e f g = sym (f refl)
-  covers_by p from false true w more e f g = g refl ∙ ap (λ b. (b && false) || more) (sym e)
-  covers_by p from false false w more e f g = g refl
+  covers_by p from until v w more h1 h2 h3 = grind arith
 
   any_cond : (t : Bound T × Bound T → Bool) (v : Bool) (i : Bound T × Bound T) (is : List (Bound T × Bound T)) → list_any t (cond v (i ∷ is) is) ≡ cond v (t i || list_any t is) (list_any t is)
-  any_cond t true i is = refl
-  any_cond t false i is = refl
+  any_cond t v i is = grind arith
 
   -- a point is in the set if it is in an interval
   held_covers : (p : Point T) (low : Option (Cut T)) (lower : Bound T) (v : Bool) (xs : List (Cut T × Bool)) → ascends (cut_cmp cmp) low xs ≡ true → is_from cmp lower p ≡ true →
@@ -55,16 +51,11 @@ module _ {T : Type 0} {cmp : T → T → Ordering} (o : IsTotalOrder cmp) where
       ∙ sym (any_cond (λ i. is_within cmp i p) v (lower, upper_of x.0) (intervals_among (parts_from (lower_of x.0) x.1 xs)))
 
   later_passed : (c d : Cut T) (q : Point T) → cut_cmp cmp c d ≡ Less → stands_before (λ v. v) cmp q d ≡ false → stands_before (λ v. v) cmp q c ≡ false
-  later_passed c d q e f = by_test (stands_before (λ v. v) cmp q c) refl
-    where
-      by_test : (b : Bool) → stands_before (λ v. v) cmp q c ≡ b → b ≡ false
-      by_test true g = absurd (false≢true (sym f ∙ before_later cmp o q c d g e))
-      by_test false g = refl
+  later_passed c d q h1 h2 = grind (arith, false≢true, before_later)
 
   -- the points of an interval that ends at a cut are before those of all intervals from it on
   stands_cond : (i j : Bound T × Bound T) (v : Bool) (js : List (Bound T × Bound T)) → ((p q : Point T) → is_within cmp i p ≡ true → is_within cmp j q ≡ true → point_cmp cmp p q ≡ Less) → StandsBefore cmp i js → StandsBefore cmp i (cond v (j ∷ js) js)
-  stands_cond i j true js h k = (h, k)
-  stands_cond i j false js h k = k
+  stands_cond i j v js h1 h2 = grind arith
 
   before_rest : (i : Bound T × Bound T) (c d : Cut T) (v : Bool) (xs : List (Cut T × Bool)) → ((p : Point T) → is_within cmp i p ≡ true → stands_before (λ v. v) cmp p c ≡ true) →
       ((q : Point T) → stands_before (λ v. v) cmp q d ≡ false → stands_before (λ v. v) cmp q c ≡ false) →
@@ -76,8 +67,7 @@ module _ {T : Type 0} {cmp : T → T → Ordering} (o : IsTotalOrder cmp) where
       (before_rest i c x.0 x.1 xs h (λ q e. k q (later_passed d x.0 q (lt_less _ r.0) e)) r.1)
 
   ascending_cond : (i : Bound T × Bound T) (v : Bool) (is : List (Bound T × Bound T)) → (p : Point T) → is_within cmp i p ≡ true → StandsBefore cmp i is → AreAscending cmp is → AreAscending cmp (cond v (i ∷ is) is)
-  ascending_cond i true is p e h k = (p, e, h, k)
-  ascending_cond i false is p e h k = k
+  ascending_cond i v is p h1 h2 h3 = grind arith
 
   held_ascending : (low : Option (Cut T)) (lower : Bound T) (v : Bool) (xs : List (Cut T × Bool)) → ascends (cut_cmp cmp) low xs ≡ true → is_from cmp lower (point_of low) ≡ true → AreAscending cmp (intervals_among (parts_from lower v xs))
   held_ascending low lower v [] a e = ascending_cond (lower, Unbounded) v [] (point_of low) (and_from _ _ e refl) tt tt
@@ -90,10 +80,7 @@ module _ {T : Type 0} {cmp : T → T → Ordering} (o : IsTotalOrder cmp) where
       (held_ascending (Some x.0) (lower_of x.0) x.1 xs q.1 (lower_is cmp (point_of (Some x.0)) x.0 ∙ ap not here))
 
   other_flag : (v w : Bool) → not (beq v w) ≡ true → w ≡ not v
-  other_flag true true e = absurd (false≢true e)
-  other_flag true false e = refl
-  other_flag false true e = refl
-  other_flag false false e = absurd (false≢true e)
+  other_flag v w h1 = grind arith
 
   -- an interval that ends at a cut does not touch one that begins at a later cut: the point of the first cut is between
   gap_at : (i : Bound T × Bound T) (c d : Cut T) (upper : Bound T) → ((p : Point T) → is_within cmp i p ≡ true → stands_before (λ v. v) cmp p c ≡ true) → is_before (cut_cmp cmp) (Some c) d ≡ true →
@@ -129,7 +116,4 @@ module _ {T : Type 0} {cmp : T → T → Ordering} (o : IsTotalOrder cmp) where
     intervals_apart ranges h m = held_apart None Unbounded ranges.cuts.first ranges.cuts.rest.items h m
 
     pub are_intervals : (ranges : Ranges T a b c) → ascends (cut_cmp cmp) None ranges.cuts.rest.items ≡ true → AreIntervals cmp ranges (intervals_of ranges)
-    are_intervals ranges h = record {
-      covers = λ p. held_covers p None Unbounded ranges.cuts.first ranges.cuts.rest.items h (bottom_from cmp p);
-      ascending = held_ascending None Unbounded ranges.cuts.first ranges.cuts.rest.items h refl;
-    }
+    are_intervals ranges h1 = grind (arith, held_covers, bottom_from, held_ascending)

@@ -42,8 +42,7 @@ module _ {C V X : Type 0} {cmp : C → C → Ordering} (o : IsTotalOrder cmp) {s
 
     -- if the value changes, the cut is kept
     pub label_keep : (new : List (C × X)) (c : C) → same x last ≡ false → new ≡ out ++ (c, x) ∷ [] → cmp c d ≡ Equal → Labelled first x new rest later all given
-    label_keep new c h k m =
-        rw k (fewer, alike_moved o (SameBy same) (same_trans s) out c d x x (merge_steps same x (relabel rest later)) (merge_steps same first (relabel all given)) m (s.refl x) (turned false (s.symm last x ∙ h)))
+    label_keep new c h1 h2 h3 = grind (arith, fewer, alike_moved, same_trans, turned)
 
     -- if it does not, the cut is skipped
     pub label_pass : same x last ≡ true → Labelled first last out rest later all given

@@ -22,15 +22,7 @@ module _ {C V : Type 0} {same : V → V → Bool} (s : IsEquivalence same) where
   pub merges_keep : (first : V) (out : List (C × V)) (c : C) (v : V) (rest new all : List (C × V)) →
       out ++ merge_steps same (last_value first out) ((c, v) ∷ rest) ≡ all → same v (last_value first out) ≡ false → new ≡ out ++ (c, v) ∷ [] →
       new ++ merge_steps same (last_value first new) rest ≡ all
-  merges_keep first out c v rest new all a e f =
-      rw f (rw (last_value_append first out (c, v)) (append_assoc out ((c, v) ∷ []) (merge_steps same v rest)
-      ∙ ap (λ b. out ++ cond b (merge_steps same (last_value first out) rest) ((c, v) ∷ merge_steps same v rest)) (sym (s.symm (last_value first out) v ∙ e)) ∙ a))
-
-  pub merges_drop : (first : V) (out : List (C × V)) (c : C) (v : V) (rest all : List (C × V)) →
-      out ++ merge_steps same (last_value first out) ((c, v) ∷ rest) ≡ all → same v (last_value first out) ≡ true →
-      out ++ merge_steps same (last_value first out) rest ≡ all
-  merges_drop first out c v rest all a e =
-      ap (λ b. out ++ cond b (merge_steps same (last_value first out) rest) ((c, v) ∷ merge_steps same v rest)) (sym (s.symm (last_value first out) v ∙ e)) ∙ a
+  merges_keep first out c v rest new all h1 h2 h3 = grind (arith, last_value_append, append_assoc, cond)
 
   module _ {U : Type 0} (first : V) (out all : List (C × V)) (c : C) (u : U) (v last : V) (steps steps' : List (C × U)) (values values' : List V) where
     -- what the loop keeps
@@ -49,9 +41,7 @@ module _ {C V : Type 0} {same : V → V → Bool} (s : IsEquivalence same) where
 
     pub merges_else : (new old : List (C × V)) → steps ≡ (c, u) ∷ steps' → values ≡ v ∷ values' → Kept out steps values →
         same v last ≡ true → last ≡ last_value first old → old ≡ out → new ≡ out → Kept new steps' values'
-    merges_else new old e f k d l m n =
-        let t = tails e f k in
-        rw n (t.0, merges_drop first out c v (relabel steps' values') all t.1 (ap (same v) (sym (l ∙ ap (last_value first) m)) ∙ d))
+    merges_else new old h1 h2 h3 h4 h5 h6 h7 = grind arith
 
 module _ {C V W : Type 0} (cmp : C → C → Ordering) where
   relabel_ascends : (low : Option C) (xs : List (C × V)) (ws : List W) → ascends cmp low xs ≡ true → ascends cmp low (relabel xs ws) ≡ true
@@ -61,8 +51,7 @@ module _ {C V W : Type 0} (cmp : C → C → Ordering) where
 
   by_test : (x : C × V) (xs : List (C × V)) (w u y : W) (ys : List W) (p : Option C) → (slice_get (y ∷ ys) (piece_from cmp xs p) ≡ Some u → value_from cmp y (relabel xs ys) p ≡ u) →
       (b : Bool) → slice_get (w ∷ y ∷ ys) (cond b 0 (suc (piece_from cmp xs p))) ≡ Some u → cond b w (value_from cmp y (relabel xs ys) p) ≡ u
-  by_test x xs w u y ys p k true h = same_some w u h
-  by_test x xs w u y ys p k false h = k h
+  by_test x xs w u y ys p h1 b h2 = grind arith
 
   relabel_value : (xs : List (C × V)) (w u : W) (ws : List W) (p : Option C) → length ws ≡ length xs → slice_get (w ∷ ws) (piece_from cmp xs p) ≡ Some u → value_from cmp w (relabel xs ws) p ≡ u
   relabel_value [] w u ws p e f = same_some w u f
@@ -84,5 +73,4 @@ module _ {C V W : Type 0} (cmp : C → C → Ordering) where
 
 pub merges_end : {C V U : Type 0} (same : V → V → Bool) (first : V) (out all : List (C × V)) (steps : List (C × U)) (values : List V) →
     out ++ merge_steps same (last_value first out) (relabel steps values) ≡ all → steps ≡ [] → out ≡ all
-merges_end same first out all steps values k e =
-    sym (append-nil out) ∙ (rw e at k)
+merges_end same first out all steps values h1 h2 = grind (arith, append-nil)

@@ -1,9 +1,9 @@
 -- The values of two functions side by side, and the points that have them.
-use Rattle.std.proofs.Common.{◌≡◌, ℕ, suc, ◌+◌, ◌<◌, ◌≤◌, true, List, [], ◌∷◌, length, map, None, Some, sym, ap, ◌∙◌, arith}
+use Rattle.std.proofs.Common.{◌≡◌, ℕ, suc, ◌+◌, ◌<◌, ◌≤◌, true, List, [], ◌∷◌, length, map, None, Some, ◌∙◌, arith, rules}
 use Rattle.std.specs.Prelude.{slice_get}
 use Rattle.std.specs.Ordering.{match_ordering}
 use Rattle.std.specs.declared.cmp.Ordering.{Ordering}
-use Rattle.std.specs.declared.cmp.Ordering.TheVariants.{Less, Equal, Greater}
+use Rattle.std.specs.declared.cmp.Ordering.TheVariants.{Less}
 use Rattle.std.specs.Cmp.{IsTotalOrder}
 use Rattle.std.proofs.lemmas.List.{length-map}
 use Rattle.version_ranges.specs.declared.cut.Cut.{Cut}
@@ -22,15 +22,12 @@ use Rattle.version_ranges.proofs.PartLaws.{between, parted_less}
 module _ {C V W : Type 0} (cmp : C → C → Ordering) where
   order_length : (x y z : C × (V × W)) (first both second : List (C × (V × W))) (n m : ℕ) → length first ≤ n + suc m → length both ≤ n + m → length second ≤ suc n + m → (r : Ordering) →
       length (match_ordering r (x ∷ first) (y ∷ both) (z ∷ second)) ≤ suc n + suc m
-  order_length x y z first both second n m f b s Less = omega arith
-  order_length x y z first both second n m f b s Equal = omega arith
-  order_length x y z first both second n m f b s Greater = omega arith
+  order_length x y z first both second n m h1 h2 h3 r = grind arith
 
   step_length : (v : V) (x : C × V) (more : W → List (C × W) → List (C × (V × W))) (n : ℕ) → ((w : W) (ys : List (C × W)) → length (more w ys) ≤ n + length ys) →
       (w : W) (ys : List (C × W)) → length (overlay_step cmp v x more w ys) ≤ suc n + length ys
   step_length v x more n h w [] = let k = h w [] in omega arith
-  step_length v x more n h w (y ∷ ys) =
-      order_length _ _ _ (more w (y ∷ ys)) (more y.1 ys) (overlay_step cmp v x more y.1 ys) n (length ys) (h w (y ∷ ys)) (h y.1 ys) (step_length v x more n h y.1 ys) (cmp x.0 y.0)
+  step_length v x more n h w (y ∷ ys) = grind (arith, order_length, length, step_length v x more n h y.1 ys)
 
   -- side by side there are no more cuts than both have
   overlay_length : (v : V) (xs : List (C × V)) (w : W) (ys : List (C × W)) → length (overlay cmp v xs w ys) ≤ length xs + length ys
@@ -46,15 +43,10 @@ module _ {T V W : Type 0} (cmp : T → T → Ordering) (o : IsTotalOrder cmp) {a
   index p = piece_at (stands_before (λ v. v) cmp p) both
 
   values_at : (p : Point T) → ◌≡◌ {A = V × W} (value_from (cut_cmp cmp) (left.first.now, right.first.now) both (place p)) (value_of cmp left p, value_of cmp right p)
-  values_at p =
-      overlay_value (cut_total o) left.first.now left.rest.now right.first.now right.rest.now (place p)
-      ∙ ap (λ v. let q : V × W = (v, value_from (cut_cmp cmp) right.first.now right.rest.now (place p)) in q) (sym (value_at_place cmp left.first.now left.rest.now p))
-      ∙ ap (λ w. let q : V × W = (value_of cmp left p, w) in q) (sym (value_at_place cmp right.first.now right.rest.now p))
+  values_at p = search (rules, overlay_value, cut_total, place, value_from, value_at_place)
 
   covers : (p : Point T) → slice_get ((left.first.now, right.first.now) ∷ map (λ s. s.1) both) (index p) ≡ Some (value_of cmp left p, value_of cmp right p)
-  covers p =
-      ap (slice_get ((left.first.now, right.first.now) ∷ map (λ s. s.1) both)) (piece_at_place cmp both p)
-      ∙ piece_value (cut_cmp cmp) (left.first.now, right.first.now) both (place p) ∙ ap Some (values_at p)
+  covers p = search (rules, map, piece_at_place, piece_value, place, values_at)
 
   nonempty : (i : ℕ) → i < length ((left.first.now, right.first.now) ∷ map (λ s. s.1) both) → (p : Point T) × (index p ≡ i)
   nonempty i h =

@@ -1,16 +1,16 @@
 -- The pieces of a function, one after another, and the points that lie in them.
-use Rattle.std.proofs.Common.{◌≡◌, ℕ, zero, suc, ◌<◌, ◌≤◌, get_or, Bool, true, false, not, cond, List, [], ◌∷◌, length, vec_len, Option, Some, None, refl, sym, ap, ◌∙◌, subst, arith}
+use Rattle.std.proofs.Common.{◌≡◌, ℕ, zero, suc, ◌<◌, ◌≤◌, get_or, Bool, true, false, not, cond, List, [], ◌∷◌, length, vec_len, Option, Some, None, refl, sym, ap, ◌∙◌, subst, arith, rules}
 use Rattle.std.specs.Prelude.{slice_get}
-use Rattle.std.specs.Ordering.{is_lt, ordering_reverse, ordering_then}
+use Rattle.std.specs.Ordering.{is_lt, ordering_then}
 use Rattle.std.specs.declared.cmp.Ordering.{Ordering}
-use Rattle.std.specs.declared.cmp.Ordering.TheVariants.{Less, Equal, Greater}
+use Rattle.std.specs.declared.cmp.Ordering.TheVariants.{Less, Equal}
 use Rattle.std.specs.Cmp.{IsTotalOrder}
 use Rattle.std.specs.List.Sorted.{IsPartitionedBy, IsPartitionPoint}
 use Rattle.std.proofs.lemmas.Bool.{and_parts, and_from, true≢false, false≢true}
 use Rattle.std.specs.declared.ops.Bound.{Bound}
 use Rattle.std.specs.declared.ops.Bound.TheVariants.{Included, Excluded, Unbounded}
 use Rattle.version_ranges.specs.declared.cut.Cut.{Cut}
-use Rattle.version_ranges.specs.Point.{Point, bottom, at, above, point_cmp, point_lt, is_from, is_until}
+use Rattle.version_ranges.specs.Point.{Point, at, above, point_cmp, point_lt, is_from, is_until}
 use Rattle.version_ranges.specs.Cut.{cut_cmp, cut_point, stands_before, lower_of, upper_of}
 use Rattle.version_ranges.specs.Steps.{value_at, piece_at, ascends}
 use Rattle.version_ranges.specs.Parts.{Part, parts_from, parts_of, IsIn, ArePieces}
@@ -44,18 +44,10 @@ module _ {C V : Type 0} (t : C → Bool) where
   -- two points in different pieces have a cut between them
   pub between : (u : C → Bool) (xs : List (C × V)) → piece_at t xs < piece_at u xs → (c : C) × (t c ≡ true) × (u c ≡ false)
   between u [] h = absurd (omega arith)
-  between u (x ∷ xs) h = by_test (t x.0) refl (u x.0) refl h (between u xs)
-    where
-      by_test : (b : Bool) → t x.0 ≡ b → (d : Bool) → u x.0 ≡ d → cond b 0 (suc (piece_at t xs)) < cond d 0 (suc (piece_at u xs)) →
-          (piece_at t xs < piece_at u xs → (c : C) × (t c ≡ true) × (u c ≡ false)) → (c : C) × (t c ≡ true) × (u c ≡ false)
-      by_test true e true f l k = absurd (omega (arith, l))
-      by_test true e false f l k = (x.0, e, f)
-      by_test false e true f l k = absurd (omega (arith, l))
-      by_test false e false f l k = k (omega (arith, l))
+  between u (x ∷ xs) h = grind (arith, cond, between u xs)
 
 pub is_not : (b : Bool) → not b ≡ true → b ≡ false
-is_not true e = absurd (false≢true e)
-is_not false e = refl
+is_not b h1 = grind arith
 
 module _ {C V : Type 0} (cmp : C → C → Ordering) (t : C → Bool) (upward : (c d : C) → t c ≡ true → cmp c d ≡ Less → t d ≡ true) where
   -- if the test is true of a cut, it is true of each later one
@@ -75,9 +67,7 @@ module _ {C V : Type 0} (cmp : C → C → Ordering) (t : C → Bool) (upward : 
   parted_by low (x ∷ xs) a (suc i) (suc j) d h k e = parted_by (Some x.0) xs ((and_parts _ _ a).1) i j d (omega (arith, h)) (omega (arith, k)) e
 
 then_equal : (r : Ordering) → ordering_then r Equal ≡ r
-then_equal Less = refl
-then_equal Equal = refl
-then_equal Greater = refl
+then_equal r = grind arith
 
 parts_length : {T V : Type 0} (low : Bound T) (v : V) (xs : List (Cut T × V)) → length (parts_from low v xs) ≡ suc (length xs)
 parts_length low v [] = refl
@@ -85,12 +75,10 @@ parts_length low v (x ∷ xs) = ap suc (parts_length (lower_of x.0) x.1 xs)
 
 module _ {T : Type 0} (cmp : T → T → Ordering) where
   lower_by : (p : Point T) (w : T) (b : Bool) → is_from cmp (cond b (Excluded w) (Included w)) p ≡ not (point_lt cmp p (cond b (above w) (at w)))
-  lower_by p w true = refl
-  lower_by p w false = refl
+  lower_by p w b = grind arith
 
   upper_by : (p : Point T) (w : T) (b : Bool) → is_until cmp (cond b (Included w) (Excluded w)) p ≡ point_lt cmp p (cond b (above w) (at w))
-  upper_by p w true = refl
-  upper_by p w false = refl
+  upper_by p w b = grind arith
 
   pub lower_is : (p : Point T) (c : Cut T) → is_from cmp (lower_of c) p ≡ not (stands_before (λ v. v) cmp p c)
   lower_is p c = lower_by p c.value c.above
@@ -99,9 +87,7 @@ module _ {T : Type 0} (cmp : T → T → Ordering) where
   upper_is p c = upper_by p c.value c.above
 
   pub bottom_from : (p : Point T) → is_from cmp Unbounded p ≡ true
-  bottom_from bottom = refl
-  bottom_from (at v) = refl
-  bottom_from (above v) = refl
+  bottom_from p = grind arith
 
   pub before_later : IsTotalOrder cmp → (p : Point T) (c d : Cut T) → stands_before (λ v. v) cmp p c ≡ true → cut_cmp cmp c d ≡ Less → stands_before (λ v. v) cmp p d ≡ true
   before_later o p c d h e = place_before cmp p d ∙ before_trans (cut_total o) (place p) c d (sym (place_before cmp p c) ∙ h) e
@@ -145,15 +131,7 @@ module _ {T : Type 0} (cmp : T → T → Ordering) where
 
   -- the order of points is that of their places
   pub place_cmp : (p q : Point T) → option_cmp (cut_cmp cmp) (place p) (place q) ≡ point_cmp cmp p q
-  place_cmp bottom bottom = refl
-  place_cmp bottom (at w) = refl
-  place_cmp bottom (above w) = refl
-  place_cmp (at v) bottom = refl
-  place_cmp (at v) (at w) = then_equal (cmp v w)
-  place_cmp (at v) (above w) = refl
-  place_cmp (above v) bottom = refl
-  place_cmp (above v) (at w) = refl
-  place_cmp (above v) (above w) = then_equal (cmp v w)
+  place_cmp p q = grind arith
 
   module _ (o : IsTotalOrder cmp) where
     -- points are in a total order
@@ -161,9 +139,7 @@ module _ {T : Type 0} (cmp : T → T → Ordering) where
     point_total = subst IsTotalOrder (λ i p q. place_cmp p q i) (on_total place (options_total (cut_total o)))
 
     less_by : (p q r : Point T) → point_cmp cmp p r ≡ Less → is_lt (point_cmp cmp q r) ≡ false → (s : Ordering) → point_cmp cmp p q ≡ s → s ≡ Less
-    less_by p q r h k Less e = refl
-    less_by p q r h k Equal e = absurd (false≢true (sym k ∙ ap is_lt (sym (point_total.congr p q r e) ∙ h)))
-    less_by p q r h k Greater e = absurd (false≢true (sym k ∙ ap is_lt (point_total.trans q p r (point_total.antisymm q p ∙ ap ordering_reverse e) h)))
+    less_by p q r h1 h2 s h3 = search (rules, false≢true)
 
     -- a point before a cut is before a point that has passed it
     pub parted_less : (p q : Point T) (c : Cut T) → stands_before (λ v. v) cmp p c ≡ true → stands_before (λ v. v) cmp q c ≡ false → point_cmp cmp p q ≡ Less

@@ -1,5 +1,5 @@
 -- For `Cuts::from_ranges`: one of two values for each piece of a set, as its loop picks them.
-use Rattle.std.proofs.Common.{◌≡◌, ℕ, ◌≤◌, Bool, true, false, not, cond, ◌&&◌, List, [], ◌∷◌, ◌++◌, map, drop, length, Option, Some, None, refl, sym, ap, ◌∙◌, append-nil, subst}
+use Rattle.std.proofs.Common.{◌≡◌, ℕ, ◌≤◌, Bool, true, false, not, cond, ◌&&◌, List, [], ◌∷◌, ◌++◌, map, drop, length, Option, Some, None, refl, sym, ap, ◌∙◌, append-nil, subst, arith}
 use mathlib.Core.Bool.{beq}
 use Rattle.std.specs.declared.cmp.Ordering.{Ordering}
 use Rattle.std.specs.Cmp.{IsTotalOrder, IsEquivalence}
@@ -18,15 +18,11 @@ pick inside outside b = cond b inside outside
 
 module _ {V : Type 0} {same : V → V → Bool} (s : IsEquivalence same) (inside outside : V) where
   pick_same : same inside outside ≡ false → (a b : Bool) → same (pick inside outside a) (pick inside outside b) ≡ beq a b
-  pick_same e true true = s.refl inside
-  pick_same e true false = e
-  pick_same e false true = s.symm outside inside ∙ e
-  pick_same e false false = s.refl outside
+  pick_same h1 a b = grind arith
 
   -- if both values are equal, either one is either
   pub pick_either : same inside outside ≡ true → (b : Bool) → same outside (pick inside outside b) ≡ true
-  pick_either e true = s.symm outside inside ∙ e
-  pick_either e false = s.refl outside
+  pick_either h1 b = grind arith
 
 module _ {C V : Type 0} (inside outside : V) where
   abbrev pub picked : List (C × Bool) → List (C × V)
@@ -34,11 +30,7 @@ module _ {C V : Type 0} (inside outside : V) where
 
   picked_value : (b : Bool) (xs : List (C × Bool)) (t : C → Bool) → value_at t (pick inside outside b) (picked xs) ≡ pick inside outside (value_at t b xs)
   picked_value b [] t = refl
-  picked_value b (x ∷ xs) t = by_test (t x.0) (picked_value x.1 xs t)
-    where
-      by_test : (d : Bool) → value_at t (pick inside outside x.1) (picked xs) ≡ pick inside outside (value_at t x.1 xs) → cond d (pick inside outside b) (value_at t (pick inside outside x.1) (picked xs)) ≡ pick inside outside (cond d b (value_at t x.1 xs))
-      by_test true e = refl
-      by_test false e = e
+  picked_value b (x ∷ xs) t = grind (arith, cond, picked_value x.1 xs t)
 
   picked_ascends : (cmp : C → C → Ordering) (low : Option C) (xs : List (C × Bool)) → ascends cmp low (picked xs) ≡ ascends cmp low xs
   picked_ascends cmp low [] = refl
@@ -47,16 +39,13 @@ module _ {C V : Type 0} (inside outside : V) where
   module _ {same : V → V → Bool} (s : IsEquivalence same) where
     picked_merged : same inside outside ≡ false → (b : Bool) (xs : List (C × Bool)) → is_merged same (pick inside outside b) (picked xs) ≡ is_merged beq b xs
     picked_merged e b [] = refl
-    picked_merged e b (x ∷ xs) =
-        ap (λ d. not d && is_merged same (pick inside outside x.1) (picked xs)) (pick_same s inside outside e b x.1) ∙ ap (λ d. not (beq b x.1) && d) (picked_merged e x.1 xs)
+    picked_merged e b (x ∷ xs) = grind (arith, not, pick_same, beq, picked_merged e x.1 xs)
 
     pub alike_merged : (cmp : C → C → Ordering) (v w : V) (xs ys : List (C × V)) → same v w ≡ true → Alike cmp (λ a b. same a b ≡ true) xs ys → is_merged same v xs ≡ is_merged same w ys
     alike_merged cmp v w [] [] e a = refl
     alike_merged cmp v w [] (y ∷ ys) e a = absurd a
     alike_merged cmp v w (x ∷ xs) [] e a = absurd a
-    alike_merged cmp v w (x ∷ xs) (y ∷ ys) e a =
-        ap (λ d. not d && is_merged same x.1 xs) (s.congr v w x.1 e ∙ s.symm w x.1 ∙ s.congr x.1 y.1 w a.1.0 ∙ s.symm y.1 w)
-        ∙ ap (λ d. not (same w y.1) && d) (alike_merged cmp x.1 y.1 xs ys a.1.0 a.1.1)
+    alike_merged cmp v w (x ∷ xs) (y ∷ ys) e a = grind (arith, not, alike_merged cmp x.1 y.1 xs ys a.1.0 a.1.1)
 
     module _ {cmp : C → C → Ordering} (o : IsTotalOrder cmp) where
       -- what the loop keeps
@@ -68,8 +57,7 @@ module _ {C V : Type 0} (inside outside : V) where
 
       pub picks_step : (out new : List (C × V)) (left more all : List (C × Bool)) (c : C) (b : Bool) (u : V) → Picks out left all → left ≡ (c, b) ∷ more →
           new ≡ out ++ (c, u) ∷ [] → same u (pick inside outside b) ≡ true → Picks new more all
-      picks_step out new left more all c b u a e f k =
-          rw f (alike_moved o (λ a b. same a b ≡ true) (λ a b c p q. s.congr a b c p ∙ q) out c c u (pick inside outside b) (picked more) (picked all) (tied_itself o c) k (rw e at a))
+      picks_step out new left more all c b u h1 h2 h3 h4 = grind (arith, alike_moved, tied_itself)
 
       pub picks_end : (out : List (C × V)) (left all : List (C × Bool)) → Picks out left all → left ≡ [] → Alike cmp (λ a b. same a b ≡ true) out (picked all)
       picks_end out left all a e = subst (λ l. Alike cmp (λ a b. same a b ≡ true) l (picked all)) (ap (λ l. out ++ picked l) e ∙ append-nil out) a

@@ -1,5 +1,5 @@
 -- Points and the pieces that they lie in.
-use Rattle.std.proofs.Common.{◌≡◌, ℕ, zero, suc, ◌+◌, ◌-◌, ◌<◌, get_or, Bool, true, false, cond, List, [], ◌∷◌, length, map, Option, Some, None, refl, sym, ap, ◌∙◌, arith}
+use Rattle.std.proofs.Common.{◌≡◌, ℕ, zero, suc, ◌+◌, ◌-◌, ◌<◌, get_or, Bool, true, cond, List, [], ◌∷◌, length, map, Option, Some, None, refl, sym, ap, ◌∙◌, arith}
 use Rattle.std.specs.Prelude.{slice_get}
 use Rattle.std.specs.declared.cmp.Ordering.{Ordering}
 use Rattle.std.specs.Cmp.{IsTotalOrder}
@@ -11,21 +11,12 @@ use Rattle.std.proofs.lemmas.Option.{slice_get_read}
 -- a point lies in one of the pieces
 pub piece_bound : {C V : Type 0} (t : C → Bool) (xs : List (C × V)) → piece_at t xs < suc (length xs)
 piece_bound t [] = omega arith
-piece_bound t (x ∷ xs) = by_test (t x.0) (piece_bound t xs)
-  where
-    by_test : (b : Bool) → piece_at t xs < suc (length xs) → cond b 0 (suc (piece_at t xs)) < suc (suc (length xs))
-    by_test true h = omega arith
-    by_test false h = omega arith
+piece_bound t (x ∷ xs) = grind (arith, length, cond, piece_bound t xs)
 
 module _ {C V : Type 0} (cmp : C → C → Ordering) where
   pub piece_value : (v : V) (xs : List (C × V)) (p : Option C) → slice_get (v ∷ map (λ s. s.1) xs) (piece_from cmp xs p) ≡ Some (value_from cmp v xs p)
   piece_value v [] p = refl
-  piece_value v (x ∷ xs) p = by_test (is_before cmp p x.0) (piece_value x.1 xs p)
-    where
-      by_test : (b : Bool) → slice_get (x.1 ∷ map (λ s. s.1) xs) (piece_from cmp xs p) ≡ Some (value_from cmp x.1 xs p) →
-          slice_get (v ∷ x.1 ∷ map (λ s. s.1) xs) (cond b 0 (suc (piece_from cmp xs p))) ≡ Some (cond b v (value_from cmp x.1 xs p))
-      by_test true h = refl
-      by_test false h = h
+  piece_value v (x ∷ xs) p = grind (arith, map, piece_from, value_from, cond, piece_value x.1 xs p)
 
   module _ (o : IsTotalOrder cmp) where
     pub piece_low : (xs : List (C × V)) (p : Option C) → ascends cmp p xs ≡ true → piece_from cmp xs p ≡ 0

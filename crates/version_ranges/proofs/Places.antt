@@ -1,6 +1,6 @@
 -- For `Cuts::gather`: after each step its list has the values seen so far, each with the set of the
 -- points that have it; and the place of a value in that list.
-use Rattle.std.proofs.Common.{◌≡◌, ℕ, zero, suc, Bool, true, false, not, cond, ◌||◌, List, [], ◌∷◌, ◌++◌, map, length, Some, None, refl, sym, ap, ◌∙◌, subst, slice_get, eqb, pred, inl, inr, ◌⊎◌}
+use Rattle.std.proofs.Common.{◌≡◌, ℕ, zero, suc, Bool, true, false, not, cond, ◌||◌, List, [], ◌∷◌, ◌++◌, map, length, Some, None, refl, sym, ap, ◌∙◌, subst, slice_get, eqb, pred, inl, inr, ◌⊎◌, arith}
 use mathlib.Core.Bool.{beq}
 use Rattle.std.specs.Ordering.{ordering_reverse}
 use Rattle.std.specs.List.{list_any}
@@ -73,10 +73,7 @@ module _ {C V Q : Type 0} (cmp : C → C → Ordering) (same : V → V → Bool)
 module _ {C : Type 0} {cmp : C → C → Ordering} (o : IsTotalOrder cmp) where
   turned_flags : (a b last : Bool) (us ws : List (C × Bool)) (c d : C) → last ≡ a → Alike cmp (λ a b. a ≡ b) us ws → cmp d c ≡ Equal →
       Alike cmp (λ a b. a ≡ b) (cond (not (beq a b)) (us ++ (d, not last) ∷ []) us) (cond (beq a b) ws (ws ++ (c, b) ∷ []))
-  turned_flags true true last us ws c d e a f = a
-  turned_flags false false last us ws c d e a f = a
-  turned_flags true false last us ws c d e a f = alike_more cmp us ws ((d, not last) ∷ []) ((c, false) ∷ []) a (f, (ap not e, tt))
-  turned_flags false true last us ws c d e a f = alike_more cmp us ws ((d, not last) ∷ []) ((c, true) ∷ []) a (f, (ap not e, tt))
+  turned_flags a b last us ws c d h1 h2 h3 = grind (arith, alike_more, not)
 
   module _ {V Q : Type 0} {same : V → V → Bool} (s : IsEquivalence same) (key : Q → V) (first : Q → Bool) (rest : Q → List (C × Bool)) where
     added : (seen : List V) (v : V) (xs : List (C × V)) (x : V) (new : Q) (old : List Q) → Gathers cmp same key first rest seen v xs old → list_any (same x) seen ≡ false → same x v ≡ false → list_any (same x) (map (λ y. y.1) xs) ≡ false →
@@ -162,6 +159,4 @@ module _ {C : Type 0} {cmp : C → C → Ordering} (o : IsTotalOrder cmp) where
       }
 
       pub turned_place : IsPlace same key new to x.1
-      turned_place =
-          let p = at_other new old (sym same_length) to ends.0 ends.1 in
-          (p.0, p.1, ap (same x.1) ((each to ends.0 p.0 ends.1 p.1).0) ∙ ends.2)
+      turned_place = grind (arith, at_other)

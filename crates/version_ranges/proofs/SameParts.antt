@@ -1,6 +1,6 @@
 -- Equal lists of cuts have equal pieces and equal intervals, and if the pieces are equal the cuts
 -- are.
-use Rattle.std.proofs.Common.{◌≡◌, Bool, true, false, cond, ◌&&◌, List, [], ◌∷◌, refl}
+use Rattle.std.proofs.Common.{◌≡◌, Bool, true, cond, ◌&&◌, List, [], ◌∷◌, refl, arith}
 use mathlib.Core.Bool.{beq}
 use Rattle.std.proofs.lemmas.Bool.{and_parts, and_from, false≢true}
 use Rattle.std.specs.declared.ops.Bound.{Bound}
@@ -16,28 +16,20 @@ module _ {T : Type 0} (eq : T → T → Bool) where
   -- equal cuts are equal bounds
   bounds_by : (v w : T) (a b : Bool) → eq v w ≡ true → beq a b ≡ true →
       (same_bound eq (cond a (Excluded v) (Included v)) (cond b (Excluded w) (Included w)) ≡ true) × (same_bound eq (cond a (Included v) (Excluded v)) (cond b (Included w) (Excluded w)) ≡ true)
-  bounds_by v w true true h k = (h, h)
-  bounds_by v w true false h k = absurd (false≢true k)
-  bounds_by v w false true h k = absurd (false≢true k)
-  bounds_by v w false false h k = (h, h)
+  bounds_by v w a b h1 h2 = grind arith
 
   bounds_same : (c d : Cut T) → cut_eq eq c d ≡ true → (same_bound eq (lower_of c) (lower_of d) ≡ true) × (same_bound eq (upper_of c) (upper_of d) ≡ true)
   bounds_same c d e = let q = and_parts (eq c.value d.value) (beq c.above d.above) e in bounds_by c.value d.value c.above d.above q.0 q.1
 
   -- and the other way round
   cuts_by : (v w : T) (a b : Bool) → same_bound eq (cond a (Included v) (Excluded v)) (cond b (Included w) (Excluded w)) ≡ true → (eq v w && beq a b) ≡ true
-  cuts_by v w true true h = and_from _ _ h refl
-  cuts_by v w true false h = absurd (false≢true h)
-  cuts_by v w false true h = absurd (false≢true h)
-  cuts_by v w false false h = and_from _ _ h refl
+  cuts_by v w a b h1 = grind arith
 
   not_open : (w : T) (b : Bool) → same_bound eq Unbounded (cond b (Included w) (Excluded w)) ≡ true → ⊥
-  not_open w true h = false≢true h
-  not_open w false h = false≢true h
+  not_open w b h1 = grind arith
 
   not_closed : (w : T) (b : Bool) → same_bound eq (cond b (Included w) (Excluded w)) Unbounded ≡ true → ⊥
-  not_closed w true h = false≢true h
-  not_closed w false h = false≢true h
+  not_closed w b h1 = grind arith
 
   module _ {V : Type 0} (same : V → V → Bool) where
     pub parts_same : (low low' : Bound T) (v w : V) (xs ys : List (Cut T × V)) → same_bound eq low low' ≡ true → same v w ≡ true → same_steps (cut_eq eq) same xs ys ≡ true →
@@ -52,9 +44,7 @@ module _ {T : Type 0} (eq : T → T → Bool) where
         and_from _ _ (and_from _ _ b (and_from _ _ k.1 s)) (parts_same (lower_of x.0) (lower_of y.0) x.1 y.1 xs ys k.0 r.1 q.1)
 
     part_parts : (p q : Part T V) → same_part eq same p q ≡ true → (same_bound eq p.upper q.upper ≡ true) × (same p.value q.value ≡ true)
-    part_parts p q e =
-        and_parts (same_bound eq p.upper q.upper) (same p.value q.value)
-        ((and_parts (same_bound eq p.lower q.lower) (same_bound eq p.upper q.upper && same p.value q.value) e).1)
+    part_parts p q h1 = grind arith
 
     pub steps_same : (low low' : Bound T) (v w : V) (xs ys : List (Cut T × V)) → same_parts eq same (parts_from low v xs) (parts_from low' w ys) ≡ true → (same v w && same_steps (cut_eq eq) same xs ys) ≡ true
     steps_same low low' v w [] [] e =
@@ -76,10 +66,7 @@ module _ {T : Type 0} (eq : T → T → Bool) where
   -- equal pieces of sets are equal intervals
   held_by : (i j : Bound T × Bound T) (a b : Bool) (is js : List (Bound T × Bound T)) → same_bound eq i.0 j.0 ≡ true → same_bound eq i.1 j.1 ≡ true → beq a b ≡ true →
       same_intervals eq is js ≡ true → same_intervals eq (cond a (i ∷ is) is) (cond b (j ∷ js) js) ≡ true
-  held_by i j true true is js h k e r = and_from _ _ (and_from _ _ h k) r
-  held_by i j true false is js h k e r = absurd (false≢true e)
-  held_by i j false true is js h k e r = absurd (false≢true e)
-  held_by i j false false is js h k e r = r
+  held_by i j a b is js h1 h2 h3 h4 = grind arith
 
   pub held_same : (ps qs : List (Part T Bool)) → same_parts eq beq ps qs ≡ true → same_intervals eq (intervals_among ps) (intervals_among qs) ≡ true
   held_same [] [] e = refl

@@ -1,15 +1,14 @@
 -- Equal intervals have the same points.
-use Rattle.std.proofs.Common.{◌≡◌, Bool, true, not, ◌&&◌, ◌||◌, List, [], ◌∷◌, refl, sym, ap, ◌∙◌}
+use Rattle.std.proofs.Common.{◌≡◌, Bool, true, not, ◌||◌, List, [], ◌∷◌, refl, sym, ap, ◌∙◌, arith, rules}
 use Rattle.std.specs.List.{list_any}
 use Rattle.std.specs.Ordering.{is_lt, is_eq}
 use Rattle.std.specs.declared.cmp.Ordering.{Ordering}
 use Rattle.std.specs.declared.cmp.Ordering.TheVariants.{Equal}
 use Rattle.std.specs.declared.ops.Bound.{Bound}
-use Rattle.std.specs.declared.ops.Bound.TheVariants.{Included, Excluded, Unbounded}
 use Rattle.std.specs.Cmp.{IsTotalOrder}
 use Rattle.std.proofs.lemmas.Bool.{and_parts, false≢true}
 use Rattle.std.proofs.lemmas.Cmp.{alike_right}
-use Rattle.version_ranges.specs.Point.{Point, at, above, point_cmp, point_lt, is_from, is_until}
+use Rattle.version_ranges.specs.Point.{Point, point_cmp, point_lt, is_from, is_until}
 use Rattle.version_ranges.specs.Parts.{same_bound}
 use Rattle.version_ranges.specs.Intervals.{same_interval, same_intervals, is_within}
 use Rattle.version_ranges.proofs.StepLaws.{is_equal}
@@ -24,31 +23,13 @@ module _ {T : Type 0} {cmp : T → T → Ordering} (o : IsTotalOrder cmp) (eq : 
   before_tied p q r e = ap is_lt (alike_right (point_total cmp o) q r p e)
 
   from_same : (b c : Bound T) (p : Point T) → same_bound eq b c ≡ true → is_from cmp b p ≡ is_from cmp c p
-  from_same (Included v) (Included w) p e = ap not (before_tied p (at v) (at w) (tied v w e))
-  from_same (Included v) (Excluded w) p e = absurd (false≢true e)
-  from_same (Included v) Unbounded p e = absurd (false≢true e)
-  from_same (Excluded v) (Included w) p e = absurd (false≢true e)
-  from_same (Excluded v) (Excluded w) p e = ap not (before_tied p (above v) (above w) (tied v w e))
-  from_same (Excluded v) Unbounded p e = absurd (false≢true e)
-  from_same Unbounded (Included w) p e = absurd (false≢true e)
-  from_same Unbounded (Excluded w) p e = absurd (false≢true e)
-  from_same Unbounded Unbounded p e = refl
+  from_same b c p h1 = search (rules, not, before_tied, tied, false≢true)
 
   until_same : (b c : Bound T) (p : Point T) → same_bound eq b c ≡ true → is_until cmp b p ≡ is_until cmp c p
-  until_same (Included v) (Included w) p e = before_tied p (above v) (above w) (tied v w e)
-  until_same (Included v) (Excluded w) p e = absurd (false≢true e)
-  until_same (Included v) Unbounded p e = absurd (false≢true e)
-  until_same (Excluded v) (Included w) p e = absurd (false≢true e)
-  until_same (Excluded v) (Excluded w) p e = before_tied p (at v) (at w) (tied v w e)
-  until_same (Excluded v) Unbounded p e = absurd (false≢true e)
-  until_same Unbounded (Included w) p e = absurd (false≢true e)
-  until_same Unbounded (Excluded w) p e = absurd (false≢true e)
-  until_same Unbounded Unbounded p e = refl
+  until_same b c p h1 = grind arith
 
   within_same : (i j : Bound T × Bound T) (p : Point T) → same_interval eq i j ≡ true → is_within cmp i p ≡ is_within cmp j p
-  within_same i j p e =
-      let q = and_parts (same_bound eq i.0 j.0) (same_bound eq i.1 j.1) e in
-      ap (λ b. b && is_until cmp i.1 p) (from_same i.0 j.0 p q.0) ∙ ap (λ b. is_from cmp j.0 p && b) (until_same i.1 j.1 p q.1)
+  within_same i j p h1 = search (rules, and_parts, from_same, until_same)
 
   pub any_same : (is js : List (Bound T × Bound T)) (p : Point T) → same_intervals eq is js ≡ true → list_any (λ i. is_within cmp i p) is ≡ list_any (λ i. is_within cmp i p) js
   any_same [] [] p e = refl

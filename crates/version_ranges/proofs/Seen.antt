@@ -1,6 +1,6 @@
 -- For `Cuts::gather`: the values of a list, each at its first place (`first_seen`), and what one
 -- more value adds to them.
-use Rattle.std.proofs.Common.{◌≡◌, ℕ, suc, Bool, true, false, not, cond, ◌||◌, List, [], ◌∷◌, ◌++◌, filter, Some, refl, sym, ap, ◌∙◌, append-nil, slice_get}
+use Rattle.std.proofs.Common.{◌≡◌, ℕ, suc, Bool, true, false, not, cond, ◌||◌, List, [], ◌∷◌, ◌++◌, filter, Some, refl, sym, ap, ◌∙◌, append-nil, slice_get, arith}
 use Rattle.std.specs.List.{list_any}
 use Rattle.std.specs.Cmp.{IsEquivalence}
 use Rattle.std.proofs.lemmas.Bool.{false≢true}
@@ -17,26 +17,12 @@ module _ {V : Type 0} {same : V → V → Bool} (s : IsEquivalence same) where
   -- the list has the values that its source has
   pub found_seen : (x : V) (vs : List V) → list_any (same x) (first_seen same vs) ≡ list_any (same x) vs
   found_seen x [] = refl
-  found_seen x (w ∷ vs) = by_test (same x w) refl (found_seen x vs)
-    where
-      by_test : (t : Bool) → same x w ≡ t → list_any (same x) (first_seen same vs) ≡ list_any (same x) vs → (same x w || list_any (same x) (filter (λ k. not (same w k)) (first_seen same vs))) ≡ (same x w || list_any (same x) vs)
-      by_test true e h = ap (λ b. b || list_any (same x) (filter (λ k. not (same w k)) (first_seen same vs))) e ∙ sym (ap (λ b. b || list_any (same x) vs) e)
-      by_test false e h = ap (λ b. same x w || b) (found_beside w x (first_seen same vs) (s.symm w x ∙ e) ∙ h)
+  found_seen x (w ∷ vs) = grind (arith, filter, not, found_beside, found_seen x vs)
 
   -- one more value
   more_by : (w x : V) (ws : List V) (t : Bool) → list_any (same x) ws ≡ t → (u : Bool) → same x w ≡ u →
       w ∷ filter (λ k. not (same w k)) (cond t ws (ws ++ x ∷ [])) ≡ cond (same x w || list_any (same x) (filter (λ k. not (same w k)) ws)) (w ∷ filter (λ k. not (same w k)) ws) ((w ∷ filter (λ k. not (same w k)) ws) ++ x ∷ [])
-  more_by w x ws true e true f = sym (ap (λ b. cond (b || list_any (same x) (filter (λ k. not (same w k)) ws)) (w ∷ filter (λ k. not (same w k)) ws) ((w ∷ filter (λ k. not (same w k)) ws) ++ x ∷ [])) f)
-  more_by w x ws true e false f =
-      sym (ap (λ b. cond (b || list_any (same x) (filter (λ k. not (same w k)) ws)) (w ∷ filter (λ k. not (same w k)) ws) ((w ∷ filter (λ k. not (same w k)) ws) ++ x ∷ [])) f
-      ∙ ap (λ b. cond b (w ∷ filter (λ k. not (same w k)) ws) ((w ∷ filter (λ k. not (same w k)) ws) ++ x ∷ [])) (found_beside w x ws (s.symm w x ∙ f) ∙ e))
-  more_by w x ws false e true f =
-      ap (λ l. w ∷ l) (filter-append (λ k. not (same w k)) ws (x ∷ []) ∙ ap (λ b. filter (λ k. not (same w k)) ws ++ cond (not b) (x ∷ []) []) (s.symm w x ∙ f) ∙ append-nil _)
-      ∙ sym (ap (λ b. cond (b || list_any (same x) (filter (λ k. not (same w k)) ws)) (w ∷ filter (λ k. not (same w k)) ws) ((w ∷ filter (λ k. not (same w k)) ws) ++ x ∷ [])) f)
-  more_by w x ws false e false f =
-      ap (λ l. w ∷ l) (filter-append (λ k. not (same w k)) ws (x ∷ []) ∙ ap (λ b. filter (λ k. not (same w k)) ws ++ cond (not b) (x ∷ []) []) (s.symm w x ∙ f))
-      ∙ sym (ap (λ b. cond (b || list_any (same x) (filter (λ k. not (same w k)) ws)) (w ∷ filter (λ k. not (same w k)) ws) ((w ∷ filter (λ k. not (same w k)) ws) ++ x ∷ [])) f
-      ∙ ap (λ b. cond b (w ∷ filter (λ k. not (same w k)) ws) ((w ∷ filter (λ k. not (same w k)) ws) ++ x ∷ [])) (found_beside w x ws (s.symm w x ∙ f) ∙ e))
+  more_by w x ws t h1 u h2 = grind (arith, cond, filter, not, found_beside, filter-append, append-nil)
 
   pub seen_more : (x : V) (vs : List V) → first_seen same (vs ++ x ∷ []) ≡ cond (list_any (same x) (first_seen same vs)) (first_seen same vs) (first_seen same vs ++ x ∷ [])
   seen_more x [] = refl
@@ -67,27 +53,15 @@ module _ {V : Type 0} (same : V → V → Bool) where
 
   differ_filtered : (u : V) (test : V → Bool) (ws : List V) → AllDiffer u ws → AllDiffer u (filter test ws)
   differ_filtered u test [] a = tt
-  differ_filtered u test (w ∷ ws) a = by_test (test w) (differ_filtered u test ws a.1)
-    where
-      by_test : (t : Bool) → AllDiffer u (filter test ws) → AllDiffer u (cond t (w ∷ filter test ws) (filter test ws))
-      by_test true h = (a.0, h)
-      by_test false h = h
+  differ_filtered u test (w ∷ ws) a = grind (arith, filter, cond, differ_filtered u test ws a.1)
 
   apart_filtered : (test : V → Bool) (ws : List V) → AreApart ws → AreApart (filter test ws)
   apart_filtered test [] a = tt
-  apart_filtered test (w ∷ ws) a = by_test (test w) (apart_filtered test ws a.1)
-    where
-      by_test : (t : Bool) → AreApart (filter test ws) → AreApart (cond t (w ∷ filter test ws) (filter test ws))
-      by_test true h = (differ_filtered w test ws a.0, h)
-      by_test false h = h
+  apart_filtered test (w ∷ ws) a = grind (arith, filter, cond, differ_filtered, apart_filtered test ws a.1)
 
   left_differ : (v : V) (ws : List V) → AllDiffer v (filter (λ k. not (same v k)) ws)
   left_differ v [] = tt
-  left_differ v (w ∷ ws) = by_test (same v w) refl (left_differ v ws)
-    where
-      by_test : (t : Bool) → same v w ≡ t → AllDiffer v (filter (λ k. not (same v k)) ws) → AllDiffer v (cond (not t) (w ∷ filter (λ k. not (same v k)) ws) (filter (λ k. not (same v k)) ws))
-      by_test true e h = h
-      by_test false e h = (e, h)
+  left_differ v (w ∷ ws) = grind (arith, filter, not, cond, left_differ v ws)
 
   pub seen_apart : (vs : List V) → AreApart (first_seen same vs)
   seen_apart [] = tt

@@ -1,5 +1,5 @@
 -- Sets: when they are empty.
-use Rattle.std.proofs.Common.{◌≡◌, ℕ, Bool, true, false, not, List, [], ◌∷◌, length, eqb, eqb-true, eq-eqb, Some, None, refl, sym, ap, ◌∙◌, ◌↔◌}
+use Rattle.std.proofs.Common.{◌≡◌, ℕ, Bool, true, false, not, List, [], ◌∷◌, length, eqb, eqb-true, eq-eqb, Some, None, refl, sym, ap, ◌∙◌, ◌↔◌, arith}
 use mathlib.Core.Bool.{beq}
 use Rattle.std.specs.declared.cmp.Ordering.{Ordering}
 use Rattle.std.specs.Cmp.{IsTotalOrder}
@@ -21,9 +21,7 @@ module _ {T : Type 0} {cmp : T → T → Ordering} (o : IsTotalOrder cmp) where
   value_cut v x xs a = value_at_point cmp v (x ∷ xs) (Some x.0) ∙ value_from_later (cut_total o) v x xs (Some x.0) (before_itself (cut_total o) x.0) ∙ value_from_low (cut_total o) x.1 xs (Some x.0) a
 
   both_false : (a b : Bool) → a ≡ false → b ≡ false → not (beq a b) ≡ true → ⊥
-  both_false true b e f h = true≢false e
-  both_false false true e f h = true≢false f
-  both_false false false e f h = false≢true h
+  both_false a b h1 h2 h3 = grind arith
 
   -- a set without a point is one piece
   pub set_empty : (first : Bool) (xs : List (Cut T × Bool)) → ascends (cut_cmp cmp) None xs ≡ true → is_merged beq first xs ≡ true →
@@ -37,10 +35,7 @@ module _ {T : Type 0} {cmp : T → T → Ordering} (o : IsTotalOrder cmp) where
 
   pub empty_then : (first : Bool) (xs : List (Cut T × Bool)) (n : ℕ) (r : Bool) → ascends (cut_cmp cmp) None xs ≡ true → is_merged beq first xs ≡ true → first ≡ false → n ≡ length xs → r ≡ eqb n 0 →
       (r ≡ true) ↔ ((p : Point T) → value_at (stands_before (λ v. v) cmp p) first xs ≡ false)
-  empty_then first xs n r a m e f g = (
-    λ h. one_piece first xs e (nil_from_length xs (sym f ∙ eqb-true n 0 (sym g ∙ h))),
-    λ h. g ∙ eq-eqb n 0 (f ∙ ap length (set_empty first xs a m h).1),
-  )
+  empty_then first xs n r h1 h2 h3 h4 h5 = grind (arith, one_piece, nil_from_length, eqb-true, eq-eqb, length, set_empty)
 
   pub empty_else : (first : Bool) (xs : List (Cut T × Bool)) → ascends (cut_cmp cmp) None xs ≡ true → is_merged beq first xs ≡ true → first ≡ true →
       (not first ≡ true) ↔ ((p : Point T) → value_at (stands_before (λ v. v) cmp p) first xs ≡ false)

@@ -1,5 +1,5 @@
 -- The span of the intervals of a set, by its first and its last cut.
-use Rattle.std.proofs.Common.{◌≡◌, Bool, true, false, cond, List, [], ◌∷◌, ◌++◌, Some, refl, ap, ◌∙◌}
+use Rattle.std.proofs.Common.{◌≡◌, Bool, true, false, cond, List, [], ◌∷◌, ◌++◌, Some, refl, ap, ◌∙◌, arith}
 use mathlib.Core.Bool.{beq}
 use Rattle.std.specs.Option.{option_map}
 use Rattle.std.specs.declared.ops.Bound.{Bound}
@@ -22,9 +22,7 @@ module _ {T : Type 0} where
 
   span_first : (c : Cut T) (b : Bool) (xs : List (Cut T × Bool)) → is_merged beq false ((c, b) ∷ xs) ≡ true →
       span_of (intervals_among (parts_from (lower_of c) b xs)) ≡ Some (lower_of c, upper_after ((c, b) ∷ xs))
-  span_first c false xs m = cc m
-  span_first c true [] m = refl
-  span_first c true (y ∷ ys) m = ap (λ (u : Bound T). Some (lower_of c, u)) (upper_held Unbounded (lower_of c) y.0 y.1 true ys m)
+  span_first c b xs h1 = grind (arith, upper_held)
 
   pub span_is : (first : Bool) (xs : List (Cut T × Bool)) → is_merged beq first xs ≡ true → span_of (intervals_among (parts_from Unbounded first xs)) ≡ option_map (λ l. (l, upper_after xs)) (lower_from first xs)
   span_is true [] m = refl

@@ -4,21 +4,21 @@ use Rattle.std.proofs.Common.{◌≡◌, ℕ, zero, suc, ◌<◌, get_or, Bool, 
 use mathlib.Core.Bool.{beq}
 use Rattle.std.specs.List.{list_any, dedup, dedup_from}
 use Rattle.std.specs.List.Sorted.{IsSorted, IsPermutation}
-use Rattle.std.specs.Ordering.{is_lt, is_eq, ordering_then, ordering_reverse}
+use Rattle.std.specs.Ordering.{is_lt, is_eq, ordering_then}
 use Rattle.std.specs.declared.cmp.Ordering.{Ordering}
 use Rattle.std.specs.declared.cmp.Ordering.TheVariants.{Less, Equal, Greater}
 use Rattle.std.specs.declared.ops.Bound.TheVariants.{Included}
 use Rattle.std.specs.Cmp.{IsTotalOrder}
-use Rattle.std.proofs.lemmas.Bool.{and_parts, and_from, true≢false, false≢true}
+use Rattle.std.proofs.lemmas.Bool.{and_parts, and_from}
 use Rattle.std.proofs.lemmas.Cmp.{tied_itself, alike_right}
 use Rattle.std.proofs.lemmas.List.Sorted.{list_any-IsPermutation}
 use Rattle.version_ranges.specs.declared.cut.Cut.{Cut}
-use Rattle.version_ranges.specs.Point.{Point, is_in_bounds, point_lt, point_cmp, at, above}
+use Rattle.version_ranges.specs.Point.{Point, is_in_bounds, point_lt, above}
 use Rattle.version_ranges.specs.Cut.{cut_cmp, stands_before}
 use Rattle.version_ranges.specs.Steps.{value_at, is_before, ascends, is_merged}
 use Rattle.version_ranges.proofs.StepLaws.{Alike, alike_itself, alike_moved, alike_value, alike_ascends, lt_less, is_equal}
 use Rattle.version_ranges.proofs.PointLaws.{cut_total, place, value_at_place}
-use Rattle.version_ranges.proofs.PartLaws.{before_later, point_total}
+use Rattle.version_ranges.proofs.PartLaws.{before_later}
 
 module _ {T : Type 0} where
   -- a value extends from the cut at it to the cut above it
@@ -54,10 +54,7 @@ module _ {T : Type 0} {cmp : T → T → Ordering} (o : IsTotalOrder cmp) where
       ∙ none_left p (high_cut v) vs r.1 (before_later cmp o p (low_cut v) (high_cut v) low (lt_less _ (low_high v)))
 
   spot_by : (low high more : Bool) → (high ≡ true → more ≡ false) → (low ≡ true → high ≡ true) → cond low false (cond high true more) ≡ ((not low && high) || more)
-  spot_by true true more f g = sym (f refl)
-  spot_by true false more f g = absurd (false≢true (g refl))
-  spot_by false true more f g = refl
-  spot_by false false more f g = refl
+  spot_by low high more h1 h2 = grind arith
 
   -- a point is in the set if it is at a value
   pub spots_value : (low : Option (Cut T)) (vs : List T) (p : Point T) → ascends (cut_cmp cmp) low (spots vs) ≡ true → value_at (stands_before (λ v. v) cmp p) false (spots vs) ≡ list_any (is_at p) vs
@@ -72,28 +69,17 @@ module _ {T : Type 0} {cmp : T → T → Ordering} (o : IsTotalOrder cmp) where
   module _ (eq : T → T → Bool) (ties : (x y : T) → eq x y ≡ is_eq (cmp x y)) where
     -- values that tie are at the same points
     pub at_tied : (p : Point T) (x y : T) → cmp x y ≡ Equal → is_at p x ≡ is_at p y
-    at_tied p x y e =
-        ap (λ r. not (is_lt r) && point_lt cmp p (above x)) (tied_right (at x) (at y) e) ∙ ap (λ r. not (point_lt cmp p (at y)) && is_lt r) (tied_right (above x) (above y) e)
-      where
-        tied_right : (q r : Point T) → point_cmp cmp q r ≡ Equal → point_cmp cmp p q ≡ point_cmp cmp p r
-        tied_right q r f =
-            (point_total cmp o).antisymm p q ∙ ap ordering_reverse ((point_total cmp o).congr q r p f) ∙ sym ((point_total cmp o).antisymm p r)
+    at_tied p x y h1 = grind arith
 
     absorbed : (a b : Bool) → (a || (a || b)) ≡ (a || b)
-    absorbed true b = refl
-    absorbed false b = refl
+    absorbed a b = grind arith
 
     any_from : (p : Point T) (k : T) (xs : List T) → list_any (is_at p) (dedup_from eq k xs) ≡ (is_at p k || list_any (is_at p) xs)
     any_from p k [] = refl
-    any_from p k (x ∷ xs) = by_test (eq x k) refl (any_from p k xs) (any_from p x xs)
-      where
-        by_test : (b : Bool) → eq x k ≡ b → list_any (is_at p) (dedup_from eq k xs) ≡ (is_at p k || list_any (is_at p) xs) → list_any (is_at p) (dedup_from eq x xs) ≡ (is_at p x || list_any (is_at p) xs) → list_any (is_at p) (cond b (dedup_from eq k xs) (k ∷ dedup_from eq x xs)) ≡ (is_at p k || (is_at p x || list_any (is_at p) xs))
-        by_test true e m n = m ∙ sym (absorbed (is_at p k) (list_any (is_at p) xs)) ∙ ap (λ b. is_at p k || (b || list_any (is_at p) xs)) (sym (at_tied p x k (is_equal _ (sym (ties x k) ∙ e))))
-        by_test false e m n = ap (λ b. is_at p k || b) n
+    any_from p k (x ∷ xs) = grind (arith, cond, absorbed, at_tied, is_equal, any_from p k xs, any_from p x xs)
 
     any_dedup : (p : Point T) (xs : List T) → list_any (is_at p) (dedup eq xs) ≡ list_any (is_at p) xs
-    any_dedup p [] = refl
-    any_dedup p (x ∷ xs) = any_from p x xs
+    any_dedup p xs = grind (arith, any_from)
 
     -- no value is less than the one before it
     abbrev pub Rises : T → List T → Type 0
@@ -112,12 +98,7 @@ module _ {T : Type 0} {cmp : T → T → Ordering} (o : IsTotalOrder cmp) where
     rises_tied x k (y ∷ ys) e r = (ap is_lt (sym (alike_right o x k y e)) ∙ r.0, r.1)
 
     after_it : (x k : T) → is_lt (cmp x k) ≡ false → eq x k ≡ false → cmp k x ≡ Less
-    after_it x k e f = by_order (cmp x k) refl
-      where
-        by_order : (r : Ordering) → cmp x k ≡ r → cmp k x ≡ Less
-        by_order Less g = absurd (true≢false (ap is_lt (sym g) ∙ e))
-        by_order Equal g = absurd (true≢false (ap is_eq (sym g) ∙ sym (ties x k) ∙ f))
-        by_order Greater g = o.antisymm k x ∙ ap ordering_reverse g
+    after_it x k h1 h2 = grind arith
 
     dedup_ascends : (low : Option (Cut T)) (k : T) (xs : List T) → is_before (cut_cmp cmp) low (low_cut k) ≡ true → Rises k xs → ascends (cut_cmp cmp) low (spots (dedup_from eq k xs)) ≡ true
     dedup_ascends low k [] h r = and_from _ _ h (and_from _ _ (low_high k) refl)
@@ -155,8 +136,7 @@ module _ {T : Type 0} {cmp : T → T → Ordering} (o : IsTotalOrder cmp) where
   flags_merged v w [] [] e a = refl
   flags_merged v w [] (y ∷ ys) e a = absurd a
   flags_merged v w (x ∷ xs) [] e a = absurd a
-  flags_merged v w (x ∷ xs) (y ∷ ys) e a =
-      ap (λ b. not (beq b x.1) && is_merged beq x.1 xs) e ∙ ap (λ b. not (beq w b) && is_merged beq x.1 xs) a.1.0 ∙ ap (λ b. not (beq w y.1) && b) (flags_merged x.1 y.1 xs ys a.1.0 a.1.1)
+  flags_merged v w (x ∷ xs) (y ∷ ys) e a = grind (arith, not, beq, flags_merged x.1 y.1 xs ys a.1.0 a.1.1)
 
   module _ (out : List (Cut T × Bool)) (left all : List T) (a : Spotted out left all) (e : left ≡ []) where
     spots_end : Alike (cut_cmp cmp) SameFlag out (spots all)

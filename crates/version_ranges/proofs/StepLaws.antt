@@ -1,11 +1,11 @@
 -- Laws of functions of points that are constant between cuts.
-use Rattle.std.proofs.Common.{◌≡◌, ℕ, Bool, true, false, not, cond, ◌&&◌, List, [], ◌∷◌, ◌++◌, map, Option, Some, None, refl, sym, ap, ◌∙◌, ◌⊎◌, inl, inr}
+use Rattle.std.proofs.Common.{◌≡◌, ℕ, Bool, true, false, not, cond, ◌&&◌, List, [], ◌∷◌, ◌++◌, map, Option, Some, None, refl, sym, ap, ◌∙◌, ◌⊎◌, inl, inr, arith, rules}
 use lib.Pointwise.{pointwise}
 use Rattle.std.specs.Ordering.{is_lt, is_eq, ordering_reverse, match_ordering}
 use Rattle.std.specs.declared.cmp.Ordering.{Ordering}
 use Rattle.std.specs.declared.cmp.Ordering.TheVariants.{Less, Equal, Greater}
 use Rattle.std.specs.Cmp.{IsTotalOrder, IsEquivalence}
-use Rattle.std.proofs.lemmas.Cmp.{tied_itself, alike_right}
+use Rattle.std.proofs.lemmas.Cmp.{tied_itself}
 use Rattle.std.proofs.lemmas.Bool.{true≢false, false≢true, and_parts, and_from}
 use Rattle.version_ranges.specs.Steps.{is_before, ascends, value_at, piece_at, is_merged}
 use Rattle.version_ranges.specs.Sweep.{overlay, overlay_step, merge_steps}
@@ -19,18 +19,13 @@ abbrev pub piece_from : {C V : Type 0} → (C → C → Ordering) → List (C ×
 piece_from cmp xs p = piece_at (is_before cmp p) xs
 
 pub lt_less : (r : Ordering) → is_lt r ≡ true → r ≡ Less
-lt_less Less e = refl
-lt_less Equal e = absurd (false≢true e)
-lt_less Greater e = absurd (false≢true e)
+lt_less r h1 = grind arith
 
 pub is_equal : (r : Ordering) → is_eq r ≡ true → r ≡ Equal
-is_equal Less e = absurd (false≢true e)
-is_equal Equal e = refl
-is_equal Greater e = absurd (false≢true e)
+is_equal r h1 = grind arith
 
 pub not_true : (b c : Bool) → (b ≡ true → c ≡ true) → c ≡ false → b ≡ false
-not_true true c f e = absurd (true≢false (sym (f refl) ∙ e))
-not_true false c f e = refl
+not_true b c h1 h2 = grind arith
 
 module _ {C V : Type 0} (cmp : C → C → Ordering) (R : V → V → Type 0) where
   -- the same steps, at equal cuts, and with values that are equal by R
@@ -43,12 +38,10 @@ module _ {C V : Type 0} (cmp : C → C → Ordering) (R : V → V → Type 0) wh
 module _ {C : Type 0} {cmp : C → C → Ordering} (o : IsTotalOrder cmp) where
   -- a point before a cut lies before each later cut
   pub before_trans : (p : Option C) (c d : C) → is_before cmp p c ≡ true → cmp c d ≡ Less → is_before cmp p d ≡ true
-  before_trans None c d h e = refl
-  before_trans (Some p) c d h e = ap is_lt (o.trans p c d (lt_less (cmp p c) h) e)
+  before_trans p c d h1 h2 = grind arith
 
   pub before_alike : (p : Option C) (c d : C) → cmp c d ≡ Equal → is_before cmp p c ≡ is_before cmp p d
-  before_alike None c d e = refl
-  before_alike (Some p) c d e = ap is_lt (alike_right o c d p e)
+  before_alike p c d h1 = grind arith
 
   pub before_itself : (c : C) → is_before cmp (Some c) c ≡ false
   before_itself c = ap is_lt (tied_itself o c)
@@ -56,9 +49,7 @@ module _ {C : Type 0} {cmp : C → C → Ordering} (o : IsTotalOrder cmp) where
   module _ {V : Type 0} where
     pub ascends_lower : (p : Option C) (c : C) (xs : List (C × V)) → is_before cmp p c ≡ true → ascends cmp (Some c) xs ≡ true → ascends cmp p xs ≡ true
     ascends_lower p c [] h a = refl
-    ascends_lower p c (x ∷ xs) h a =
-        let q = and_parts _ _ a in
-        and_from _ _ (before_trans p c x.0 h (lt_less (cmp c x.0) q.0)) q.1
+    ascends_lower p c (x ∷ xs) h a = grind (arith, and_parts, and_from, before_trans, lt_less)
 
     pub ascends_alike : (c d : C) (xs : List (C × V)) → cmp c d ≡ Equal → ascends cmp (Some c) xs ≡ ascends cmp (Some d) xs
     ascends_alike c d [] e = refl
@@ -78,24 +69,17 @@ module _ {C : Type 0} {cmp : C → C → Ordering} (o : IsTotalOrder cmp) where
   module _ {V W : Type 0} where
     value_from_mapped : (v : V) (w : W) (ys : List (C × W)) (p : Option C) → ◌≡◌ {A = V × W} (value_from cmp (v, w) (map (λ y. (y.0, (v, y.1))) ys) p) (v, value_from cmp w ys p)
     value_from_mapped v w [] p = refl
-    value_from_mapped v w (y ∷ ys) p =
-        elim (is_before cmp p y.0) as (λ b. ◌≡◌ {A = V × W} (cond b (v, w) (value_from cmp (v, y.1) (map (λ y. (y.0, (v, y.1))) ys) p)) (v, cond b w (value_from cmp y.1 ys p))) [
-          | true ↦ refl
-          | false ↦ value_from_mapped v y.1 ys p
-        ]
+    value_from_mapped v w (y ∷ ys) p = grind (arith, cond, map, value_from_mapped v y.1 ys p)
 
     module _ (v : V) (w : W) (a : V) (b : W) (m : V × W) where
       first_is : (bx by : Bool) → (bx ≡ true → by ≡ true) → ◌≡◌ {A = V × W} m (a, cond by w b) → ◌≡◌ {A = V × W} (cond bx (v, w) m) (cond bx v a, cond by w b)
-      first_is true by h e = ap (λ c. let q : V × W = (v, cond c w b) in q) (sym (h refl))
-      first_is false by h e = e
+      first_is bx by h1 h2 = grind arith
 
       both_are : (bx by : Bool) → bx ≡ by → ◌≡◌ {A = V × W} m (a, b) → ◌≡◌ {A = V × W} (cond bx (v, w) m) (cond bx v a, cond by w b)
-      both_are true by h e = ap (λ c. let q : V × W = (v, cond c w b) in q) h
-      both_are false by h e = e ∙ ap (λ c. let q : V × W = (a, cond c w b) in q) h
+      both_are bx by h1 h2 = grind arith
 
       second_is : (bx by : Bool) → (by ≡ true → bx ≡ true) → ◌≡◌ {A = V × W} m (cond bx v a, b) → ◌≡◌ {A = V × W} (cond by (v, w) m) (cond bx v a, cond by w b)
-      second_is bx true h e = ap (λ c. let q : V × W = (cond c v a, w) in q) (sym (h refl))
-      second_is bx false h e = e
+      second_is bx by h1 h2 = grind arith
 
     -- what `overlay` gives at a point
     abbrev pub Both : V → List (C × V) → W → List (C × W) → Option C → List (C × (V × W)) → Type 0
@@ -105,23 +89,13 @@ module _ {C : Type 0} {cmp : C → C → Ordering} (o : IsTotalOrder cmp) where
         Both x.1 xs w (y ∷ ys) p first → Both x.1 xs y.1 ys p both → Both v (x ∷ xs) y.1 ys p second →
         (r : Ordering) → cmp x.0 y.0 ≡ r →
         Both v (x ∷ xs) w (y ∷ ys) p (match_ordering r ((x.0, (x.1, w)) ∷ first) ((x.0, (x.1, y.1)) ∷ both) ((y.0, (v, y.1)) ∷ second))
-    step_by_order v x xs w y ys p first both second f b s Less e =
-        first_is v w _ _ _ (is_before cmp p x.0) (is_before cmp p y.0) (λ h. before_trans p x.0 y.0 h e) f
-    step_by_order v x xs w y ys p first both second f b s Equal e =
-        both_are v w _ _ _ (is_before cmp p x.0) (is_before cmp p y.0) (before_alike p x.0 y.0 e) b
-    step_by_order v x xs w y ys p first both second f b s Greater e =
-        second_is v w _ _ _ (is_before cmp p x.0) (is_before cmp p y.0) (λ h. before_trans p y.0 x.0 h (o.antisymm y.0 x.0 ∙ ap ordering_reverse e)) s
+    step_by_order v x xs w y ys p first both second h1 h2 h3 r h4 = grind arith
 
     step_value : (v : V) (x : C × V) (xs : List (C × V)) (more : W → List (C × W) → List (C × (V × W))) (p : Option C) →
         ((w : W) (ys : List (C × W)) → Both x.1 xs w ys p (more w ys)) →
         (w : W) (ys : List (C × W)) → Both v (x ∷ xs) w ys p (overlay_step cmp v x more w ys)
-    step_value v x xs more p h w [] =
-        elim (is_before cmp p x.0) as (λ b. ◌≡◌ {A = V × W} (cond b (v, w) (value_from cmp (x.1, w) (more w []) p)) (cond b v (value_from cmp x.1 xs p), w)) [
-          | true ↦ refl
-          | false ↦ h w []
-        ]
-    step_value v x xs more p h w (y ∷ ys) =
-        step_by_order v x xs w y ys p _ _ _ (h w (y ∷ ys)) (h y.1 ys) (step_value v x xs more p h y.1 ys) (cmp x.0 y.0) refl
+    step_value v x xs more p h w [] = grind (arith, cond)
+    step_value v x xs more p h w (y ∷ ys) = grind (arith, step_by_order, step_value v x xs more p h y.1 ys)
 
     pub overlay_value : (v : V) (xs : List (C × V)) (w : W) (ys : List (C × W)) (p : Option C) → Both v xs w ys p (overlay cmp v xs w ys)
     overlay_value v [] w ys p = value_from_mapped v w ys p
@@ -138,27 +112,14 @@ module _ {C : Type 0} {cmp : C → C → Ordering} (o : IsTotalOrder cmp) where
         (low : Option C) → ascends cmp low (x ∷ xs) ≡ true → ascends cmp low (y ∷ ys) ≡ true →
         (r : Ordering) → cmp x.0 y.0 ≡ r →
         ascends cmp {V = V × W} low (match_ordering r ((x.0, (x.1, w)) ∷ first) ((x.0, (x.1, y.1)) ∷ both) ((y.0, (v, y.1)) ∷ second)) ≡ true
-    order_ascends v x xs w y ys first both second f b s low a c Less e =
-        let p = and_parts _ _ a in
-        let q = and_parts _ _ c in
-        and_from _ _ p.0 (f p.1 (and_from _ _ (ap is_lt e) q.1))
-    order_ascends v x xs w y ys first both second f b s low a c Equal e =
-        let p = and_parts _ _ a in
-        let q = and_parts _ _ c in
-        and_from _ _ p.0 (b p.1 (ascends_alike x.0 y.0 ys e ∙ q.1))
-    order_ascends v x xs w y ys first both second f b s low a c Greater e =
-        let p = and_parts _ _ a in
-        let q = and_parts _ _ c in
-        and_from _ _ q.0 (s (and_from _ _ (ap is_lt (o.antisymm y.0 x.0 ∙ ap ordering_reverse e)) p.1) q.1)
+    order_ascends v x xs w y ys first both second h1 h2 h3 low h4 h5 r h6 = grind (arith, and_parts, and_from, ascends_alike)
 
     step_ascends : (v : V) (x : C × V) (xs : List (C × V)) (more : W → List (C × W) → List (C × (V × W))) →
         ((w : W) (ys : List (C × W)) → ascends cmp (Some x.0) ys ≡ true → ascends cmp (Some x.0) (more w ys) ≡ true) →
         ascends cmp (Some x.0) xs ≡ true →
         (w : W) (ys : List (C × W)) (low : Option C) → is_before cmp low x.0 ≡ true → ascends cmp low ys ≡ true → ascends cmp low (overlay_step cmp v x more w ys) ≡ true
     step_ascends v x xs more h t w [] low a c = and_from _ _ a (h w [] refl)
-    step_ascends v x xs more h t w (y ∷ ys) low a c =
-        order_ascends v x xs w y ys _ _ _ (λ _ q. h w (y ∷ ys) q) (λ _ q. h y.1 ys q)
-        (λ q r. step_ascends v x xs more h t y.1 ys (Some y.0) ((and_parts _ _ q).0) r) low (and_from _ _ a t) c (cmp x.0 y.0) refl
+    step_ascends v x xs more h t w (y ∷ ys) low a c = grind (arith, order_ascends, and_parts, and_from, step_ascends v x xs more h t y.1 ys)
 
     pub overlay_ascends : (v : V) (xs : List (C × V)) (w : W) (ys : List (C × W)) (low : Option C) → ascends cmp low xs ≡ true → ascends cmp low ys ≡ true → ascends cmp low (overlay cmp v xs w ys) ≡ true
     overlay_ascends v [] w ys low a c = mapped_ascends v low ys c
@@ -183,47 +144,26 @@ module _ {C : Type 0} {cmp : C → C → Ordering} (o : IsTotalOrder cmp) where
     alike_value [] [] v w p r a = r
     alike_value [] (y ∷ ys) v w p r a = absurd a
     alike_value (x ∷ xs) [] v w p r a = absurd a
-    alike_value (x ∷ xs) (y ∷ ys) v w p r a = by_test (is_before cmp p x.0) (is_before cmp p y.0) (before_alike p x.0 y.0 a.0) (alike_value xs ys x.1 y.1 p a.1.0 a.1.1)
-      where
-        by_test : (b c : Bool) → b ≡ c → R (value_from cmp x.1 xs p) (value_from cmp y.1 ys p) → R (cond b v (value_from cmp x.1 xs p)) (cond c w (value_from cmp y.1 ys p))
-        by_test true true e k = r
-        by_test true false e k = absurd (true≢false e)
-        by_test false true e k = absurd (false≢true e)
-        by_test false false e k = k
+    alike_value (x ∷ xs) (y ∷ ys) v w p r a = grind (arith, before_alike, cond, true≢false, false≢true, alike_value xs ys x.1 y.1 p a.1.0 a.1.1)
 
     pub alike_ascends : (xs ys : List (C × V)) (low : Option C) → Alike cmp R xs ys → ascends cmp low xs ≡ ascends cmp low ys
     alike_ascends [] [] low a = refl
     alike_ascends [] (y ∷ ys) low a = absurd a
     alike_ascends (x ∷ xs) [] low a = absurd a
-    alike_ascends (x ∷ xs) (y ∷ ys) low a =
-        ap (λ b. b && ascends cmp (Some x.0) xs) (before_alike low x.0 y.0 a.0)
-        ∙ ap (λ b. is_before cmp low y.0 && b) (alike_ascends xs ys (Some x.0) a.1.1 ∙ ascends_alike x.0 y.0 ys a.0)
+    alike_ascends (x ∷ xs) (y ∷ ys) low a = grind (arith, before_alike, ascends_alike, alike_ascends xs ys)
 
   module _ {V : Type 0} {same : V → V → Bool} (s : IsEquivalence same) where
-    merge_alike : (v w : V) (xs : List (C × V)) → same v w ≡ true → merge_steps same v xs ≡ merge_steps same w xs
-    merge_alike v w [] e = refl
-    merge_alike v w (x ∷ xs) e =
-        let m : merge_steps same v xs ≡ merge_steps same w xs = merge_alike v w xs e in
-        ap (λ b. cond b (merge_steps same v xs) (x ∷ merge_steps same x.1 xs)) (s.congr v w x.1 e) ∙ ap (λ l. cond (same w x.1) l (x ∷ merge_steps same x.1 xs)) m
-
     same_trans : (u v w : V) → same u v ≡ true → same v w ≡ true → same u w ≡ true
     same_trans u v w e f = s.congr u v w e ∙ f
 
     same_start : (v w : V) (xs : List (C × V)) (p : Option C) → same v w ≡ true → same (value_from cmp v xs p) (value_from cmp w xs p) ≡ true
     same_start v w [] p e = e
-    same_start v w (x ∷ xs) p e =
-        elim (is_before cmp p x.0) as (λ b. same (cond b v (value_from cmp x.1 xs p)) (cond b w (value_from cmp x.1 xs p)) ≡ true) [
-          | true ↦ e
-          | false ↦ s.refl _
-        ]
+    same_start v w (x ∷ xs) p e = grind (arith, cond)
 
     merge_by : (v : V) (x : C × V) (xs : List (C × V)) (p : Option C) → ascends cmp (Some x.0) xs ≡ true →
         same (value_from cmp v (merge_steps same v xs) p) (value_from cmp v xs p) ≡ true → same (value_from cmp x.1 (merge_steps same x.1 xs) p) (value_from cmp x.1 xs p) ≡ true →
         (t : Bool) → same v x.1 ≡ t → (b : Bool) → is_before cmp p x.0 ≡ b → same (value_from cmp v (cond t (merge_steps same v xs) (x ∷ merge_steps same x.1 xs)) p) (cond b v (value_from cmp x.1 xs p)) ≡ true
-    merge_by v x xs p a h k true e true f = ap (same (value_from cmp v (merge_steps same v xs) p)) (sym (value_from_low v xs p (ascends_lower p x.0 xs f a))) ∙ h
-    merge_by v x xs p a h k true e false f = same_trans _ _ _ h (same_start v x.1 xs p e)
-    merge_by v x xs p a h k false e true f = ap (λ u. same u v) (value_from_first v x (merge_steps same x.1 xs) p f) ∙ s.refl v
-    merge_by v x xs p a h k false e false f = ap (λ u. same u (value_from cmp x.1 xs p)) (value_from_later v x (merge_steps same x.1 xs) p f) ∙ k
+    merge_by v x xs p h1 h2 h3 t h4 b h5 = search (rules, value_from_low, ascends_lower, same_trans, same_start, value_from_first, value_from_later)
 
     -- merged steps are the same function
     pub merge_value : (low : Option C) (v : V) (xs : List (C × V)) (p : Option C) → ascends cmp low xs ≡ true → same (value_from cmp v (merge_steps same v xs) p) (value_from cmp v xs p) ≡ true
@@ -234,16 +174,14 @@ module _ {C : Type 0} {cmp : C → C → Ordering} (o : IsTotalOrder cmp) where
 
     keep_merged : (x : C × V) (xs : List (C × V)) (v : V) (t : Bool) → same v x.1 ≡ t → is_merged same v (merge_steps same v xs) ≡ true → is_merged same x.1 (merge_steps same x.1 xs) ≡ true →
         is_merged same v (cond t (merge_steps same v xs) (x ∷ merge_steps same x.1 xs)) ≡ true
-    keep_merged x xs v true e h k = h
-    keep_merged x xs v false e h k = and_from _ _ (ap not e) k
+    keep_merged x xs v t h1 h2 h3 = grind arith
 
     pub merge_merges : (v : V) (xs : List (C × V)) → is_merged same v (merge_steps same v xs) ≡ true
     merge_merges v [] = refl
     merge_merges v (x ∷ xs) = keep_merged x xs v (same v x.1) refl (merge_merges v xs) (merge_merges x.1 xs)
 
     keep_ascends : (low : Option C) (x : C × V) (ys zs : List (C × V)) (t : Bool) → is_before cmp low x.0 ≡ true → ascends cmp low ys ≡ true → ascends cmp (Some x.0) zs ≡ true → ascends cmp low (cond t ys (x ∷ zs)) ≡ true
-    keep_ascends low x ys zs true h a c = a
-    keep_ascends low x ys zs false h a c = and_from _ _ h c
+    keep_ascends low x ys zs t h1 h2 h3 = grind arith
 
     pub merge_ascends : (low : Option C) (v : V) (xs : List (C × V)) → ascends cmp low xs ≡ true → ascends cmp low (merge_steps same v xs) ≡ true
     merge_ascends low v [] a = refl
@@ -262,15 +200,13 @@ same_steps eq same = pointwise (λ x y. eq x.0 y.0 && same x.1 y.1)
 
 module _ {C : Type 0} {cmp : C → C → Ordering} (o : IsTotalOrder cmp) where
   pub from_itself : (low : Option C) → IsFrom cmp low low
-  from_itself None = tt
-  from_itself (Some c) = before_itself o c
+  from_itself low = grind arith
 
   turned : (c d : C) → cmp c d ≡ Less → cmp d c ≡ Greater
   turned c d e = o.antisymm d c ∙ ap ordering_reverse e
 
   pub from_later : (low : Option C) (c : C) (p : Option C) → is_before cmp low c ≡ true → is_before cmp p c ≡ false → IsFrom cmp low p
-  from_later None c p h k = tt
-  from_later (Some b) c p h k = not_true _ _ (λ e. before_trans o p b c e (lt_less (cmp b c) h)) k
+  from_later low c p h1 h2 = grind arith
 
   module _ {V : Type 0} {same : V → V → Bool} (s : IsEquivalence same) (eq : C → C → Bool) (ties : (c d : C) → eq c d ≡ is_eq (cmp c d)) where
     -- a point at which the two functions differ
@@ -318,8 +254,7 @@ module _ {C : Type 0} {cmp : C → C → Ordering} (o : IsTotalOrder cmp) where
         (at_first low w v y ys (x ∷ xs) b n (s.symm w v ∙ k) (value_from_first o v x xs (Some y.0) (ap is_lt (o.antisymm y.0 x.0 ∙ ap ordering_reverse e)))))
 
     not_not : (b : Bool) → not b ≡ true → b ≡ false
-    not_not true e = absurd (false≢true e)
-    not_not false e = refl
+    not_not b h1 = grind arith
 
     at_start : (low : Option C) (v w : V) (xs ys : List (C × V)) → ascends cmp low xs ≡ true → ascends cmp low ys ≡ true → (t : Bool) → same v w ≡ t → (same v w ≡ true → Compared low v w xs ys) → Compared low v w xs ys
     at_start low v w xs ys a b true e h = h e

@@ -1,6 +1,6 @@
 -- For `place_of` and `pass`, the private steps of `Cuts::gather`: a value that joins the list, two
 -- sets that end and go on at a cut, and the steps that are done.
-use Rattle.std.proofs.Common.{◌≡◌, ℕ, zero, suc, ◌+◌, ◌<◌, Bool, true, false, not, cond, ◌||◌, List, [], ◌∷◌, ◌++◌, map, take, set, length, get_or, Option, Some, None, refl, sym, ap, ◌∙◌, subst, slice_get, eqb, add-one}
+use Rattle.std.proofs.Common.{◌≡◌, ℕ, zero, suc, ◌+◌, ◌<◌, Bool, true, false, not, cond, ◌||◌, List, [], ◌∷◌, ◌++◌, map, take, set, length, get_or, Option, Some, None, refl, sym, ap, ◌∙◌, slice_get, eqb, add-one, arith}
 use mathlib.Core.Bool.{beq}
 use Rattle.std.specs.List.{list_any}
 use Rattle.std.specs.declared.cmp.Ordering.{Ordering}
@@ -17,8 +17,7 @@ use Rattle.version_ranges.proofs.Gathers.{alike_more}
 
 -- what holds of a list before and after a push holds of what is left of it
 pub either_list : {X : Type 0} (P : List X → Type 0) (b : Bool) (new xs ys : List X) → new ≡ cond b ys xs → P xs → P ys → P new
-either_list P true new xs ys e h k = subst P (sym e) k
-either_list P false new xs ys e h k = subst P (sym e) h
+either_list P b new xs ys h1 h2 h3 = grind arith
 
 -- a clone of a cut has the place of the cut
 pub past_clone : {C : Type 0} {cmp : C → C → Ordering} → IsTotalOrder cmp → (xs : List (C × Bool)) (c d : C) → cmp d c ≡ Equal → ascends cmp None (xs ++ (c, true) ∷ []) ≡ true → ascends cmp None (xs ++ (d, true) ∷ []) ≡ true
@@ -44,30 +43,11 @@ module _ {Q : Type 0} where
   pub two_set : (P : Bool → Q → Q → Type 0) → ((q : Q) → P false q q) → (xs : List Q) (from to : ℕ) (p y p' y' : Q) → (from ≡ to → ⊥) →
       slice_get xs from ≡ Some p → P true p y → slice_get xs to ≡ Some p' → P true p' y' →
       (i : ℕ) (q r : Q) → slice_get xs i ≡ Some q → slice_get (set (set xs from y) to y') i ≡ Some r → P (not (beq (eqb i from) (eqb i to))) q r
-  two_set P same xs from to p y p' y' differ at_from h at_to k i q r e f = by_tests (eqb i from) refl (eqb i to) refl
-    where
-      by_tests : (a : Bool) → eqb i from ≡ a → (b : Bool) → eqb i to ≡ b → P (not (beq (eqb i from) (eqb i to))) q r
-      by_tests true a true b = absurd (differ (sym (eqb-true i from a) ∙ eqb-true i to b))
-      by_tests true a false b =
-          let hit : r ≡ y = set_hit xs from y i r a (sym (set_miss (set xs from y) to y' i b) ∙ f) in
-          let at : p ≡ q = same_some p q (sym at_from ∙ ap (slice_get xs) (sym (eqb-true i from a)) ∙ e) in
-          subst (λ t. P (not (beq t (eqb i to))) q r) (sym a) (subst (λ t. P (not (beq true t)) q r) (sym b) (subst (λ z. P true q z) (sym hit) (subst (λ z. P true z y) at h)))
-      by_tests false a true b =
-          let hit : r ≡ y' = set_hit (set xs from y) to y' i r b f in
-          let at : p' ≡ q = same_some p' q (sym at_to ∙ ap (slice_get xs) (sym (eqb-true i to b)) ∙ e) in
-          subst (λ t. P (not (beq t (eqb i to))) q r) (sym a) (subst (λ t. P (not (beq false t)) q r) (sym b) (subst (λ z. P true q z) (sym hit) (subst (λ z. P true z y') at k)))
-      by_tests false a false b =
-          let miss : r ≡ q = same_some r q (sym f ∙ set_miss (set xs from y) to y' i b ∙ set_miss xs from y i a ∙ e) in
-          subst (λ t. P (not (beq t (eqb i to))) q r) (sym a) (subst (λ t. P (not (beq false t)) q r) (sym b) (subst (λ z. P false q z) (sym miss) (same q)))
+  two_set P h1 xs from to p y p' y' h2 h3 h4 h5 h6 i q r h7 h8 = grind (arith, eqb, not, beq, eqb-true, set_hit, set_miss, set, same_some, slice_get)
 
   -- two writes at one place are none
   pub unturned : (P : Bool → Q → Q → Type 0) → ((q : Q) → P false q q) → (xs : List Q) (from to : ℕ) → from ≡ to → (i : ℕ) (q r : Q) → slice_get xs i ≡ Some q → slice_get xs i ≡ Some r → P (not (beq (eqb i from) (eqb i to))) q r
-  unturned P same xs from to h i q r e f =
-      subst (λ j. P (not (beq (eqb i from) (eqb i j))) q r) h (subst (λ t. P t q r) (sym (at_itself (eqb i from))) (subst (λ z. P false q z) (same_some q r (sym e ∙ f)) (same q)))
-    where
-      at_itself : (b : Bool) → not (beq b b) ≡ false
-      at_itself true = refl
-      at_itself false = refl
+  unturned P h1 xs from to h2 i q r h3 h4 = grind arith
 
   get_front : (xs ys : List Q) (i : ℕ) (q : Q) → slice_get xs i ≡ Some q → slice_get (xs ++ ys) i ≡ Some q
   get_front [] ys i q e = none_some q e
@@ -76,8 +56,7 @@ module _ {Q : Type 0} where
 
   -- an element keeps its place when the list grows
   pub stays : (b : Bool) (xs new : List Q) (x : Q) → new ≡ cond b xs (xs ++ x ∷ []) → (i : ℕ) (q : Q) → slice_get xs i ≡ Some q → slice_get new i ≡ Some q
-  stays true xs new x e i q h = ap (λ l. slice_get l i) e ∙ h
-  stays false xs new x e i q h = ap (λ l. slice_get l i) e ∙ get_front xs (x ∷ []) i q h
+  stays b xs new x h1 i q h2 = grind (arith, slice_get, get_front)
 
   module _ {K : Type 0} (key : Q → K) where
     any_at : (test : K → Bool) (qs : List Q) → list_any (λ q. test (key q)) qs ≡ list_any test (map key qs)
@@ -85,8 +64,7 @@ module _ {Q : Type 0} where
     any_at test (q ∷ qs) = ap (λ b. test (key q) || b) (any_at test qs)
 
     not_not : (b : Bool) → not (not b) ≡ b
-    not_not true = refl
-    not_not false = refl
+    not_not b = grind arith
 
     module _ (test : K → Bool) (qs : List Q) (ks : List K) (a : Bool) (held : ks ≡ map key qs) (added : a ≡ not (list_any test ks)) where
       is_known : list_any (λ q. test (key q)) qs ≡ not a
@@ -102,8 +80,7 @@ module _ {Q : Type 0} where
       known_keys = sym (not_not (list_any test ks)) ∙ ap not (sym added)
 
       pub keys_join : (ks' : List K) (k : K) (new : List Q) (q : Q) → a ≡ true → ks' ≡ cond (list_any test ks) ks (ks ++ k ∷ []) → new ≡ qs ++ q ∷ [] → key q ≡ k → ks' ≡ map key new
-      keys_join ks' k new q e f h i =
-          f ∙ ap (λ b. cond b ks (ks ++ k ∷ [])) (known_keys ∙ ap not e) ∙ ap (λ l. l ++ k ∷ []) held ∙ ap (λ y. map key qs ++ y ∷ []) (sym i) ∙ sym (map-append key qs (q ∷ [])) ∙ ap (map key) (sym h)
+      keys_join ks' k new q h1 h2 h3 h4 = grind (arith, cond, known_keys, not, map, map-append)
 
       pub keys_stay : (ks' : List K) (k : K) → a ≡ false → ks' ≡ cond (list_any test ks) ks (ks ++ k ∷ []) → ks' ≡ map key qs
       keys_stay ks' k e f = f ∙ ap (λ b. cond b ks (ks ++ k ∷ [])) (known_keys ∙ ap not e) ∙ held
@@ -114,9 +91,7 @@ module _ {Q : Type 0} where
     at_key (q ∷ qs) (suc i) k e = at_key qs i k e
 
     pub found_key : (test : K → Bool) (qs : List Q) (ks : List K) (i : ℕ) → ks ≡ map key qs → (k : K) × (slice_get ks i ≡ Some k) × (test k ≡ true) → (q : Q) × (slice_get qs i ≡ Some q) × (test (key q) ≡ true)
-    found_key test qs ks i e h =
-        let p = at_key qs i h.0 (ap (λ l. slice_get l i) (sym e) ∙ h.1) in
-        (p.0, p.1, ap test p.2 ∙ h.2)
+    found_key test qs ks i h1 h2 = grind (arith, at_key, slice_get)
 
 -- the steps that are done, with the next one
 pub prefix_more : {X : Type 0} (xs : List X) (i : ℕ) (x : X) → i < length xs → x ≡ get_or xs i x → take (i + 1) xs ≡ take i xs ++ x ∷ []

@@ -1,4 +1,4 @@
-use Rattle.std.proofs.Common.{List, length, ap, subst}
+use Rattle.std.proofs.Common.{List, length, subst}
 use Rattle.marker_diagrams.specs.declared.node_id.NodeId.{NodeId}
 use Rattle.marker_subtrees.specs.Subtrees.{AddsFirst}
 use Rattle.marker_subtrees.proofs.WalkLaws.{adds_all, on_ok}

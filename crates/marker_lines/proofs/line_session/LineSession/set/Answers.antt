@@ -1,7 +1,7 @@
 use Rattle.std.proofs.Common.{refl}
 use Rattle.std.proofs.lemmas.Result.{on_ok_weaker}
 use Rattle.marker_lines.specs.LineStep.{is_set, is_version_set, no_version, no_key}
-use Rattle.marker_lines.proofs.SessionLaws.{sets_text, sets_version}
+use Rattle.marker_lines.proofs.SessionLaws.{sets_text}
 use Rattle.marker_lines.proofs.line_session.LineSession.set.Goals as goal
 
 pub returns-in_default : goal.returns-in_default
