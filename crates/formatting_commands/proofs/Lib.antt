@@ -1,1 +1,2 @@
 mod ReplacingLaws
+mod SameLaws

@@ -1,1 +1,3 @@
+pub mod Formatting
 pub mod Replacing
+pub mod Same

@@ -2,13 +2,13 @@
 
 use crate::arguments::{FormatCommand, FormatMode};
 use crate::files::{Job, format_path};
+use crate::formatting::FormatSettings;
 use crate::outputs::Outputs;
 use pep508_program::{
     Ending, Failure, Format, Host, Style, Tally, has_colors, out_of_memory, report_failure, status,
     wrong_use,
 };
 use requirement_findings::CheckLines;
-use requirement_formatting::FormatSettings;
 use std::alloc::Global;
 
 // What is wrong with the use of the command.

@@ -2,9 +2,9 @@
 
 ghost use Rattle.std.specs.Prelude.{⊤};
 
+use crate::formatting::FormatSettings;
 use pep508_program::{Coloring, Failure, Format, Host, Request, Sheet, Style, Tally, Task, Walk};
 use requirement_findings::{CheckLines, CheckedLine, CheckedText, Finding, FindingName, Origin};
-use requirement_formatting::FormatSettings;
 use requirement_lines::Piece;
 use requirement_options::{Content, FileLine};
 use std::alloc::{AllocError, Global};

@@ -2,13 +2,13 @@
 
 use crate::arguments::FormatMode;
 use crate::faults::report_faults;
+use crate::formatting::{FormatSettings, Formatted, format_file};
 use crate::outputs::Outputs;
 use crate::replacing::replace_file;
 use pep508_program::{
     Failure, FileKind, Host, Sheet, Style, Tally, file_name, kind_of_name, visible,
 };
 use requirement_findings::CheckLines;
-use requirement_formatting::{FormatSettings, Formatted, format_file};
 use requirement_lines::Positions;
 use requirement_rewriting::Edit;
 use std::alloc::{AllocError, Global};

@@ -1,15 +1,26 @@
-//! The command `fmt` of the program `pep508`, which writes requirements in their normal text.
+//! Requirements in their normal text, with everything else of a file byte for byte as it was: the
+//! command `fmt` of the program `pep508`.
+//!
+//! Calls that allocate return `AllocError` when memory runs out.
 #![tactic(auto)]
 
 mod arguments;
 mod commands;
 mod faults;
 mod files;
+mod formatter;
+mod formatting;
+mod normal;
 mod outputs;
+mod parsing;
 mod replacing;
+mod same;
+mod variables;
 
 pub use crate::arguments::{FormatCommand, FormatMode, format_command, with_format_command};
 pub use crate::commands::run_format_command;
+pub use crate::formatter::{Formatter, SUBSTITUTE};
+pub use crate::formatting::{FormatSettings, Formatted, format_file};
+pub use crate::normal::normal_text;
 pub use crate::outputs::Outputs;
 pub use crate::replacing::replace_file;
-pub use requirement_formatting::FormatSettings;

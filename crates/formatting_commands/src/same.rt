@@ -1,7 +1,7 @@
 //! Comparing a requirement with another.
 
 ghost use Rattle.std.specs.Prelude.{◌≡◌, IfOk, true};
-ghost use Rattle.requirement_formatting.specs.Same.{IsSame, IsSameWish};
+ghost use Rattle.formatting_commands.specs.Same.{IsSame, IsSameWish};
 
 use pep508_requirements::VersionOrUrl::{Url, VersionSpecifier};
 use pep508_requirements::{Requirement, VersionOrUrl};

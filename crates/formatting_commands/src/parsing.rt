@@ -2,7 +2,7 @@
 
 ghost use Rattle.std.specs.Prelude.{IfOk, IfSome};
 ghost use Rattle.marker_graph.specs.Contents.{IsHeld, IsKept};
-ghost use Rattle.requirement_formatting.specs.Same.{IsParsedIn};
+ghost use Rattle.formatting_commands.specs.Same.{IsParsedIn};
 
 use crate::variables::has_variable_outside;
 use marker_graph::Interner;

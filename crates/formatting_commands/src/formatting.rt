@@ -1,7 +1,7 @@
 //! Formatting a requirements file.
 
 ghost use Rattle.std.specs.Prelude.{IfOk, IfSome};
-ghost use Rattle.requirement_formatting.specs.Formatting.{IsFormatted};
+ghost use Rattle.formatting_commands.specs.Formatting.{IsFormatted};
 ghost use Rattle.requirement_rewriting.specs.Applying.{MakesFile};
 
 use crate::formatter::Formatter;

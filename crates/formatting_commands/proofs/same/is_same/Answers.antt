@@ -1,5 +1,5 @@
-use Rattle.requirement_formatting.proofs.SameLaws.{alike, all_alike, same_marker, same_parts}
-use Rattle.requirement_formatting.proofs.same.is_same.Goals as goal
+use Rattle.formatting_commands.proofs.SameLaws.{alike, all_alike, same_marker, same_parts}
+use Rattle.formatting_commands.proofs.same.is_same.Goals as goal
 
 pub returns : goal.returns
 returns c =

@@ -3,10 +3,10 @@ use Rattle.std.specs.Prelude.{◌≡◌, ℕ, List, [], Option, Some, option_cop
 use Rattle.pep508_errors.specs.declared.surroundings.Surroundings.{Surroundings}
 use Rattle.requirement_rewriting.specs.Finding.{EditsFile}
 use Rattle.requirement_rewriting.specs.declared.applying.Edit.{Edit}
-use Rattle.requirement_formatting.specs.Same.{IsSameText}
-use Rattle.requirement_formatting.specs.declared.files.Formatted.{Formatted}
-use Rattle.requirement_formatting.specs.declared.files.FormatSettings.{FormatSettings}
-use Rattle.requirement_formatting.specs.declared.formatter.Formatter.{Formatter}
+use Rattle.formatting_commands.specs.Same.{IsSameText}
+use Rattle.formatting_commands.specs.declared.formatting.Formatted.{Formatted}
+use Rattle.formatting_commands.specs.declared.formatting.FormatSettings.{FormatSettings}
+use Rattle.formatting_commands.specs.declared.formatter.Formatter.{Formatter}
 
 -- no variable has a value, and paths start from the folder
 pub record StartsFrom (folder : List ℕ) (surroundings : Surroundings) : Type 0 where

@@ -2,7 +2,7 @@
 
 ghost use Rattle.std.specs.Prelude.{IfOk, IfSome};
 ghost use Rattle.marker_graph.specs.Contents.{IsHeld};
-ghost use Rattle.requirement_formatting.specs.Same.{IsSameString};
+ghost use Rattle.formatting_commands.specs.Same.{IsSameString};
 
 use crate::parsing::{given_url, parse_whole};
 use crate::same::is_same;

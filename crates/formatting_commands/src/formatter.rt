@@ -1,9 +1,9 @@
 //! A rewriter that answers normal texts.
 
 ghost use Rattle.std.specs.Prelude.{◌≡◌};
-ghost use Rattle.requirement_formatting.specs.Formatting.{IsAnswer};
+ghost use Rattle.formatting_commands.specs.Formatting.{IsAnswer};
 
-use crate::files::FormatSettings;
+use crate::formatting::FormatSettings;
 use crate::normal::normal_text;
 use marker_graph::Interner;
 use pep508_errors::Surroundings;

@@ -19,8 +19,8 @@ use Rattle.pep508_requirements.specs.declared.requirement.Requirement.{Requireme
 use Rattle.pep508_urls.specs.Meaning.{IsVerbatim}
 use Rattle.pep508_urls.specs.Verbatim.{Verbatim}
 use Rattle.pep508_urls.specs.declared.error.VerbatimUrlError.{VerbatimUrlError}
-use Rattle.requirement_formatting.specs.Same.{IsParsedIn, IsSame, IsSameText, IsSameWish, Parses}
-use Rattle.requirement_formatting.specs.Formatting.{IsSameFrom, StartsFrom}
+use Rattle.formatting_commands.specs.Same.{IsParsedIn, IsSame, IsSameText, IsSameWish, Parses}
+use Rattle.formatting_commands.specs.Formatting.{IsSameFrom, StartsFrom}
 
 abbrev Named : Type 0
 Named = Requirement Verbatim VerbatimUrlError
@@ -77,7 +77,3 @@ pub same_parts : {A : Type 0} (r q : Named) (result : Result Bool A) → r.name 
     → IfOk result (λ same. same ≡ true → IsSameWish r.version_or_url q.version_or_url) → IfOk result (λ same. same ≡ true → IsSame r q)
 same_parts r q (Ok b) name extras marker wish = λ e. record { name = name; extras = extras; wish = wish e; marker = marker }
 same_parts r q (Err e) name extras marker wish = tt
-
--- what is the same in surroundings that start from a folder
-pub same_from : {s : Surroundings} {folder old new : List ℕ} → StartsFrom folder s → IsSameText s old new → IsSameFrom folder old new
-same_from {s} starts same = record { surroundings = s; starts = starts; same = same }
