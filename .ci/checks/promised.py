@@ -25,7 +25,7 @@ USERS = (
     *("refusal", "version_ranges", "pep440_version", "pep440_specifier", "pep440_rs"),
     *("pep508_names", "pep508_errors", "pep508_urls"),
     *("marker_words", "marker_environment", "marker_parts"),
-    *("marker_graph", "marker_relation", "marker_view"),
+    *("marker_graph", "marker_view"),
     *("pep508_markers", "pep508_requirements"),
     *("requirement_lines", "requirement_options", "requirement_findings", "requirement_checks"),
     *("pep508_program", "line_server", "marker_lines"),

@@ -32,7 +32,7 @@ HANDED_ON = {
     "crates/foreign_calls/src/simplification.rt": 1,
     "crates/foreign_markers/src/calls.rt": 1,
     "crates/foreign_markers/src/markers.rt": 2,
-    "crates/foreign_scripts/src/script.rt": 1,
+    "crates/foreign_markers/src/script.rt": 1,
     "crates/line_server/src/serving.rt": 2,
     "crates/marker_commands/src/environments.rt": 2,
     "crates/marker_commands/src/files.rt": 1,

@@ -3,8 +3,8 @@ use Rattle.std.proofs.Common.{◌≡◌, ◌∙◌, ℕ, List, Bool, refl, sym, 
 use Rattle.marker_environment.specs.Valuation.{Valuation}
 use Rattle.marker_graph.specs.declared.tree.MarkerTree.{MarkerTree}
 use Rattle.marker_graph.specs.Contents.{Contents, IsHeld, IsKept, truth}
-use Rattle.marker_relation.specs.declared.relation.MarkerRelation.{MarkerRelation}
-use Rattle.marker_relation.specs.Relation.{Relates}
+use Rattle.marker_graph.specs.declared.relation.MarkerRelation.{MarkerRelation}
+use Rattle.marker_graph.specs.Relation.{Relates}
 use Rattle.foreign_calls.proofs.KeptLaws.{truth_kept}
 use Rattle.foreign_calls.specs.declared.answer.Answer.{Answer}
 use Rattle.foreign_calls.specs.Marker.{Says, IsTreeFor}

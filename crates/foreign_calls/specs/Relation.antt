@@ -2,9 +2,9 @@
 use Rattle.std.specs.Prelude.{◌≡◌, ◌≢◌, ◌⊎◌, ℕ, ℤ, pos, List, Bool}
 use Rattle.marker_environment.specs.Valuation.{Valuation}
 use Rattle.marker_grammar.specs.Refused.{IsNoMarker}
-use Rattle.marker_relation.specs.declared.relation.MarkerRelation.{MarkerRelation}
-use Rattle.marker_relation.specs.declared.relation.MarkerRelation.TheVariants.{Equal, Disjoint, FirstImpliesSecond, SecondImpliesFirst, Overlapping}
-use Rattle.marker_relation.specs.Relation.{Relates}
+use Rattle.marker_graph.specs.declared.relation.MarkerRelation.{MarkerRelation}
+use Rattle.marker_graph.specs.declared.relation.MarkerRelation.TheVariants.{Equal, Disjoint, FirstImpliesSecond, SecondImpliesFirst, Overlapping}
+use Rattle.marker_graph.specs.Relation.{Relates}
 use Rattle.pep508_markers.specs.Text.{TextOverflows}
 use Rattle.foreign_calls.specs.declared.answer.Answer.{Answer}
 use Rattle.foreign_calls.specs.declared.answer.Answer.TheVariants.{Done, Invalid, BufferTooSmall, NumberTooLarge}

@@ -1,14 +1,13 @@
 //! How two markers relate.
 
 ghost use Rattle.std.specs.Prelude.{◌≡◌, ◌≢◌, IfErr, IfOk};
-ghost use Rattle.marker_relation.specs.declared.relation.MarkerRelation.{MarkerRelation};
+ghost use Rattle.marker_graph.specs.declared.relation.MarkerRelation.{MarkerRelation};
 ghost use Rattle.foreign_calls.specs.Relation.{AreRelated, IsRelationRefusal, code_of};
 
 use crate::answer::Answer;
 use crate::marker::parse_marker;
 use crate::options::{Options, Settings, read_text};
-use marker_graph::Interner;
-use marker_relation::MarkerRelation;
+use marker_graph::{Interner, MarkerRelation};
 use std::alloc::Global;
 
 /// The number of a relation.

@@ -3,3 +3,4 @@ pub mod HandleSteps
 pub mod HandleLaws
 pub mod NumberLaws
 mod ReadLaws
+pub mod ScriptLaws

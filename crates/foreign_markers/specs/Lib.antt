@@ -8,3 +8,4 @@ pub mod Interner
 pub mod Made
 pub mod Told
 pub mod Refused
+pub mod Script

@@ -4,8 +4,8 @@ use Rattle.std.specs.Prelude.{◌⊎◌, string_bytes}
 use Rattle.std.specs.declared.alloc.Global.{Global}
 use Rattle.marker_graph.specs.declared.tree.MarkerTree.{MarkerTree}
 use Rattle.marker_graph.specs.Contents.{Contents, IsHeld, IsKept, truth}
-use Rattle.marker_relation.specs.declared.relation.MarkerRelation.{MarkerRelation}
-use Rattle.marker_relation.specs.Relation.{Relates}
+use Rattle.marker_graph.specs.declared.relation.MarkerRelation.{MarkerRelation}
+use Rattle.marker_graph.specs.Relation.{Relates}
 use Rattle.marker_witnesses.specs.declared.sides.ShownWitness.{ShownWitness}
 use Rattle.marker_witnesses.specs.Sides.{ShowsEach, sides_of}
 use Rattle.marker_commands.proofs.ParsingLaws.{no_answer, read_kept}

@@ -3,9 +3,9 @@ use Rattle.std.specs.Prelude.{◌≡◌, ◌⊎◌, ℕ, Bool, List, [], ◌∷�
 use Rattle.std.specs.declared.alloc.Global.{Global}
 use Rattle.marker_environment.specs.Valuation.{Valuation}
 use Rattle.marker_graph.specs.Contents.{Contents, truth}
-use Rattle.marker_relation.specs.declared.relation.MarkerRelation.{MarkerRelation}
-use Rattle.marker_relation.specs.declared.relation.MarkerRelation.TheVariants.{Equal, Disjoint, FirstImpliesSecond, SecondImpliesFirst, Overlapping}
-use Rattle.marker_relation.specs.Relation.{Relates}
+use Rattle.marker_graph.specs.declared.relation.MarkerRelation.{MarkerRelation}
+use Rattle.marker_graph.specs.declared.relation.MarkerRelation.TheVariants.{Equal, Disjoint, FirstImpliesSecond, SecondImpliesFirst, Overlapping}
+use Rattle.marker_graph.specs.Relation.{Relates}
 use Rattle.marker_witnesses.specs.declared.sides.ShownWitness.{ShownWitness}
 use Rattle.marker_witnesses.specs.Sides.{ShowsEach, lines_text, sides_of}
 use Rattle.marker_commands.specs.declared.comparing.Pair.{Pair}

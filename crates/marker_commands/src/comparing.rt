@@ -7,8 +7,7 @@ use crate::messages::GivenMarker;
 use crate::outcome::{Outcome, Reply};
 use crate::parsing::{out_of_memory, parse_marker, told};
 use crate::settings::Settings;
-use marker_graph::{Interner, MarkerTree};
-use marker_relation::MarkerRelation;
+use marker_graph::{Interner, MarkerRelation, MarkerTree};
 use marker_witnesses::{ShownWitness, witness_lines, witnesses};
 use std::alloc::{AllocError, Global};
 

@@ -4,3 +4,4 @@ pub mod GrowthLaws
 pub mod NumberLaws
 pub mod KindLaws
 pub mod WalkLaws
+mod ReplyLaws

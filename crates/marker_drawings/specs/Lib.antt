@@ -1,3 +1,4 @@
 pub mod Pairwise
 pub mod Drawing
 pub mod Numbering
+pub mod Reply

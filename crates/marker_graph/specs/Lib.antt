@@ -8,6 +8,7 @@ pub mod Edges
 pub mod Kind
 pub mod ContentsTree
 pub mod Everywhere
+pub mod Relation
 pub mod Laws
 -- what the crates below say of truths over valuations
 pub use Rattle.marker_simplifications.specs.Expression

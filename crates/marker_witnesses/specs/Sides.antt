@@ -2,8 +2,8 @@
 use Rattle.std.specs.Prelude.{◌≡◌, ◌&&◌, ℕ, Bool, false, not, List, [], ◌∷◌, ◌++◌, IfSome, Option, None, Some, codes, string_bytes}
 use Rattle.std.specs.List.{flat_map}
 use Rattle.marker_environment.specs.Valuation.{Valuation}
-use Rattle.marker_relation.specs.declared.relation.MarkerRelation.{MarkerRelation}
-use Rattle.marker_relation.specs.declared.relation.MarkerRelation.TheVariants.{Equal, Disjoint, FirstImpliesSecond, SecondImpliesFirst, Overlapping}
+use Rattle.marker_graph.specs.declared.relation.MarkerRelation.{MarkerRelation}
+use Rattle.marker_graph.specs.declared.relation.MarkerRelation.TheVariants.{Equal, Disjoint, FirstImpliesSecond, SecondImpliesFirst, Overlapping}
 use Rattle.marker_witnesses.specs.declared.sides.ShownWitness.{ShownWitness}
 use Rattle.marker_witnesses.specs.declared.sides.Side.{Side}
 use Rattle.marker_witnesses.specs.declared.sides.Side.TheVariants.{Both, OnlyFirst, OnlySecond}

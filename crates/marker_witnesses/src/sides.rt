@@ -10,8 +10,7 @@ ghost use Rattle.marker_witnesses.specs.Sides.{Shows, ShowsEach, line_text, line
 use crate::example::Example;
 use crate::step::Step;
 use crate::witness::{Witness, witness_of};
-use marker_graph::{Interner, MarkerTree};
-use marker_relation::MarkerRelation;
+use marker_graph::{Interner, MarkerRelation, MarkerTree};
 use std::alloc::{AllocError, Global};
 use std::fmt::Write;
 

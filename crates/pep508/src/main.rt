@@ -8,11 +8,11 @@ mod storage;
 use crate::machine::Machine;
 use crate::storage::Storage;
 use clap::{ArgMatches, Command};
-use drawing_commands::{draw_command, run_draw_command, with_draw_command};
 use formatting_commands::{
     FormatCommand, FormatSettings, format_command, run_format_command, with_format_command,
 };
 use marker_commands::{marker_command, run_marker_command, with_marker_commands};
+use marker_drawings::{draw_command, run_draw_command, with_draw_command};
 use pep508_program::{
     Host, Request, Task, command_line, execute, out_of_memory, read_request, read_words, wrong_use,
 };

@@ -2,7 +2,7 @@
 
 ghost use Rattle.std.specs.Prelude.{◌≡◌, ◌≢◌, ◌⊎◌, codes};
 ghost use Rattle.marker_grammar.specs.Refused.{IsNoMarker};
-ghost use Rattle.marker_relation.specs.declared.relation.MarkerRelation.{MarkerRelation};
+ghost use Rattle.marker_graph.specs.declared.relation.MarkerRelation.{MarkerRelation};
 ghost use Rattle.pep508_markers.specs.Text.{TextOverflows};
 ghost use Rattle.foreign_calls.specs.Answer.{done, invalid, too_large, too_small};
 ghost use Rattle.foreign_calls.specs.Buffer.{Fits, IsTooSmall, WouldWrite, Writes};

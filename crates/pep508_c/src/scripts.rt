@@ -3,7 +3,7 @@
 ghost use Rattle.std.specs.Prelude.{◌≡◌, ◌≢◌};
 ghost use Rattle.foreign_calls.specs.Answer.{done, too_small};
 ghost use Rattle.foreign_calls.specs.Buffer.{WouldWrite, Writes};
-ghost use Rattle.foreign_scripts.specs.Script.{IsAnswered};
+ghost use Rattle.foreign_markers.specs.Script.{IsAnswered};
 
 use foreign_calls::Options;
 use std::alloc::Global;
@@ -25,5 +25,5 @@ pub extern "C" fn pep508_serve(
     ensures kept { result ≢ done → buffer.new ≡ buffer.old }
     ensures none { result ≢ done → result ≢ too_small → needed.new ≡ 0 }
 {
-    foreign_scripts::serve_script(alloc, script, options, buffer, needed).code()
+    foreign_markers::serve_script(alloc, script, options, buffer, needed).code()
 }

@@ -38,13 +38,13 @@ pub mod marker;
 pub use crate::marker::{
     BooleanEdges, Command, ContainsMarkerTree, ExtraMarkerTree, ExtraName, ExtraOperator,
     InMarkerTree, Interner, InvalidExpression, InvalidNameError, Mark, MarkerEnvironment,
-    MarkerEnvironmentBuilder, MarkerExpression, MarkerOperator, MarkerOperatorBounds, MarkerText,
-    MarkerTree, MarkerTreeContents, MarkerTreeKind, MarkerTreeView, MarkerValue, MarkerValueExtra,
-    MarkerValueExtraRef, MarkerValueString, MarkerValueVersion, MarkerWarningKind, PackageName,
-    Pep508Error, Pep508ErrorSource, Pep508Url, Reason, Refusal, Reply, ReportTo, Reporter, Session,
-    StringEdges, StringMarkerTree, StringVersion, Surroundings, TextVariable, TracingReporter,
-    TruthVariable, Version, VersionEdges, VersionMarkerTree, VersionSpecifier, VersionVariable,
-    ser,
+    MarkerEnvironmentBuilder, MarkerExpression, MarkerOperator, MarkerOperatorBounds,
+    MarkerRelation, MarkerText, MarkerTree, MarkerTreeContents, MarkerTreeKind, MarkerTreeView,
+    MarkerValue, MarkerValueExtra, MarkerValueExtraRef, MarkerValueString, MarkerValueVersion,
+    MarkerWarningKind, PackageName, Pep508Error, Pep508ErrorSource, Pep508Url, Reason, Refusal,
+    Reply, ReportTo, Reporter, Session, StringEdges, StringMarkerTree, StringVersion, Surroundings,
+    TextVariable, TracingReporter, TruthVariable, Version, VersionEdges, VersionMarkerTree,
+    VersionSpecifier, VersionVariable, ser,
 };
 pub use pep440_rs;
 pub use pep508_requirements::{

@@ -2,8 +2,8 @@
 
 pub use marker_graph::{
     BooleanEdges, ContainsMarkerTree, ExtraMarkerTree, InMarkerTree, Interner, InvalidExpression,
-    Mark, MarkerTree, MarkerTreeContents, MarkerTreeKind, MarkerValueExtraRef, StringEdges,
-    StringMarkerTree, TruthVariable, VersionEdges, VersionMarkerTree,
+    Mark, MarkerRelation, MarkerTree, MarkerTreeContents, MarkerTreeKind, MarkerValueExtraRef,
+    StringEdges, StringMarkerTree, TruthVariable, VersionEdges, VersionMarkerTree,
 };
 pub use marker_parts::{
     ExtraName, ExtraOperator, InvalidNameError, MarkerEnvironment, MarkerEnvironmentBuilder,

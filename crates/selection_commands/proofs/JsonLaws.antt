@@ -9,8 +9,8 @@ use Rattle.serde_json.specs.Data.{Data, array}
 use Rattle.serde_json.specs.View.{items_of, view}
 use Rattle.serde_json.specs.Written.{compact_text, has_float, items_have_float}
 use Rattle.serde_json.specs.declared.value.Value.{Value}
-use Rattle.requirement_selection.specs.declared.truth.Truth.{Truth}
-use Rattle.requirement_selection.specs.declared.truth.Truth.TheVariants as truths
+use Rattle.selection_commands.specs.declared.truth.Truth.{Truth}
+use Rattle.selection_commands.specs.declared.truth.Truth.TheVariants as truths
 use Rattle.selection_commands.specs.Objects.{cell_object, cell_objects, objects, row_object, text_or_null, truth_data}
 use Rattle.selection_commands.specs.declared.columns.Column.{Column}
 use Rattle.selection_commands.specs.declared.tabulator.Row.{Row}

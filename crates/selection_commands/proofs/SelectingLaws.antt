@@ -7,7 +7,7 @@ use Rattle.requirement_findings.specs.declared.finding.CheckedLine.{CheckedLine}
 use Rattle.requirement_findings.specs.declared.finding.Finding.{Finding}
 use Rattle.requirement_findings.specs.declared.finding.Listed.{Listed}
 use Rattle.requirement_checks.specs.Lines.{requirement_in, IsChecked}
-use Rattle.requirement_selection.specs.declared.truth.Truth.{Truth}
+use Rattle.selection_commands.specs.declared.truth.Truth.{Truth}
 use Rattle.selection_commands.specs.Markers.{requirement_at, requirement_of}
 use Rattle.selection_commands.specs.Selecting.{Chooses, Selects, SelectsIf, TruthOf, left_out, listed, not_known, too_complex, without_text}
 use Rattle.selection_commands.specs.declared.selector.Choice.{Choice}

@@ -2,7 +2,7 @@
 use Rattle.std.specs.Prelude.{ℕ, List, [], ◌∷◌, ◌++◌, map, Option, None, Some, option_copied, String, codes, string_bytes}
 use Rattle.std.specs.Borrow.{Bor}
 use Rattle.std.specs.declared.alloc.Global.{Global}
-use Rattle.requirement_selection.specs.Truth.{cell_text}
+use Rattle.selection_commands.specs.Truth.{cell_text}
 use Rattle.selection_commands.specs.declared.columns.Column.{Column}
 use Rattle.selection_commands.specs.declared.tabulator.Row.{Row}
 

@@ -4,3 +4,8 @@ pub mod Table
 pub mod Markers
 pub mod Selecting
 pub mod Tabulating
+pub mod Target
+pub mod Reached
+pub mod Truth
+pub mod Keys
+pub mod Products

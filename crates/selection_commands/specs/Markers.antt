@@ -16,9 +16,9 @@ use Rattle.requirement_checks.specs.declared.reading.Form.{Form}
 use Rattle.requirement_checks.specs.declared.reading.Form.TheVariants as forms
 use Rattle.requirement_checks.specs.declared.reading.Reading.{Reading}
 use Rattle.requirement_checks.specs.declared.reading.Reading.TheVariants as readings
-use Rattle.requirement_selection.specs.Truth.{AreTruths, IsTruth}
-use Rattle.requirement_selection.specs.declared.target.Target.{Target}
-use Rattle.requirement_selection.specs.declared.truth.Truth.{Truth}
+use Rattle.selection_commands.specs.Truth.{AreTruths, IsTruth}
+use Rattle.selection_commands.specs.declared.target.Target.{Target}
+use Rattle.selection_commands.specs.declared.truth.Truth.{Truth}
 use Rattle.selection_commands.specs.declared.reading.FoundMarker.{FoundMarker}
 use Rattle.selection_commands.specs.declared.reading.HeldMarker.{HeldMarker}
 use Rattle.selection_commands.specs.declared.reading.MarkerReader.{MarkerReader}

@@ -4,8 +4,8 @@ use Rattle.std.specs.List.{flat_map, zip}
 use Rattle.serde_json.specs.Data.{Data, null, boolean, string, array, object, no_members, member}
 use Rattle.serde_json.specs.View.{items_of}
 use Rattle.serde_json.specs.Written.{compact_text}
-use Rattle.requirement_selection.specs.declared.truth.Truth.{Truth}
-use Rattle.requirement_selection.specs.declared.truth.Truth.TheVariants.{Yes, No, Open}
+use Rattle.selection_commands.specs.declared.truth.Truth.{Truth}
+use Rattle.selection_commands.specs.declared.truth.Truth.TheVariants.{Yes, No, Open}
 use Rattle.selection_commands.specs.declared.columns.Column.{Column}
 use Rattle.selection_commands.specs.declared.tabulator.Row.{Row}
 

@@ -12,8 +12,8 @@ use Rattle.requirement_findings.specs.declared.name.FindingName.TheVariants.{Too
 use Rattle.requirement_checks.specs.Lines.{requirement_in, IsChecked, IsCheckedText}
 use Rattle.requirement_checks.specs.declared.reading.Form.{Form}
 use Rattle.requirement_checks.specs.declared.reading.Form.TheVariants as forms
-use Rattle.requirement_selection.specs.declared.truth.Truth.{Truth}
-use Rattle.requirement_selection.specs.declared.truth.Truth.TheVariants.{Yes, No, Open}
+use Rattle.selection_commands.specs.declared.truth.Truth.{Truth}
+use Rattle.selection_commands.specs.declared.truth.Truth.TheVariants.{Yes, No, Open}
 use Rattle.selection_commands.specs.Markers.{HasTruth, requirement_of}
 use Rattle.selection_commands.specs.declared.selector.Choice.{Choice}
 use Rattle.selection_commands.specs.declared.selector.Choice.TheVariants as choices

@@ -4,11 +4,11 @@ ghost use Rattle.std.specs.Prelude.{◌≡◌, IfOk, string_bytes};
 ghost use Rattle.selection_commands.specs.Cells.{title_of};
 
 use crate::arguments::MatrixWords;
+use crate::{Target, product};
 use marker_commands::{
     EnvironmentWords, Stop, assignments_of, extras_of, invalid_value, is_short, known_of,
 };
 use pep508_program::Host;
-use requirement_selection::{Target, product};
 use std::alloc::{AllocError, Global};
 
 /// What differs between the environments of a table.

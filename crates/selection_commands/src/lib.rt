@@ -1,14 +1,22 @@
 //! The commands `select` and `matrix` of the program `pep508`: which requirements apply in an
 //! environment, and in which of several environments each applies.
+//!
+//! The truth of a marker is known if the values that are given decide it. Calls that allocate
+//! return `AllocError` when memory runs out. What the markers of an interner mean stays, even then.
 #![tactic(auto)]
 
 mod arguments;
 mod columns;
+mod keys;
+mod products;
+mod reached;
 mod reading;
 mod running;
 mod selector;
 mod tables;
 mod tabulator;
+mod target;
+mod truth;
 mod written;
 
 pub use crate::arguments::{
@@ -16,7 +24,11 @@ pub use crate::arguments::{
     with_selection_commands,
 };
 pub use crate::columns::{Column, columns_of};
+pub use crate::keys::open_keys;
+pub use crate::products::product;
 pub use crate::running::run_selection_command;
 pub use crate::selector::Selector;
 pub use crate::tables::table_text;
 pub use crate::tabulator::{Row, Tabulator};
+pub use crate::target::Target;
+pub use crate::truth::{Truth, truth_in, truths_in};

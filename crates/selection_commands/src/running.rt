@@ -1,5 +1,6 @@
 //! The commands `select` and `matrix`, from their words to their status.
 
+use crate::Target;
 use crate::arguments::{MatrixWords, SelectWords, SelectionCommand, TableFormat};
 use crate::columns::{Column, Targets, columns_of, targets_of};
 use crate::selector::Selector;
@@ -10,7 +11,6 @@ use pep508_program::{
     Ending, Failure, Finish, Host, Request, Tally, execute, out_of_memory, report_failure,
 };
 use requirement_checks::CheckSettings;
-use requirement_selection::Target;
 use std::alloc::Global;
 
 // Warns that a value of `python_version` is taken for that of `python_full_version`.

@@ -5,18 +5,18 @@ ghost use Rattle.marker_graph.specs.Contents.{IsHeld};
 ghost use Rattle.requirement_lines.specs.Reports.{text_of};
 ghost use Rattle.requirement_checks.specs.Findings.{names_of};
 ghost use Rattle.requirement_checks.specs.Specifiers.{FindsInSpecifiers};
-ghost use Rattle.requirement_selection.specs.Truth.{IsTruth};
+ghost use Rattle.selection_commands.specs.Truth.{IsTruth};
 ghost use Rattle.selection_commands.specs.Markers.{requirement_at, truth_held};
 ghost use Rattle.selection_commands.specs.Selecting.{Chooses, SelectsFrom, SelectsLine, SelectsText, Stays, TruthOf, without_text};
 
 use crate::reading::{HeldMarker, MarkerReader};
 use crate::written::{Stretch, stretch_of};
+use crate::{Target, Truth, open_keys, truth_in};
 use pep508_program::Format;
 use requirement_checks::{
     CheckLines, CheckSettings, CheckedLine, CheckedText, Checker, Finding, Listed, Origin,
 };
 use requirement_lines::{Piece, text_of};
-use requirement_selection::{Target, Truth, open_keys, truth_in};
 use std::alloc::{AllocError, Global};
 
 // What becomes of a requirement.

@@ -7,11 +7,11 @@ ghost use Rattle.selection_commands.specs.Cells.{cells_of, shown_in, texts_in, t
 ghost use Rattle.selection_commands.specs.Objects.{cell_object, cell_objects, objects, row_object, text_or_null, truth_data};
 ghost use Rattle.selection_commands.specs.Table.{AddsRow, IsTableText, aligned, comma_separated, first_width, full_line, line_of, padded, widths_under};
 
+use crate::Truth;
 use crate::arguments::TableFormat;
 use crate::columns::Column;
 use crate::tabulator::Row;
 use csv::Writer;
-use requirement_selection::Truth;
 use serde_json::{Value, json};
 use std::alloc::{AllocError, Global};
 use unicode_width::UnicodeWidthStr;

@@ -8,11 +8,11 @@ ghost use Rattle.selection_commands.specs.Tabulating.{FindsTruths, Stays, Tabula
 
 use crate::reading::MarkerReader;
 use crate::written::{Stretch, stretch_of};
+use crate::{Target, Truth, truths_in};
 use requirement_checks::{
     CheckLines, CheckSettings, CheckedLine, CheckedText, Checker, Finding, Listed, Origin,
 };
 use requirement_lines::{Piece, text_of};
-use requirement_selection::{Target, Truth, truths_in};
 use std::alloc::{AllocError, Global};
 
 /// A requirement, and what its marker is in each environment.

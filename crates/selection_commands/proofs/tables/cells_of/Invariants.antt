@@ -1,5 +1,5 @@
 use Rattle.std.proofs.Common.{◌≡◌, ◌∷◌, map, string_bytes, take}
-use Rattle.requirement_selection.specs.Truth.{cell_text}
+use Rattle.selection_commands.specs.Truth.{cell_text}
 use Rattle.selection_commands.specs.Cells.{shown_in}
 use Rattle.selection_commands.proofs.tables.cells_of.Given as goal
 

@@ -1,4 +1,0 @@
-pub mod TargetLaws
-pub mod ReachedLaws
-pub mod TruthLaws
-pub mod ProductLaws

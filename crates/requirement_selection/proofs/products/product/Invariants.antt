@@ -1,7 +1,0 @@
--- The pairs of the first values are there.
-use Rattle.std.proofs.Common.{◌≡◌, take}
-use Rattle.requirement_selection.specs.Products.{pairs_of}
-use Rattle.requirement_selection.proofs.products.product.Given as goal
-
-abbrev pub invariant-loop-one : goal.invariant-loop-one
-invariant-loop-one g l = l.pairs.items ≡ pairs_of (take l.one-index l.first) l.second

@@ -1,5 +1,0 @@
-pub mod Target
-pub mod Reached
-pub mod Truth
-pub mod Keys
-pub mod Products
