@@ -17,7 +17,6 @@ ROOT = Path(__file__).resolve().parents[2]
 HEADER = Path("include/pep508.h")
 EXPORTS = Path("crates/pep508_c/src")
 CALLS = Path("crates/foreign_calls/src")
-REQUIREMENTS = Path("crates/foreign_requirements/src")
 MARKERS = Path("crates/foreign_markers/src")
 
 # The parameters of C for a type of an exported function.
@@ -49,7 +48,7 @@ STRUCTS = {
     "pep508_options": (CALLS / "options.rt", "Options"),
     "pep508_environment": (CALLS / "environment.rt", "Environment"),
     "pep508_bound": (CALLS / "simplification.rt", "BoundText"),
-    "pep508_span": (REQUIREMENTS / "check.rt", "Span"),
+    "pep508_span": (CALLS / "check.rt", "Span"),
     "pep508_interner": (MARKERS / "handle.rt", "Handle"),
 }
 ENUMS = {

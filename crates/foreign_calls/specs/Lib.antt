@@ -6,3 +6,7 @@ pub mod Environment
 pub mod Marker
 pub mod Relation
 pub mod Simplified
+pub mod Json
+pub mod Reading
+pub mod Requirement
+pub mod Check

@@ -1,2 +1,4 @@
 mod ReplacingLaws
 mod SameLaws
+pub mod ApplyingLaws
+pub mod FindingLaws

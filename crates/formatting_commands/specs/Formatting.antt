@@ -1,8 +1,8 @@
 -- Requirements of a file in their normal texts.
 use Rattle.std.specs.Prelude.{◌≡◌, ℕ, List, [], Option, Some, option_copied, IfSome}
 use Rattle.pep508_errors.specs.declared.surroundings.Surroundings.{Surroundings}
-use Rattle.requirement_rewriting.specs.Finding.{EditsFile}
-use Rattle.requirement_rewriting.specs.declared.applying.Edit.{Edit}
+use Rattle.formatting_commands.specs.Finding.{EditsFile}
+use Rattle.formatting_commands.specs.declared.applying.Edit.{Edit}
 use Rattle.formatting_commands.specs.Same.{IsSameText}
 use Rattle.formatting_commands.specs.declared.formatting.Formatted.{Formatted}
 use Rattle.formatting_commands.specs.declared.formatting.FormatSettings.{FormatSettings}

@@ -1,3 +1,5 @@
 pub mod Formatting
 pub mod Replacing
 pub mod Same
+pub mod Applying
+pub mod Finding

@@ -1,5 +1,6 @@
 //! A file that is formatted.
 
+use crate::Edit;
 use crate::arguments::FormatMode;
 use crate::faults::report_faults;
 use crate::formatting::{FormatSettings, Formatted, format_file};
@@ -10,7 +11,6 @@ use pep508_program::{
 };
 use requirement_findings::CheckLines;
 use requirement_lines::Positions;
-use requirement_rewriting::Edit;
 use std::alloc::{AllocError, Global};
 use std::fmt::Write;
 use std::io;

@@ -3,12 +3,12 @@
 ghost use Rattle.std.specs.Prelude.{◌≡◌};
 ghost use Rattle.formatting_commands.specs.Formatting.{IsAnswer};
 
+use crate::Rewriter;
 use crate::formatting::FormatSettings;
 use crate::normal::normal_text;
 use marker_graph::Interner;
 use pep508_errors::Surroundings;
 use requirement_lines::is_break;
-use requirement_rewriting::Rewriter;
 use std::alloc::{AllocError, Global};
 use std::collections::BTreeMap;
 

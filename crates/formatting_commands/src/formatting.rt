@@ -2,10 +2,10 @@
 
 ghost use Rattle.std.specs.Prelude.{IfOk, IfSome};
 ghost use Rattle.formatting_commands.specs.Formatting.{IsFormatted};
-ghost use Rattle.requirement_rewriting.specs.Applying.{MakesFile};
+ghost use Rattle.formatting_commands.specs.Applying.{MakesFile};
 
 use crate::formatter::Formatter;
-use requirement_rewriting::{Edit, apply_edits, find_edits};
+use crate::{Edit, apply_edits, find_edits};
 use std::alloc::{AllocError, Global};
 
 /// How requirements are formatted.

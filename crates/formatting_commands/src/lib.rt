@@ -4,21 +4,27 @@
 //! Calls that allocate return `AllocError` when memory runs out.
 #![tactic(auto)]
 
+mod applying;
 mod arguments;
 mod commands;
 mod faults;
 mod files;
+mod finding;
 mod formatter;
 mod formatting;
+mod lines;
 mod normal;
 mod outputs;
 mod parsing;
 mod replacing;
 mod same;
+mod texts;
 mod variables;
 
+pub use crate::applying::{Edit, apply_edits};
 pub use crate::arguments::{FormatCommand, FormatMode, format_command, with_format_command};
 pub use crate::commands::run_format_command;
+pub use crate::finding::{Rewriter, find_edits};
 pub use crate::formatter::{Formatter, SUBSTITUTE};
 pub use crate::formatting::{FormatSettings, Formatted, format_file};
 pub use crate::normal::normal_text;

@@ -10,8 +10,8 @@ use Rattle.marker_diagrams.specs.declared.node_id.NodeId.{NodeId}
 use Rattle.marker_diagrams.specs.Diagram as diagram
 use Rattle.marker_nodes.specs.Node.{Node, markers}
 use Rattle.marker_nodes.specs.Variable.{Variable, variable_cmp, mix}
-use Rattle.marker_subtrees.specs.declared.keys.EnvironmentKey.{EnvironmentKey}
-use Rattle.marker_subtrees.specs.Keys.{DependsOnKey}
+use Rattle.marker_walks.specs.declared.keys.EnvironmentKey.{EnvironmentKey}
+use Rattle.marker_walks.specs.Keys.{DependsOnKey}
 use Rattle.marker_answers.specs.declared.evaluating.Evaluation.{Evaluation}
 use Rattle.marker_answers.specs.declared.evaluating.Evaluation.TheVariants.{Known, Depends, TooComplex}
 use Rattle.marker_answers.specs.Evaluation.{all_hold, DependAlone, DependsUnder, IsSettled}

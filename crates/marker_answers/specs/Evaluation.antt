@@ -5,8 +5,8 @@ use Rattle.std.specs.Ordering.{is_eq}
 use Rattle.marker_environment.specs.Valuation.{Valuation}
 use Rattle.marker_parts.specs.Expression.{Test, holds}
 use Rattle.marker_nodes.specs.Variable.{Variable, variable_cmp, mix}
-use Rattle.marker_subtrees.specs.declared.keys.EnvironmentKey.{EnvironmentKey}
-use Rattle.marker_subtrees.specs.Keys.{is_about, DependsOnKey}
+use Rattle.marker_walks.specs.declared.keys.EnvironmentKey.{EnvironmentKey}
+use Rattle.marker_walks.specs.Keys.{is_about, DependsOnKey}
 use Rattle.marker_answers.specs.declared.evaluating.Evaluation.{Evaluation}
 use Rattle.marker_answers.specs.declared.evaluating.Evaluation.TheVariants.{Known, Depends, TooComplex}
 use Rattle.marker_answers.specs.declared.known.KnownValues.{KnownValues}

@@ -5,7 +5,7 @@ ghost use Rattle.marker_diagrams.specs.Residue.{AreExactly, IsSubtree};
 ghost use Rattle.marker_environment.specs.Valuation.{Valuation};
 ghost use Rattle.marker_parts.specs.Expression.{test_of};
 ghost use Rattle.marker_nodes.specs.Node.{markers};
-ghost use Rattle.marker_subtrees.specs.Keys.{DependsOnKey};
+ghost use Rattle.marker_walks.specs.Keys.{DependsOnKey};
 ghost use Rattle.marker_graph.specs.Contents.{IsHeld, IsKept, truth};
 ghost use Rattle.marker_answers.specs.Evaluation.{all_hold, DependAlone, IsEvaluation, IsSettled};
 
@@ -14,7 +14,7 @@ use crate::known::KnownValues;
 use marker_graph::{Interner, InvalidExpression, MarkerTree};
 use marker_nodes::NodeId;
 use marker_parts::MarkerExpression;
-use marker_subtrees::{EnvironmentKey, depends_on, subtrees};
+use marker_walks::{EnvironmentKey, depends_on, subtrees};
 use pep508_names::ExtraName;
 use refusal::Refusal;
 use std::alloc::AllocError;

@@ -2,8 +2,8 @@
 use Rattle.std.proofs.Common.{◌≡◌, ◌∙◌, ◌<◌, ◌+◌, ℕ, Bool, List, [], ◌∷◌, ◌++◌, take, length, get_or, sym, ap, subst, inl, inr, append_assoc, string_bytes, codes}
 use Rattle.std.specs.Prelude.{◌⊎◌}
 use Rattle.std.proofs.lemmas.List.{flat_map_more, take_more}
-use Rattle.marker_subtrees.specs.declared.keys.EnvironmentKey.{EnvironmentKey}
-use Rattle.marker_subtrees.specs.Keys.{key_name}
+use Rattle.marker_walks.specs.declared.keys.EnvironmentKey.{EnvironmentKey}
+use Rattle.marker_walks.specs.Keys.{key_name}
 use Rattle.marker_graph.specs.declared.tree.MarkerTree.{MarkerTree}
 use Rattle.marker_graph.specs.Contents.{Contents, IsKept, truth}
 use Rattle.marker_answers.specs.Evaluation.{IsEvaluation}

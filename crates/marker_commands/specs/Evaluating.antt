@@ -2,8 +2,8 @@
 use Rattle.std.specs.Prelude.{◌≡◌, ◌⊎◌, ⊤, ℕ, Bool, true, false, List, [], ◌∷◌, ◌++◌, codes, string_bytes}
 use Rattle.std.specs.List.{flat_map}
 use Rattle.marker_environment.specs.Valuation.{Valuation}
-use Rattle.marker_subtrees.specs.declared.keys.EnvironmentKey.{EnvironmentKey}
-use Rattle.marker_subtrees.specs.Keys.{key_name}
+use Rattle.marker_walks.specs.declared.keys.EnvironmentKey.{EnvironmentKey}
+use Rattle.marker_walks.specs.Keys.{key_name}
 use Rattle.marker_answers.specs.Evaluation.{IsEvaluation}
 use Rattle.marker_answers.specs.declared.evaluating.Evaluation.{Evaluation}
 use Rattle.marker_answers.specs.declared.evaluating.Evaluation.TheVariants.{Known, Depends, TooComplex}

@@ -3,8 +3,8 @@ use Rattle.std.specs.Prelude.{◌≡◌, ℕ, Bool, false, ◌==◌, List, Optio
 use Rattle.marker_words.specs.declared.key.TextVariable.{TextVariable}
 use Rattle.marker_words.specs.declared.key.VersionVariable.{VersionVariable}
 use Rattle.marker_nodes.specs.Variable.{text_rank, version_rank}
-use Rattle.marker_subtrees.specs.declared.keys.EnvironmentKey.{EnvironmentKey}
-use Rattle.marker_subtrees.specs.declared.keys.EnvironmentKey.TheVariants.{Version, Text}
+use Rattle.marker_walks.specs.declared.keys.EnvironmentKey.{EnvironmentKey}
+use Rattle.marker_walks.specs.declared.keys.EnvironmentKey.TheVariants.{Version, Text}
 use Rattle.pep440_version.specs.Grammar.{IsVersionText}
 use Rattle.pep440_version.specs.Parts.{Parts}
 use Rattle.marker_answers.specs.declared.known.KnownValues.{KnownValues}

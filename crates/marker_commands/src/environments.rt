@@ -7,7 +7,7 @@ use crate::keys::{GivenKey, key_named};
 use crate::stops::{Stop, invalid_value, refused_value};
 use crate::values::{Assignment, known_values};
 use marker_answers::KnownValues;
-use marker_subtrees::EnvironmentKey;
+use marker_walks::EnvironmentKey;
 use marker_words::{TextVariable, VersionVariable};
 use pep508_names::ExtraName;
 use pep508_program::{Host, visible};

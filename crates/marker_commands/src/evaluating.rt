@@ -11,7 +11,7 @@ use crate::parsing::{out_of_memory, parse_marker, told};
 use crate::settings::Settings;
 use marker_answers::{Evaluation, KnownValues, evaluate};
 use marker_graph::Interner;
-use marker_subtrees::EnvironmentKey;
+use marker_walks::EnvironmentKey;
 use pep508_names::ExtraName;
 use std::alloc::{AllocError, Global};
 

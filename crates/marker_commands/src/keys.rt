@@ -2,7 +2,7 @@
 
 ghost use Rattle.std.specs.Prelude.{◌≡◌};
 
-use marker_subtrees::EnvironmentKey;
+use marker_walks::EnvironmentKey;
 use marker_words::VersionVariable;
 
 /// A key whose value can be given.

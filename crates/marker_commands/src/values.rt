@@ -1,12 +1,12 @@
 //! The values of an environment that are given.
 
 ghost use Rattle.std.specs.Prelude.{◌≡◌, IfOk, option_map};
-ghost use Rattle.marker_subtrees.specs.declared.keys.EnvironmentKey.TheVariants.{Version as VersionKey};
+ghost use Rattle.marker_walks.specs.declared.keys.EnvironmentKey.TheVariants.{Version as VersionKey};
 ghost use Rattle.marker_commands.specs.Values.{given_value, same_key, AreGiven, IsGivenText, IsGivenVersion};
 
 use crate::keys::GivenKey;
 use marker_answers::KnownValues;
-use marker_subtrees::EnvironmentKey;
+use marker_walks::EnvironmentKey;
 use marker_words::{TextVariable, VersionVariable};
 use pep440_version::{Version, VersionParseError};
 use refusal::Refusal;

@@ -4,3 +4,5 @@ pub mod Possible
 pub mod Report
 pub mod Looks
 pub mod Search
+pub mod Subtrees
+pub mod Keys

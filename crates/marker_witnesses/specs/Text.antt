@@ -3,9 +3,9 @@ use Rattle.std.specs.Prelude.{ℕ, List, [], ◌∷◌, ◌++◌, codes, map}
 use Rattle.marker_words.specs.Key.{version_variable_key}
 use Rattle.marker_words.specs.Print.{quoted_text}
 use Rattle.marker_environment.specs.Environment.{text_of, version_of}
-use Rattle.marker_subtrees.specs.declared.keys.EnvironmentKey.{EnvironmentKey}
-use Rattle.marker_subtrees.specs.declared.keys.EnvironmentKey.TheVariants.{Version, Text}
-use Rattle.marker_subtrees.specs.Keys.{key_name}
+use Rattle.marker_walks.specs.declared.keys.EnvironmentKey.{EnvironmentKey}
+use Rattle.marker_walks.specs.declared.keys.EnvironmentKey.TheVariants.{Version, Text}
+use Rattle.marker_walks.specs.Keys.{key_name}
 use Rattle.marker_witnesses.specs.declared.example.Example.{Example}
 
 -- the text of a key's value

@@ -6,7 +6,7 @@ use crate::usual::USUAL;
 use crate::versions::version_of;
 use marker_environment::{MarkerEnvironment, StringVersion};
 use marker_graph::MarkerValueExtraRef;
-use marker_subtrees::EnvironmentKey;
+use marker_walks::EnvironmentKey;
 use marker_words::TextVariable;
 use pep508_names::ExtraName;
 use refusal::Refusal;

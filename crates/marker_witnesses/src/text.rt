@@ -4,7 +4,7 @@ ghost use Rattle.std.specs.Prelude.{◌≡◌, OnOk, string_bytes};
 ghost use Rattle.marker_witnesses.specs.Text.{and_then, comparison};
 
 use crate::example::Example;
-use marker_subtrees::EnvironmentKey;
+use marker_walks::EnvironmentKey;
 use marker_words::Quoted;
 use std::alloc::{AllocError, Global};
 use std::fmt::Write;

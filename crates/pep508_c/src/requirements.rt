@@ -4,12 +4,11 @@ ghost use Rattle.std.specs.Prelude.{◌≡◌, ◌≢◌};
 ghost use Rattle.foreign_calls.specs.Answer.{done, invalid, too_large, too_small};
 ghost use Rattle.foreign_calls.specs.Buffer.{WouldWrite, Writes, WritesIfRoom};
 ghost use Rattle.foreign_calls.specs.Options.{folder_of};
-ghost use Rattle.foreign_requirements.specs.Check.{IsFault, IsRequirement};
-ghost use Rattle.foreign_requirements.specs.Reading.{IsNoRequirement, Overflows};
-ghost use Rattle.foreign_requirements.specs.Requirement.{ArePartsOf, IsNormal};
+ghost use Rattle.foreign_calls.specs.Check.{IsFault, IsRequirement};
+ghost use Rattle.foreign_calls.specs.Reading.{IsNoRequirement, Overflows};
+ghost use Rattle.foreign_calls.specs.Requirement.{ArePartsOf, IsNormal};
 
-use foreign_calls::Options;
-use foreign_requirements::Span;
+use foreign_calls::{Options, Span};
 use std::alloc::Global;
 
 /// Whether a text is a requirement, and what is wrong with another.
@@ -32,7 +31,7 @@ pub extern "C" fn pep508_requirement_check(
     ensures kept { result ≢ invalid → message.new ≡ message.old }
     ensures none { result ≢ invalid → needed.new ≡ 0 }
 {
-    foreign_requirements::check_requirement(alloc, text, options, span, message, needed).code()
+    foreign_calls::check_requirement(alloc, text, options, span, message, needed).code()
 }
 
 /// The normal text of a requirement.
@@ -54,7 +53,7 @@ pub extern "C" fn pep508_requirement_normalize(
     ensures kept { result ≢ done → buffer.new ≡ buffer.old }
     ensures none { result ≢ done → result ≢ too_small → needed.new ≡ 0 }
 {
-    foreign_requirements::normalize_requirement(alloc, text, options, buffer, needed).code()
+    foreign_calls::normalize_requirement(alloc, text, options, buffer, needed).code()
 }
 
 /// The parts of a requirement as JSON.
@@ -77,5 +76,5 @@ pub extern "C" fn pep508_requirement_parts(
     ensures kept { result ≢ done → buffer.new ≡ buffer.old }
     ensures none { result ≢ done → result ≢ too_small → needed.new ≡ 0 }
 {
-    foreign_requirements::requirement_parts(alloc, text, options, buffer, needed).code()
+    foreign_calls::requirement_parts(alloc, text, options, buffer, needed).code()
 }

@@ -15,8 +15,8 @@ use Rattle.marker_nodes.specs.Node.{Node, markers}
 use Rattle.marker_nodes.specs.Variable.{variable_cmp}
 use Rattle.marker_nodes.proofs.NodeLaws.{lawful}
 use Rattle.marker_nodes.proofs.VariableLaws.{variable_total}
-use Rattle.marker_subtrees.specs.Subtrees.{AddsChildren, Has, child_at}
-use Rattle.marker_subtrees.proofs.GrowthLaws.{Grows}
+use Rattle.marker_walks.specs.Subtrees.{AddsChildren, Has, child_at}
+use Rattle.marker_walks.proofs.GrowthLaws.{Grows}
 use Rattle.selection_commands.specs.declared.target.Target.{Target}
 use Rattle.selection_commands.specs.Target.{Agrees, known_child}
 use Rattle.selection_commands.specs.Truth.{MayBe}

@@ -17,7 +17,7 @@ use Rattle.marker_graph.specs.Contents.{truth as marker_truth}
 use Rattle.marker_graph.specs.declared.tree.MarkerTree.{MarkerTree}
 use Rattle.marker_nodes.specs.Node.{Node, markers}
 use Rattle.marker_nodes.proofs.Firsts.{true_is, false_is}
-use Rattle.marker_subtrees.specs.Subtrees.{Has, child_at}
+use Rattle.marker_walks.specs.Subtrees.{Has, child_at}
 use Rattle.selection_commands.specs.declared.target.Target.{Target}
 use Rattle.selection_commands.specs.declared.truth.Truth.{Truth}
 use Rattle.selection_commands.specs.declared.truth.Truth.TheVariants.{Yes, No, Open}

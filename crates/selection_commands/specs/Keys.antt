@@ -2,7 +2,7 @@
 use Rattle.std.specs.Prelude.{Bool, All, List}
 use Rattle.marker_environment.specs.Valuation.{Valuation}
 use Rattle.marker_parts.specs.Expression.{Test}
-use Rattle.marker_subtrees.specs.declared.keys.EnvironmentKey.{EnvironmentKey}
+use Rattle.marker_walks.specs.declared.keys.EnvironmentKey.{EnvironmentKey}
 use Rattle.marker_answers.specs.Evaluation.{DependsUnder}
 use Rattle.marker_answers.specs.Known.{IsFact}
 use Rattle.selection_commands.specs.declared.target.Target.{Target}

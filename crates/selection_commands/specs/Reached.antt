@@ -4,7 +4,7 @@ use Rattle.marker_environment.specs.Valuation.{Valuation}
 use Rattle.marker_diagrams.specs.declared.node_id.NodeId.{NodeId}
 use Rattle.marker_diagrams.specs.Diagram.{IsHeld, node_of, truth}
 use Rattle.marker_nodes.specs.Node.{Node, markers}
-use Rattle.marker_subtrees.specs.Subtrees.{Has, child_at}
+use Rattle.marker_walks.specs.Subtrees.{Has, child_at}
 use Rattle.selection_commands.specs.declared.target.Target.{Target}
 use Rattle.selection_commands.specs.Target.{Agrees}
 use Rattle.selection_commands.specs.Truth.{MayBe}

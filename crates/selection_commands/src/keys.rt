@@ -7,7 +7,7 @@ ghost use Rattle.selection_commands.specs.Keys.{AreOpen};
 use crate::target::Target;
 use marker_answers::{Evaluation, evaluate};
 use marker_graph::{Interner, MarkerTree};
-use marker_subtrees::EnvironmentKey;
+use marker_walks::EnvironmentKey;
 use refusal::Refusal;
 use std::alloc::AllocError;
 

@@ -3,7 +3,7 @@
 ghost use Rattle.std.specs.Prelude.{IfOk, IfSome, OnOk, length};
 ghost use Rattle.marker_diagrams.specs.Diagram.{IsHeld, IsStore};
 ghost use Rattle.marker_nodes.specs.Node.{markers};
-ghost use Rattle.marker_subtrees.specs.Subtrees.{AddsFirst};
+ghost use Rattle.marker_walks.specs.Subtrees.{AddsFirst};
 ghost use Rattle.selection_commands.specs.Reached.{AddsReached, AreReached, IsSettled};
 
 use crate::target::{Target, child_in};

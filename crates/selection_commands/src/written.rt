@@ -5,7 +5,7 @@ ghost use Rattle.requirement_checks.specs.Lines.{requirement_in};
 ghost use Rattle.requirement_options.specs.Content.{said_in};
 ghost use Rattle.selection_commands.specs.Markers.{requirement_of};
 
-use marker_subtrees::EnvironmentKey;
+use marker_walks::EnvironmentKey;
 use pep508_program::visible;
 use requirement_checks::{Finding, FindingName};
 use requirement_hints::{marker_start, may_have_url};

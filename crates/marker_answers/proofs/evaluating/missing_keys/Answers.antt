@@ -1,5 +1,5 @@
 use Rattle.marker_graph.specs.Contents.{truth}
-use Rattle.marker_subtrees.specs.Keys.{DependsOnKey}
+use Rattle.marker_walks.specs.Keys.{DependsOnKey}
 use Rattle.marker_answers.proofs.SettleLaws.{all_added}
 use Rattle.marker_answers.proofs.evaluating.missing_keys.Goals as goal
 

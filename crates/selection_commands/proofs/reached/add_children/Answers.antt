@@ -1,8 +1,8 @@
 use Rattle.std.proofs.Common.{List, length, sym, subst}
 use Rattle.marker_diagrams.specs.declared.node_id.NodeId.{NodeId}
-use Rattle.marker_subtrees.specs.Subtrees.{AddsFirst}
-use Rattle.marker_subtrees.proofs.GrowthLaws.{grows}
-use Rattle.marker_subtrees.proofs.WalkLaws.{adds_all, on_ok}
+use Rattle.marker_walks.specs.Subtrees.{AddsFirst}
+use Rattle.marker_walks.proofs.GrowthLaws.{grows}
+use Rattle.marker_walks.proofs.WalkLaws.{adds_all, on_ok}
 use Rattle.selection_commands.proofs.ReachedLaws.{adds_known, adds_open}
 use Rattle.selection_commands.proofs.reached.add_children.Goals as goal
 

@@ -1,7 +1,7 @@
 use Rattle.std.proofs.Common.{◌<◌, length, arith}
 use Rattle.std.proofs.lemmas.Option.{slice_get-get_or}
-use Rattle.marker_subtrees.proofs.GrowthLaws.{grows}
-use Rattle.marker_subtrees.proofs.WalkLaws.{adds_none, adds_one}
+use Rattle.marker_walks.proofs.GrowthLaws.{grows}
+use Rattle.marker_walks.proofs.WalkLaws.{adds_none, adds_one}
 use Rattle.selection_commands.proofs.reached.add_ids.Goals as goal
 
 pub loop-index-init : goal.loop-index-init

@@ -1,5 +1,5 @@
 -- The first of the children are in the list.
-use Rattle.marker_subtrees.specs.Subtrees.{AddsFirst}
+use Rattle.marker_walks.specs.Subtrees.{AddsFirst}
 use Rattle.selection_commands.proofs.reached.add_ids.Given as goal
 
 abbrev pub invariant-loop-index : goal.invariant-loop-index

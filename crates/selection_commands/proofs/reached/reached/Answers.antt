@@ -1,7 +1,7 @@
 use Rattle.std.proofs.Common.{sym, ap, ◌∙◌, arith}
 use Rattle.std.specs.Option.{option_copied}
-use Rattle.marker_subtrees.proofs.GrowthLaws.{grows}
-use Rattle.marker_subtrees.proofs.WalkLaws.{end_past}
+use Rattle.marker_walks.proofs.GrowthLaws.{grows}
+use Rattle.marker_walks.proofs.WalkLaws.{end_past}
 use Rattle.selection_commands.proofs.ReachedLaws.{reaches_first, reaches_leaf, reaches_node, all_reached}
 use Rattle.selection_commands.proofs.reached.reached.Goals as goal
 use Rattle.selection_commands.proofs.reached.reached.Goals.{in-Some-node+in_ok-add_children, in_default-node}

@@ -1,5 +1,5 @@
 use Rattle.std.proofs.Common.{refl, ◌∙◌, codes}
-use Rattle.marker_subtrees.specs.Keys.{key_name}
+use Rattle.marker_walks.specs.Keys.{key_name}
 use Rattle.marker_witnesses.specs.Text.{comparison, extra_comparisons, key_comparisons, value_of}
 use Rattle.marker_witnesses.proofs.TextLaws.{all_of, all_three, more_of, same_comparison}
 use Rattle.marker_witnesses.proofs.example.Example.marker_text.Goals as goal

@@ -1,6 +1,6 @@
 -- The comparisons so far are written.
 use Rattle.std.proofs.Common.{◌≡◌, [], map, take, string_bytes, codes}
-use Rattle.marker_subtrees.specs.Keys.{key_name}
+use Rattle.marker_walks.specs.Keys.{key_name}
 use Rattle.marker_witnesses.specs.Text.{all_after, comparison, extra_comparisons, key_comparisons, value_of}
 use Rattle.marker_witnesses.proofs.example.Example.marker_text.Given as goal
 

@@ -1,4 +1,0 @@
-pub mod CheckLaws
-pub mod JsonLaws
-pub mod ReadingLaws
-pub mod RequirementLaws

@@ -1,4 +1,0 @@
-pub mod Json
-pub mod Reading
-pub mod Requirement
-pub mod Check

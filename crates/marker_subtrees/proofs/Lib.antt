@@ -1,4 +1,0 @@
-pub mod GrowthLaws
-pub mod WalkLaws
-pub mod DependLaws
-pub mod KeyLaws

@@ -1,2 +1,0 @@
-pub mod Subtrees
-pub mod Keys

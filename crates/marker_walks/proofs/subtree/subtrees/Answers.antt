@@ -1,0 +1,33 @@
+use Rattle.std.proofs.Common.{sym, ap, ◌∙◌, arith}
+use Rattle.std.specs.Option.{option_copied}
+use Rattle.marker_walks.proofs.GrowthLaws.{grows}
+use Rattle.marker_walks.proofs.WalkLaws.{walks_first, walks_leaf, walks_node, walked, walked_past, end_past}
+use Rattle.marker_walks.proofs.subtree.subtrees.Goals as goal
+use Rattle.marker_walks.proofs.subtree.subtrees.Goals.{in-Some-node+in_ok-add_children, in_default-node}
+
+pub loop-index-init : goal.loop-index-init
+loop-index-init c =
+    walks_first c.args.table.now c.args.id c.new-found.result.keys c.insert.new.self.keys c.new-found.ensures.empty
+    (grows c.new-found.result.keys c.insert.new.self.keys c.args.id c.in_ok-insert.ensures.keys)
+
+pub returns-in_default-clause-subtrees : goal.returns-in_default-clause-subtrees
+returns-in_default-clause-subtrees c =
+    walked c.args.table.now c.args.id c.loop-index.index c.loop-index.found.keys
+    (end_past c.loop-index.found.keys c.loop-index.index (sym (c.in_default.ensures ∙ c.get_index.ensures.key))) c.loop-index.invariant
+
+pub loop-index-preserved : goal.loop-index-preserved
+loop-index-preserved c =
+    elim c.match-node.branch [
+      | in-Some-node+in_ok-add_children w ↦
+          rw w.found-is (walks_node c.args.table.now c.args.id c.loop-index.index c.loop-index.found.keys w.add_children.new.found.keys c.in-Some.parent w.in-Some-node.node.now
+          (sym (c.in-Some.ensures ∙ c.get_index.ensures.key)) (sym w.in-Some-node.ensures.node) w.in_ok-add_children.ensures c.loop-index.invariant)
+      | in_default-node w ↦
+          rw w.found-is (walks_leaf c.args.table.now c.args.id c.loop-index.index c.loop-index.found.keys c.in-Some.parent
+          (sym (c.in-Some.ensures ∙ c.get_index.ensures.key)) (sym c.node.ensures.node ∙ ap option_copied w.in_default-node.is) c.loop-index.invariant)
+    ]
+
+pub returns-then-len-most-clause-subtrees : goal.returns-then-len-most-clause-subtrees
+returns-then-len-most-clause-subtrees c = walked c.args.table.now c.args.id c.loop-index.index c.loop-index.found.keys (omega (arith, c.len.ensures.len)) c.loop-index.invariant
+
+pub returns-else-len-most-clause-more : goal.returns-else-len-most-clause-more
+returns-else-len-most-clause-more c = walked_past c.args.table.now c.args.id c.loop-index.index c.args.most c.loop-index.found.keys (omega (arith, c.len.ensures.len)) c.loop-index.invariant

@@ -1,2 +1,0 @@
-pub mod ApplyingLaws
-pub mod FindingLaws

@@ -1,9 +1,0 @@
-use Rattle.std.proofs.Common.{◌≤◌, length, drop}
-use Rattle.requirement_rewriting.proofs.ApplyingLaws.{Making}
-use Rattle.requirement_rewriting.proofs.applying.apply_edits.Given as goal
-
-abbrev pub invariant-loop-edit : goal.invariant-loop-edit
-invariant-loop-edit l = record {
-  within : l.at ≤ length l.bytes;
-  making : Making l.bytes l.edits (drop l.at l.bytes) (drop l.edit-index l.edits) l.new.items;
-}
