@@ -105,6 +105,9 @@ OWN_TYPE = re.compile(r"(?:pub\(crate\) )?(?:struct|enum) (\w+)")
 OWN_CONSTANT = re.compile(r"(?:pub\(crate\) )?(?:const|static) \w+:")
 IMPL = re.compile(r"impl(?:<.*?>)? (?:.* for )?(?:\w+::)*(\w+)\b")
 OF_ITEM = re.compile(r"#\[.*\]$")
+# An item of a file by its name, or what something is implemented for, and of which trait.
+ITEM = re.compile(r"(?:pub )?(?:(?:const|unsafe) )*(?:struct|enum|union|trait|type|const|static|fn) (\w+)")
+IMPLEMENTED = re.compile(r"(?:unsafe )?impl\b(.*)")
 # How a block begins whose functions are seen though no `pub` stands before them.
 TRAIT = re.compile(r"(?:pub )?trait |impl\b.* for ")
 CITED = re.compile(r"\b(\w+)(?:\.|::)proofs(?:\.|::)(\w+)")
@@ -125,6 +128,8 @@ class Statements:
     imports: tuple[tuple[str, str], ...]
     functions: tuple[tuple[str, str], ...]
     others: str
+    # The names without which none of this is used, or none where that is not known.
+    items: frozenset[str] | None = None
 
     def seen(self, names: set[str]) -> str:
         """The part that matters to who uses these names alone. Words of std mean the same in each
@@ -189,6 +194,18 @@ def without_own(text: str) -> str:
     return "\n".join(kept)
 
 
+def items_of(text: str) -> frozenset[str]:
+    """The names by which another crate means something of a file: those of its items and of what
+    it hands on, and of an `impl` all that it is for."""
+    names = {name for path, name in imports_of(text) if path.startswith("pub ")}
+    for line in text.splitlines():
+        if found := ITEM.match(line):
+            names.add(found[1])
+        elif found := IMPLEMENTED.match(line):
+            names |= words_of(found[1])
+    return frozenset(names)
+
+
 def statements(text: str) -> Statements:
     """What other crates may see of a laid-out file without comments."""
     text = without_own(text)
@@ -220,7 +237,7 @@ def statements(text: str) -> Statements:
         elif line.endswith("{") and not is_set_in:
             head, end, kept = None, head + "}", others
     heads = ((name, "\n".join(lines)) for name, lines in functions)
-    return Statements(tuple(imports_of(text)), tuple(heads), "\n".join(others))
+    return Statements(tuple(imports_of(text)), tuple(heads), "\n".join(others), items_of(text))
 
 
 # How a definition begins that is no equation, and its name; the name of one inside a module.
@@ -418,6 +435,34 @@ def used(files: list[Statements], names: set[str]) -> set[str]:
     return found
 
 
+def can_mean(file: Path, seen: Statements, names: set[str]) -> bool:
+    """Whether these names can mean something of a file of a crate below: of code, the crate and an
+    item of the file are among them, and of specs, the file."""
+    crate = file.parts[len(file.parts) - file.parts[::-1].index("crates")]
+    if file.suffix == ".rt":
+        return seen.items is None or (crate in names and not seen.items.isdisjoint(names))
+    return file.parent.name != "specs" or file.stem == "Lib" or file.stem in names
+
+
+def reached(files: dict[Path, Statements], code: set[str], names: set[str]) -> dict[Path, str]:
+    """What is seen of files below by who uses these names, in code the first ones: of each file of
+    which they can mean something, or the names that such files have."""
+    known, those = names, -1
+    parts: dict[Path, str] = {}
+    while len(parts) > those:
+        those = len(parts)
+        now = {file: it for file, it in files.items() if can_mean(file, it, known)}
+        # (no definition or proof names a function of another crate: only code does)
+        programs = {file: it for file, it in now.items() if file.suffix == ".rt"}
+        others = {file: it for file, it in now.items() if file.suffix != ".rt"}
+        called = used(list(programs.values()), code)
+        parts = {file: it.seen(called) for file, it in programs.items()}
+        named = used(list(others.values()), names.union(*map(words_of, parts.values())))
+        parts |= {file: it.seen(named) for file, it in others.items()}
+        known = called.union(named, *map(words_of, parts.values()))
+    return {file: parts[file] for file in files if parts.get(file, "").strip()}
+
+
 def cited(texts: Iterable[str]) -> set[tuple[str, str]]:
     """The files of lemmas that texts cite: a crate, and the name of one of its files."""
     return {found for text in texts for found in CITED.findall(text)}
@@ -468,15 +513,9 @@ class Record:
             file: Statements((), (), tells[file]) if file in tells else statements_of(file)
             for file in files
         }
-        # (no definition or proof names a function of another crate: only code does)
-        code = [texts[file] for file in files if file.suffix == ".rt"]
-        others = [texts[file] for file in files if file.suffix != ".rt"]
         words = {file: words_of(tells.get(file) or file.read_text()) for file in own}
-        called = used(code, set().union(*(words[it] for it in own if it.suffix != ".antt")))
-        heads = set().union(*(words_of(it.seen(called)) for it in code))
-        names = used(others, heads.union(*words.values()))
-        of = lambda file: texts[file].seen(called if file.suffix == ".rt" else names)
-        parts = {file: part for file in files if (part := of(file)).strip()}
+        code = set().union(*(words[it] for it in own if it.suffix != ".antt"))
+        parts = reached(texts, code, code.union(*words.values()))
         return self.repository.sum_of(parts, lambda file: parts[file].encode())
 
     def sum_of(self, task: str, tried: list[Edit]) -> str:
@@ -485,7 +524,8 @@ class Record:
         kind, _, crate = task.partition("-")
         root = self.repository
         names = dict.fromkeys([*root.below(crate), crate, *(edit.crate for edit in tried)])
-        uses = "\n".join(f"{name}: {' '.join(root.uses[name])}" for name in names)
+        # (which crates those below use is told by what is seen of them)
+        uses = f"{crate}: {' '.join(root.uses[crate])}"
         total = self.sum_of_proofs(crate, tried) if kind == "refused" else self.sum_run(names, tried)
         return hashlib.sha256(f"{self.common}\n{uses}\n{total}".encode()).hexdigest()
 
