@@ -17,7 +17,7 @@ from pathlib import Path
 from checks.kit import Repository
 
 # The crates whose programs are quoted.
-PROGRAMS = ("first_use", "needed", "uses")
+PROGRAMS = ("needed", "uses")
 COMPARED = "docs/COMING_FROM.md"
 # The picture of the crates.
 DRAWN = ("docs/ARCHITECTURE.md",)

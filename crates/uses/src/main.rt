@@ -6,6 +6,7 @@ mod diagram;
 mod errors;
 mod evaluate;
 mod extras;
+mod first;
 mod open;
 mod parse;
 mod paths;
@@ -26,6 +27,7 @@ fn with_requirements(
     surroundings: &Surroundings<'_>,
     interner: &mut Interner,
 ) -> Result<()> {
+    first::run(rt, surroundings, interner)?;
     requirement::run(rt, surroundings, interner)?;
     open::run(rt, surroundings, interner)?;
     errors::run(rt, surroundings, interner)?;

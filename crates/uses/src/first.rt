@@ -1,26 +1,8 @@
-//! Parses a requirement, evaluates where it applies, and prints it.
-#![tactic(auto)]
+//! A first use: a requirement is parsed, evaluated and printed; and the error of an invalid one.
 
+use crate::evaluate::LINUX;
 use anyhow::Result;
-use pep508_rs::{
-    ExtraName, Interner, MarkerEnvironment, MarkerEnvironmentBuilder, Requirement, Surroundings,
-    VerbatimUrl,
-};
-use std::collections::BTreeMap;
-
-const LINUX: MarkerEnvironmentBuilder<'static> = MarkerEnvironmentBuilder {
-    implementation_name: "cpython",
-    implementation_version: "3.12.1",
-    os_name: "posix",
-    platform_machine: "x86_64",
-    platform_python_implementation: "CPython",
-    platform_release: "6.1",
-    platform_system: "Linux",
-    platform_version: "#1",
-    python_full_version: "3.12.1",
-    python_version: "3.12",
-    sys_platform: "linux",
-};
+use pep508_rs::{ExtraName, Interner, MarkerEnvironment, Requirement, Surroundings, VerbatimUrl};
 
 // Prints whether a requirement applies, and its text.
 fn show(
@@ -56,16 +38,12 @@ const TEXT: &str = "requests[security,tests] >= 2.8.1 ; python_version >= '3.8' 
 
 const NO_REQUIREMENT: &str = "requests >= 2.8.1 ; python_version is '3.8'";
 
-fn main(rt: HostRuntime) -> Result<()> {
-    let alloc = rt.alloc();
-    let vars = BTreeMap::new(alloc);
-    let surroundings = Surroundings {
-        vars: &vars,
-        project_root: "/srv",
-        working_dir: None,
-    };
-    let linux = MarkerEnvironment::try_from(alloc, LINUX)?;
-    let mut interner = Interner::new(alloc);
-    show(&rt, TEXT, &linux, &surroundings, &mut interner)?;
-    show_fault(&rt, NO_REQUIREMENT, &surroundings, &mut interner)
+pub fn run(
+    rt: &HostRuntime,
+    surroundings: &Surroundings<'_>,
+    interner: &mut Interner,
+) -> Result<()> {
+    let linux = MarkerEnvironment::try_from(rt.alloc(), LINUX)?;
+    show(rt, TEXT, &linux, surroundings, interner)?;
+    show_fault(rt, NO_REQUIREMENT, surroundings, interner)
 }
