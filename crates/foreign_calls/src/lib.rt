@@ -22,11 +22,9 @@ mod simplification;
 pub use answer::{Answer, hand_over, write_version};
 pub use check::{Span, check_requirement};
 pub use environment::{Environment, read_environment, read_names};
-pub use marker::{
-    answer_to, evaluate_marker, marker_text, normalize_marker, out_of_memory, parse_marker,
-};
+pub use marker::{evaluate_marker, marker_text, normalize_marker, out_of_memory, parse_marker};
 pub use normal::normalize_requirement;
-pub use options::{Options, Settings, folder_or_none, read_text};
+pub use options::{Options, Settings, read_text};
 pub use parts::requirement_parts;
 pub use relation::compare_markers;
 pub use simplification::{BoundText, simplify_marker};

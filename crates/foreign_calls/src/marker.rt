@@ -22,7 +22,7 @@ use std::alloc::Global;
 use url::Url;
 
 /// The answer to a text that is refused. An interner that had no room for a node is `TooComplex`.
-pub fn answer_to<E>(interner: &Interner, refusal: &Refusal<E>) -> Answer
+pub(crate) fn answer_to<E>(interner: &Interner, refusal: &Refusal<E>) -> Answer
     ensures { Answers refusal.now result }
 {
     match refusal {

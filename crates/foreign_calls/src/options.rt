@@ -129,7 +129,7 @@ pub fn read_text(bytes: &[u8]) -> Result<&str, Answer>
 }
 
 /// The folder, or nothing in place of an empty text.
-pub fn folder_or_none(folder: &str) -> Option<&str>
+pub(crate) fn folder_or_none(folder: &str) -> Option<&str>
     ensures { option_map (λ path. path.now) result ≡ working_folder folder.now }
 {
     if folder.is_empty() {

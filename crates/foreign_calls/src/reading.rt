@@ -4,7 +4,9 @@ ghost use Rattle.std.specs.Prelude.{IfErr, IfOk};
 ghost use Rattle.marker_graph.specs.Contents.{IsHeld};
 ghost use Rattle.foreign_calls.specs.Reading.{IsReadFrom, IsRefused, IsRequirementRefusal};
 
-use crate::{Answer, answer_to, folder_or_none};
+use crate::Answer;
+use crate::marker::answer_to;
+use crate::options::folder_or_none;
 use marker_graph::Interner;
 use pep508_errors::{Pep508Error, Surroundings};
 use pep508_requirements::Requirement;
