@@ -2,9 +2,9 @@
 //! what they return to buffers of the caller, and return an answer.
 //!
 //! A call that allocates returns `OutOfMemory` when memory runs out. Nothing is kept between two
-//! calls. Only `Done` fills a buffer or another place for a result. No variable of a URL is known,
-//! so `${NAME}` stays as it is written; `${PROJECT_ROOT}` is the folder of the options, from which
-//! relative paths start.
+//! calls. Only `Done` fills a buffer or another place for a result, and `Invalid` those of
+//! `check_requirement`. No variable of a URL is known, so `${NAME}` stays as it is written;
+//! `${PROJECT_ROOT}` is the folder of the options, from which relative paths start.
 #![tactic(auto)]
 
 mod answer;

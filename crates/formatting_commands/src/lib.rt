@@ -1,7 +1,8 @@
 //! Requirements in their normal text, with everything else of a file byte for byte as it was: the
 //! command `fmt` of the program `pep508`.
 //!
-//! Calls that allocate return `AllocError` when memory runs out.
+//! When memory runs out, calls about texts return `AllocError`, those about files an `io::Error`,
+//! and the command has status 2.
 #![tactic(auto)]
 
 mod applying;

@@ -1,7 +1,7 @@
 //! The drawing of a marker: its decision diagram, with labels, as a tree for a terminal, in the
 //! language of Graphviz, or as a picture; and the command `draw` of the program `pep508`.
 //!
-//! Calls that allocate return `AllocError` when memory runs out.
+//! `draw` and the layouts return `AllocError` when memory runs out; the command has status 2 then.
 #![tactic(auto)]
 
 mod arguments;

@@ -1,8 +1,8 @@
 //! The commands `select` and `matrix` of the program `pep508`: which requirements apply in an
 //! environment, and in which of several environments each applies.
 //!
-//! The truth of a marker is known if the values that are given decide it. Calls that allocate
-//! return `AllocError` when memory runs out. What the markers of an interner mean stays, even then.
+//! The truth of a marker is known if the values that are given decide it. What the markers of an
+//! interner mean stays, even when memory runs out.
 #![tactic(auto)]
 
 mod arguments;
