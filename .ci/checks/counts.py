@@ -43,8 +43,7 @@ def of_families(root: Path) -> dict[str, dict[str, int]]:
             "met": len(family.all_met()),
             "hints": family.hints,
         }
-        for its in script(root / ".ci" / "refusals").PROGRAMS.values()
-        for crate, families in its.items()
+        for crate, families in script(root / ".ci" / "refusals").FAMILIES.items()
         for family in families
     }
 

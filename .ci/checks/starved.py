@@ -16,7 +16,8 @@ NOTHING = "nothing was refused"
 
 # The program that serves lines.
 SERVER = "markers"
-# A program that makes the calls of families, of which each crate has its own.
+# The program that makes the calls of families, of which each crate has its own.
+CALLER = "families"
 PROGRAM = """\
 //! Makes the calls of families while one allocation fails.
 #![tactic(auto)]
@@ -99,14 +100,14 @@ def faults_of(family: Family, growth: int, answers: list[tuple[int, str]]) -> li
     return wrong + [f"{family.name}: never {met}" for met in family.all_met() if met not in found]
 
 
-def write_program(name: str, families: dict[str, list[Family]], room: Path) -> None:
+def write_program(families: dict[str, list[Family]], room: Path) -> None:
     """Writes a program into a repository that makes the calls of families of these crates: so what
     they share is compiled once."""
     arms = [ARM % (family.name, crate) for crate, its in families.items() for family in its]
-    (room / "crates" / name / "src").mkdir(parents=True)
-    (room / "crates" / name / "src" / "main.rt").write_text(PROGRAM % "".join(arms))
+    (room / "crates" / CALLER / "src").mkdir(parents=True)
+    (room / "crates" / CALLER / "src" / "main.rt").write_text(PROGRAM % "".join(arms))
     with (room / "crates.txt").open("a") as listed:
-        listed.write(f"{name}: {' '.join(['starved', *families])}\n")
+        listed.write(f"{CALLER}: {' '.join(['starved', *families])}\n")
 
 
 def keeping_kit(room: Path, kept: Path) -> Path:
@@ -136,17 +137,15 @@ class Starved:
     def __init__(
         self,
         repository: Repository,
-        programs: dict[str, dict[str, list[Family]]],
+        families: dict[str, list[Family]],
         room: Path,
         tell: Callable[[str], None],
     ) -> None:
-        self.programs = programs
+        self.families = families
         self.room = room
         self.tell = tell
-        crates = [crate for families in programs.values() for crate in families]
-        workspace(repository, [*crates, SERVER], room / "copy")
-        for program, families in programs.items():
-            write_program(program, families, room / "copy")
+        workspace(repository, [*families, SERVER], room / "copy")
+        write_program(families, room / "copy")
 
     def built(self, program: str, growth: int) -> Path:
         """Builds a program in which this growth is refused, and answers where it is. Tells why it
@@ -167,26 +166,26 @@ class Starved:
             self.tell(f"refusals: {program} was not built")
         return kept
 
-    def run(self, program: Path, given: str) -> Run:
-        """Runs a program on a file. It has no status if it takes too long, or was not built. (From
-        a pipe it would ask for memory more often.)"""
+    def run(self, program: Path, given: str, words: Iterable[str] = ()) -> Run:
+        """Runs a program with these words on a file. It has no status if it takes too long, or was
+        not built. (From a pipe it would ask for memory more often.)"""
         how = {"stdout": subprocess.PIPE, "stderr": subprocess.STDOUT, "timeout": LIMIT}
         with tempfile.TemporaryFile() as file:
             file.write(given.encode())
             file.seek(0)
             try:
-                ran = subprocess.run([program], stdin=file, env={}, **how)
+                ran = subprocess.run([program, *words], stdin=file, env={}, **how)
             except (subprocess.TimeoutExpired, FileNotFoundError) as error:
                 return Run(None, str(error))
         return Run(ran.returncode, ran.stdout.decode(errors="replace"))
 
-    def sweep(self, program: str) -> list[bool]:
-        """Refuses each growth of each family of a program in turn, and answers which families are
-        right. The same growth of the whole run is refused each time, which is another one of the
-        family for each number of growths before."""
-        families = [(it, family) for it, its in self.programs[program].items() for family in its]
+    def sweep(self) -> list[bool]:
+        """Refuses each growth of each family in turn, and answers which families are right. The
+        same growth of the whole run is refused each time, which is another one of the family for
+        each number of growths before."""
+        families = [(it, family) for it, its in self.families.items() for family in its]
         growth = max(family.growths for _, family in families)
-        built = self.built(program, growth)
+        built = self.built(CALLER, growth)
         if not built.is_file():
             return [False for _ in families]
         return [self.judge(crate, family, growth, built) for crate, family in families]
@@ -211,12 +210,17 @@ class Starved:
         self.tell(f"refusals: {crate}, {family.name}: {runs}")
         return self.passed(crate, wrong, bad[0] if bad else "")
 
-    def long_input(self, lines: int, growths: int) -> list[bool]:
-        """Serves a long line and so many short ones, of which no cell is left, and refuses the
-        growth after so many: there is none, so memory grows with the longest line and not with
-        their number."""
+    def serve(self, lines: int, growths: int) -> list[bool]:
+        """Runs the server, in which the growth after so many is refused: on a long input, and with
+        so many words that reading these takes more."""
+        built = self.built(SERVER, growths + 1)
+        return [self.long_input(built, lines, growths), self.refused_start(built, growths)]
+
+    def long_input(self, built: Path, lines: int, growths: int) -> bool:
+        """Serves a long line and so many short ones, of which no cell is left. They take no more
+        than so many growths, so memory grows with the longest line and not with their number."""
         given = f"{0:020000}\n" + "noop\n" * lines
-        ran = self.run(self.built(SERVER, growths + 1), given)
+        ran = self.run(built, given)
         answers = len(re.findall(r"^error command$", ran.said, re.M))
         wrong = []
         if answers != lines + 1:
@@ -224,19 +228,18 @@ class Starved:
         if ran.status != 0:
             wrong.append("serving ended otherwise")
         self.tell(f"refusals: markers: {answers} lines served with at most {growths} growths")
-        return [self.passed(SERVER, wrong, ran.said)]
+        return self.passed(SERVER, wrong, ran.said)
 
-    def refused_start(self) -> list[bool]:
-        """Refuses the first growth of a run, that of the arguments: the program tells it and ends
-        with status 1."""
-        ran = self.run(self.built(SERVER, 1), "noop\n")
+    def refused_start(self, built: Path, growths: int) -> bool:
+        """Refuses a growth of the arguments: the program tells it and ends with status 1."""
+        ran = self.run(built, "noop\n", ["word"] * (2 * growths))
         wrong = []
         if not re.search(r"^markers: out of memory$", ran.said, re.M):
             wrong.append("a refused start is not told")
         if ran.status != 1:
             wrong.append("a refused start ended otherwise")
         self.tell("refusals: markers: a start without memory is tried")
-        return [self.passed(SERVER, wrong, ran.said)]
+        return self.passed(SERVER, wrong, ran.said)
 
     def passed(self, program: str, wrong: list[str], said: str) -> bool:
         """Tells what is wrong with the runs of a program, if anything is."""

@@ -19,7 +19,7 @@ use Rattle.pep508_requirements.specs.declared.requirement.Requirement.{Requireme
 use Rattle.pep508_urls.specs.Meaning.{IsVerbatim}
 use Rattle.pep508_urls.specs.Verbatim.{Verbatim}
 use Rattle.pep508_urls.specs.declared.error.VerbatimUrlError.{VerbatimUrlError}
-use Rattle.formatting_commands.specs.Same.{IsParsedIn, IsSame, IsSameText, IsSameWish, Parses}
+use Rattle.formatting_commands.specs.Same.{IsParsedIn, IsSame, IsSameText, IsSameWish, Parses, TellsSame}
 use Rattle.formatting_commands.specs.Formatting.{IsSameFrom, StartsFrom}
 
 abbrev Named : Type 0
@@ -71,6 +71,10 @@ same_text {s} {c} {d} {old} {new} r q first held kept second same = record {
   same_wish = same.wish;
   same_truth = λ v. sym (first.read.means v) ∙ sym (kept_truth c d r.marker kept held v) ∙ ap (λ (t : MarkerTree). truth d t v) same.marker ∙ second.read.means v;
 }
+
+-- a text that parses as the same requirement, in an interner that has grown
+pub parses_as : {s : Surroundings} {c d : Contents} {new : List ℕ} (r q : Named) → IsHeld c r.marker → IsKept c d → IsParsedIn s d new q → (told : Bool) → (told ≡ true → IsSame r q) → TellsSame s c r new told
+parses_as r q held kept second told same = λ is old first. same_text r q first held kept second (same is)
 
 -- requirements with the same parts
 pub same_parts : {A : Type 0} (r q : Named) (result : Result Bool A) → r.name ≡ q.name → r.extras.items ≡ q.extras.items → r.marker ≡ q.marker

@@ -1,5 +1,5 @@
 -- Texts of one and the same requirement.
-use Rattle.std.specs.Prelude.{◌≡◌, ⊤, ℕ, List, Option, None, Some, String, string_bytes}
+use Rattle.std.specs.Prelude.{◌≡◌, ⊤, ℕ, Bool, true, List, Option, None, Some, String, string_bytes}
 use Rattle.pep440_specifier.specs.Set.{set_text}
 use Rattle.pep508_errors.specs.declared.surroundings.Surroundings.{Surroundings}
 use Rattle.pep508_errors.specs.declared.warning.MarkerWarningKind.{MarkerWarningKind}
@@ -70,3 +70,9 @@ pub record IsSameText (surroundings : Surroundings) (old new : List ℕ) : Type 
 -- the same of a string
 abbrev pub IsSameString : {A : Type 0} → Surroundings → List ℕ → String A → Type 0
 IsSameString surroundings old new = IsSameText surroundings old (string_bytes new)
+
+-- if this is told, each text that parses as the requirement and the new text parse as the same
+abbrev pub TellsSame : Surroundings → Contents → Requirement Verbatim VerbatimUrlError → List ℕ
+    → Bool → Type 0
+TellsSame surroundings c r new told = told ≡ true
+    → (old : List ℕ) → IsParsedIn surroundings c old r → IsSameText surroundings old new

@@ -33,20 +33,15 @@ impl<C: CheckLines> CheckLines for RequirementFaults<'_, C> {
         line: &[Piece<'f>],
         is_constraint: bool,
     ) -> Result<CheckedLine<'f>, AllocError> {
-        let checked = self.checker.check_line(alloc, file, line, is_constraint)?;
-        let mut findings = Vec::new(alloc);
-        for finding in checked.findings {
-            if is_fault(&finding) {
-                findings.push(finding)?;
-            }
-        }
+        let mut checked = self.checker.check_line(alloc, file, line, is_constraint)?;
+        checked.findings.retain(is_fault);
         Ok(CheckedLine {
             line: FileLine {
                 content: Content::Settings,
                 options: Vec::new(alloc),
                 faults: Vec::new(alloc),
             },
-            findings,
+            findings: checked.findings,
             listed: None,
         })
     }

@@ -129,6 +129,30 @@ fn deliver<H: Host, O: Outputs>(
     }
 }
 
+// Formats a file that was read, with these bytes.
+fn format_sheet<H: Host, O: Outputs, C: CheckLines>(
+    alloc: Global,
+    host: &mut H,
+    outputs: &mut O,
+    checker: &mut C,
+    job: Job<'_>,
+    sheet: &Sheet,
+    bytes: &[u8],
+    tally: &mut Tally,
+) -> Result<(), Failure> {
+    match format_file(alloc, bytes, sheet.text(), job.settings)? {
+        Some(done) => deliver(alloc, host, outputs, job.mode, sheet, &done, tally)?,
+        None => {
+            let reason = "its text has more bytes than the file";
+            return report_failed(alloc, host, sheet.path.as_str(), reason, tally);
+        }
+    }
+    let found = report_faults(alloc, host, checker, sheet, job.settings, job.style)?;
+    tally.errors = tally.errors.saturating_add(found.errors);
+    tally.failures = tally.failures.saturating_add(found.failures);
+    Ok(())
+}
+
 // Formats a file with these bytes.
 fn format_bytes<H: Host, O: Outputs, C: CheckLines>(
     alloc: Global,
@@ -141,20 +165,8 @@ fn format_bytes<H: Host, O: Outputs, C: CheckLines>(
     tally: &mut Tally,
 ) -> Result<(), Failure> {
     let sheet = Sheet::new(alloc, path, bytes.clone()?, false)?;
-    let Some(done) = format_file(alloc, bytes.as_slice(), sheet.text(), job.settings)? else {
-        return report_failed(
-            alloc,
-            host,
-            path,
-            "its text has more bytes than the file",
-            tally,
-        );
-    };
-    deliver(alloc, host, outputs, job.mode, &sheet, &done, tally)?;
-    let found = report_faults(alloc, host, checker, &sheet, job.settings, job.style)?;
-    tally.errors = tally.errors.saturating_add(found.errors);
-    tally.failures = tally.failures.saturating_add(found.failures);
-    Ok(())
+    let bytes = bytes.as_slice();
+    format_sheet(alloc, host, outputs, checker, job, &sheet, bytes, tally)
 }
 
 /// Formats the file of this path, or standard input if it is `-`, and counts what was reported.

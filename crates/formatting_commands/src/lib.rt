@@ -23,7 +23,7 @@ mod texts;
 mod variables;
 
 pub use crate::applying::{Edit, apply_edits};
-pub use crate::arguments::{FormatCommand, FormatMode, format_command, with_format_command};
+pub use crate::arguments::{FormatCommand, FormatMode, format_command};
 pub use crate::commands::run_format_command;
 pub use crate::finding::{Rewriter, find_edits};
 pub use crate::formatter::{Formatter, SUBSTITUTE};

@@ -1,8 +1,8 @@
 //! The normal texts of requirements.
 
 ghost use Rattle.std.specs.Prelude.{IfOk, IfSome};
-ghost use Rattle.marker_graph.specs.Contents.{IsHeld};
-ghost use Rattle.formatting_commands.specs.Same.{IsSameString};
+ghost use Rattle.marker_graph.specs.Contents.{IsHeld, IsKept};
+ghost use Rattle.formatting_commands.specs.Same.{IsParsedIn, IsSameString, TellsSame};
 
 use crate::parsing::{given_url, parse_whole};
 use crate::same::is_same;
@@ -13,17 +13,26 @@ use pep508_requirements::Requirement;
 use pep508_urls::VerbatimUrl;
 use std::alloc::AllocError;
 
-// Prints the requirement with its URL as it was given.
-fn print(requirement: &Requirement<VerbatimUrl>, interner: &Interner) -> Result<String, AllocError>
-    requires { IsHeld interner.now requirement.now.marker }
-{
-    let Some(url) = given_url(requirement) else {
-        return requirement.try_to_string(interner);
-    };
+// Prints the requirement without its URL and its marker.
+fn print_front(
+    requirement: &Requirement<VerbatimUrl>,
+    interner: &Interner,
+) -> Result<String, AllocError> {
     let mut front = requirement.clone()?;
     front.clear_url();
     front.marker = MarkerTree::TRUE;
-    let mut text = front.try_to_string(interner)?;
+    front.try_to_string(interner)
+}
+
+// Prints the requirement with this text in place of its URL.
+fn print_with(
+    requirement: &Requirement<VerbatimUrl>,
+    url: &str,
+    interner: &Interner,
+) -> Result<String, AllocError>
+    requires { IsHeld interner.now requirement.now.marker }
+{
+    let mut text = print_front(requirement, interner)?;
     text.push_str(" @ ")?;
     text.push_str(url)?;
     if let Some(marker) = requirement.marker.try_to_string(interner)? {
@@ -31,6 +40,54 @@ fn print(requirement: &Requirement<VerbatimUrl>, interner: &Interner) -> Result<
         text.push_str(marker.as_str())?;
     }
     Ok(text)
+}
+
+// Prints the requirement with its URL as it was given.
+fn print(requirement: &Requirement<VerbatimUrl>, interner: &Interner) -> Result<String, AllocError>
+    requires { IsHeld interner.now requirement.now.marker }
+{
+    match given_url(requirement) {
+        Some(url) => print_with(requirement, url, interner),
+        None => requirement.try_to_string(interner),
+    }
+}
+
+// Whether a new text parses as the same requirement.
+fn parses_as(
+    new: &str,
+    requirement: &Requirement<VerbatimUrl>,
+    surroundings: &Surroundings<'_>,
+    interner: &mut Interner,
+) -> Result<bool, AllocError>
+    requires { IsHeld interner.old requirement.now.marker }
+    ensures kept { IsKept interner.old interner.new }
+    ensures same { IfOk result
+        (TellsSame surroundings.now interner.old requirement.now new.now) }
+{
+    match parse_whole(new, surroundings, interner)? {
+        Some(again) => is_same(interner.allocator(), requirement, &again),
+        None => Ok(false),
+    }
+}
+
+// The normal text of the requirement that a text was parsed as, if it is another one that parses
+// back.
+fn changed_text(
+    text: &str,
+    requirement: &Requirement<VerbatimUrl>,
+    surroundings: &Surroundings<'_>,
+    interner: &mut Interner,
+) -> Result<Option<String>, AllocError>
+    requires held { IsHeld interner.old requirement.now.marker }
+    requires parsed { IsParsedIn surroundings.now interner.old text.now requirement.now }
+    ensures { IfOk result (λ new. IfSome new (IsSameString surroundings.now text.now)) }
+{
+    let new = print(requirement, interner)?;
+    if new.as_str() != text && parses_as(new.as_str(), requirement, surroundings, interner)? {
+        Ok(Some(new))
+    } else {
+        Ok(None)
+    }
 }
 
 /// Returns the normal text of a requirement with a name, with its URL as it is given, if that is
@@ -45,19 +102,8 @@ pub fn normal_text(
 ) -> Result<Option<String>, AllocError>
     ensures { IfOk result (λ new. IfSome new (IsSameString surroundings.now text.now)) }
 {
-    let Some(requirement) = parse_whole(text, surroundings, interner)? else {
-        return Ok(None);
-    };
-    let new = print(&requirement, interner)?;
-    if new.as_str() == text {
-        return Ok(None);
-    }
-    let Some(again) = parse_whole(new.as_str(), surroundings, interner)? else {
-        return Ok(None);
-    };
-    if is_same(interner.allocator(), &requirement, &again)? {
-        Ok(Some(new))
-    } else {
-        Ok(None)
+    match parse_whole(text, surroundings, interner)? {
+        Some(requirement) => changed_text(text, &requirement, surroundings, interner),
+        None => Ok(None),
     }
 }

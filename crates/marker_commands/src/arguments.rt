@@ -1,8 +1,7 @@
-//! The command lines of the commands about markers.
+//! The words of the commands about markers.
 
-use clap::{Arg, ArgAction, ArgMatches, Command};
-use pep508_program::{Coloring, color_argument, coloring_of, flag, limit_argument, option};
-use std::alloc::{AllocError, Global};
+use clap::ArgMatches;
+use pep508_program::{Coloring, coloring_of};
 
 /// The words of `compare`.
 #[derive(Clone, Copy, Debug)]
@@ -61,99 +60,6 @@ pub struct MarkerCommand<'m> {
     pub coloring: Coloring,
     /// The room of the markers.
     pub limit: u64,
-}
-
-static PLATFORMS: [&str; 3] = ["linux", "macos", "windows"];
-
-static IMPLEMENTATIONS: [&str; 2] = ["cpython", "pypy"];
-
-/// Returns a required argument that is a marker.
-pub fn marker_argument<'a>(alloc: Global, id: &'a str, value: &'a str) -> Arg<'a> {
-    Arg::new(alloc, id)
-        .value_name(value)
-        .required(true)
-        .help("A marker, such as \"python_version >= '3.8'\"")
-}
-
-/// Returns the option `--extra`, which may be used several times.
-pub fn extra_argument<'a>(alloc: Global) -> Arg<'a> {
-    option(alloc, "extra", "NAME", "An extra that is asked for").action(ArgAction::Append)
-}
-
-/// Returns the option `--implementation`.
-pub fn implementation_argument<'a>(alloc: Global) -> Arg<'a> {
-    let help = "implementation_name and platform_python_implementation";
-    option(alloc, "implementation", "NAME", help).value_parser(IMPLEMENTATIONS.as_slice())
-}
-
-/// Adds the options of all commands about markers: `--color` and `--limit`.
-pub fn with_common(alloc: Global, command: Command<'_>) -> Result<Command<'_>, AllocError> {
-    let limit = "The room of the markers; one that needs more is too complex";
-    command
-        .arg(color_argument(alloc))?
-        .arg(limit_argument(alloc, limit))
-}
-
-fn compare_command<'a>(alloc: Global) -> Result<Command<'a>, AllocError> {
-    let witness = "Write environments that show it; keys without a value are free";
-    let compare = Command::new(alloc, "compare")
-        .about("Tells how the environments of two markers relate")
-        .after_help("Example: pep508 compare \"os_name == 'nt'\" \"os_name != 'posix'\"")
-        .arg(marker_argument(alloc, "first", "FIRST"))?
-        .arg(marker_argument(alloc, "second", "SECOND"))?
-        .arg(flag(alloc, "witness", witness))?;
-    with_common(alloc, compare)
-}
-
-fn simplify_command<'a>(alloc: Global) -> Result<Command<'a>, AllocError> {
-    let python = "Python versions that are taken for granted, such as '>=3.8,<3.13'";
-    let required = "Require the range, in place of taking it for granted";
-    let simplify = Command::new(alloc, "simplify")
-        .about("Writes what is left of a marker where something is granted")
-        .after_help(
-            "Example: pep508 simplify --python '>=3.8' \"python_version >= '3.7' and os_name == 'nt'\"",
-        )
-        .arg(marker_argument(alloc, "marker", "MARKER"))?
-        .arg(option(alloc, "python", "RANGE", python))?
-        .arg(flag(alloc, "require-python", required).requires_arg("python")?)?
-        .arg(extra_argument(alloc))?;
-    with_common(alloc, simplify)
-}
-
-/// Adds the options that give keys their values.
-pub fn with_environment(alloc: Global, command: Command<'_>) -> Result<Command<'_>, AllocError> {
-    let value = "The value of a key; goes before the options below";
-    let python = "The version of Python, such as 3.12 or 3.12.4";
-    let platform = "The platform: os_name, sys_platform and platform_system";
-    let file = "Values of further keys, as an object of JSON; `-` is standard input";
-    command
-        .arg(option(alloc, "env", "KEY=VALUE", value).action(ArgAction::Append))?
-        .arg(option(alloc, "python", "VERSION", python))?
-        .arg(option(alloc, "platform", "NAME", platform).value_parser(PLATFORMS.as_slice()))?
-        .arg(implementation_argument(alloc))?
-        .arg(option(alloc, "env-file", "FILE", file))
-}
-
-fn eval_command<'a>(alloc: Global) -> Result<Command<'a>, AllocError> {
-    let eval = Command::new(alloc, "eval")
-        .about("Tells whether a marker is true where values of its keys are known")
-        .after_help("Example: pep508 eval --python 3.12 \"python_version >= '3.8'\"")
-        .arg(marker_argument(alloc, "marker", "MARKER"))?;
-    let eval = with_environment(alloc, eval)?
-        .arg(extra_argument(alloc))?
-        .arg(flag(alloc, "status", "End with status 1 if the marker is false"))?;
-    with_common(alloc, eval)
-}
-
-/// Adds the commands about markers to a command line.
-pub fn with_marker_commands(
-    alloc: Global,
-    command: Command<'_>,
-) -> Result<Command<'_>, AllocError> {
-    command
-        .subcommand(compare_command(alloc)?)?
-        .subcommand(eval_command(alloc)?)?
-        .subcommand(simplify_command(alloc)?)
 }
 
 // The first value of an argument, or an empty text.

@@ -22,8 +22,7 @@ mod values;
 
 pub use crate::arguments::{
     CompareWords, EnvironmentWords, EvalWords, MarkerCommand, MarkerTask, SimplifyWords,
-    environment_words, extra_argument, implementation_argument, marker_argument, marker_command,
-    with_common, with_environment, with_marker_commands,
+    environment_words, marker_command,
 };
 pub use crate::comparing::{compare_markers, compare_with_witness};
 pub use crate::environments::{

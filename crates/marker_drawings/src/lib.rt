@@ -15,7 +15,7 @@ mod numbering;
 mod pictures;
 mod trees;
 
-pub use crate::arguments::{DrawCommand, DrawingFormat, draw_command, with_draw_command};
+pub use crate::arguments::{DrawCommand, DrawingFormat, draw_command};
 pub use crate::commands::{DrawingWish, draw_marker, run_draw_command};
 pub use crate::dots::dot_text;
 pub use crate::drawing::{Drawing, DrawnEdge, DrawnNode, Target, draw};

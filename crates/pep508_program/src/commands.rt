@@ -3,6 +3,7 @@
 ghost use Rattle.pep508_program.specs.Status.{IsFinished};
 
 use crate::arguments::{Coloring, Request, Task, request_of, task_of};
+use crate::command_line::matches_of;
 use crate::excerpts::visible;
 use crate::failures::Failure;
 use crate::hosts::Host;
@@ -11,7 +12,7 @@ use crate::totals::{Ending, Finish, Tally, ended, status};
 use crate::variables::is_variable_name;
 use crate::walks::Walk;
 use clap::error::ErrorKind;
-use clap::{ArgMatches, Command, Error};
+use clap::{ArgMatches, Error};
 use requirement_findings::CheckLines;
 use std::alloc::{AllocError, Global};
 use std::io;
@@ -66,10 +67,9 @@ fn invalid_variable<'m>(variables: &'m [&'m str]) -> Option<&'m str> {
 pub fn read_words<'w, H: Host>(
     alloc: Global,
     host: &mut H,
-    command: Command<'w>,
     words: &'w [String],
 ) -> Result<ArgMatches<'w>, u8> {
-    match command.try_get_matches_from(words) {
+    match matches_of(alloc, words) {
         Ok(matches) => Ok(matches),
         Err(error) => match answer(alloc, host, &error) {
             Ok(status) => Err(status),

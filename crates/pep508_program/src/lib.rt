@@ -2,6 +2,7 @@
 #![tactic(auto)]
 
 mod arguments;
+mod command_line;
 mod commands;
 mod excerpts;
 mod failures;
@@ -21,11 +22,8 @@ mod totals;
 mod variables;
 mod walks;
 
-pub use crate::arguments::{
-    Coloring, Request, Task, WARNINGS, color_argument, coloring_of, command_line, flag,
-    format_argument, limit_argument, option, request_of, shows_values_argument, task_of,
-    with_files,
-};
+pub use crate::arguments::{Coloring, Request, Task, coloring_of, request_of, task_of};
+pub use crate::command_line::WARNINGS;
 pub use crate::commands::{
     execute, has_colors, out_of_memory, read_request, read_words, report_failure, wrong_use,
 };

@@ -4,7 +4,7 @@ use crate::excerpts::visible;
 use crate::notices::{Format, Span, add_member, members_of};
 use requirement_findings::Listed;
 use requirement_lines::{Mark, Piece, cut_line, text_of};
-use serde_json::{Value, json};
+use serde_json::{Map, Value, json};
 use std::alloc::{AllocError, Global};
 
 /// Where a requirement is.
@@ -26,6 +26,29 @@ fn list_of(alloc: Global, texts: &[String]) -> Result<Value, AllocError> {
     Ok(Value::Array(values))
 }
 
+// Adds the lists and the flags of a requirement to its JSON object.
+fn add_rest(
+    alloc: Global,
+    members: &mut Map<String, Value>,
+    listed: &Listed,
+) -> Result<(), AllocError> {
+    let lists = [
+        ("extras", listed.extras.as_slice()),
+        ("specifiers", listed.specifiers.as_slice()),
+        ("hashes", listed.hashes.as_slice()),
+    ];
+    for (name, list) in lists {
+        add_member(alloc, members, name, list_of(alloc, list)?)?;
+    }
+    for (name, flag) in [
+        ("editable", listed.is_editable),
+        ("constraint", listed.is_constraint),
+    ] {
+        add_member(alloc, members, name, Value::Bool(flag))?;
+    }
+    Ok(())
+}
+
 // The JSON object of a requirement.
 fn object_of(alloc: Global, place: &ListedPlace<'_>, listed: &Listed) -> Result<Value, AllocError> {
     let texts = [
@@ -40,20 +63,7 @@ fn object_of(alloc: Global, place: &ListedPlace<'_>, listed: &Listed) -> Result<
     let position = place.span.position;
     let numbers = [("line", position.line), ("column", position.column)];
     let mut members = members_of(alloc, &texts, &numbers)?;
-    let lists = [
-        ("extras", listed.extras.as_slice()),
-        ("specifiers", listed.specifiers.as_slice()),
-        ("hashes", listed.hashes.as_slice()),
-    ];
-    for (name, list) in lists {
-        add_member(alloc, &mut members, name, list_of(alloc, list)?)?;
-    }
-    for (name, flag) in [
-        ("editable", listed.is_editable),
-        ("constraint", listed.is_constraint),
-    ] {
-        add_member(alloc, &mut members, name, Value::Bool(flag))?;
-    }
+    add_rest(alloc, &mut members, listed)?;
     Ok(Value::Object(members))
 }
 

@@ -6,11 +6,11 @@ use requirement_lines::{Piece, Place, Position, Positions, Source, place_at, tex
 use std::alloc::{AllocError, Global};
 
 /// A part of a line, with its finding. The mark of an include has none.
-#[derive(Drop)]
-pub struct Mark {
+#[derive(Clone, Copy)]
+pub struct Mark<'f> {
     start: Place,
     end: Place,
-    pub finding: Option<Finding>,
+    pub finding: Option<&'f Finding>,
     /// Where it is in the file.
     pub span: Span,
 }
@@ -48,9 +48,9 @@ fn line_end(alloc: Global, line: &[Piece<'_>]) -> Result<Place, AllocError> {
     })
 }
 
-impl Mark {
+impl<'f> Mark<'f> {
     // A mark whose span is still to be found.
-    fn new(start: Place, end: Place, finding: Option<Finding>) -> Mark {
+    fn new(start: Place, end: Place, finding: Option<&'f Finding>) -> Mark<'f> {
         Mark {
             start,
             end,
@@ -71,13 +71,13 @@ impl Mark {
 }
 
 /// Returns the marks of a line, in the order of their places: its findings, and its include.
-pub fn marks_of(
+pub fn marks_of<'f>(
     alloc: Global,
     text: &str,
-    findings: Vec<Finding>,
+    findings: &'f [Finding],
     included: Option<&[Piece<'_>]>,
     positions: &mut Positions<'_>,
-) -> Result<Vec<Mark>, AllocError> {
+) -> Result<Vec<Mark<'f>>, AllocError> {
     let mut marks = Vec::new(alloc);
     for finding in findings {
         marks.push(Mark::new(finding.start, finding.end, Some(finding)))?;

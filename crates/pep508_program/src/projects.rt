@@ -1,6 +1,6 @@
 //! The entries of a project as they are reported.
 
-use project_files::{Content, ProjectEntry, Section};
+use project_files::{Content, ProjectEntry, ProjectFile, Section};
 use project_findings::{CheckedProject, EntryPlace, fault_finding, place_findings};
 use requirement_findings::{CheckedText, Finding, Listed};
 use std::alloc::{AllocError, Global};
@@ -61,6 +61,42 @@ fn add_finding(
     Ok(())
 }
 
+// The reports of the entries, in their order, without their faults.
+fn checked_reports(
+    alloc: Global,
+    text: &str,
+    entries: &[ProjectEntry],
+    places: &[EntryPlace],
+    checked: Vec<CheckedText>,
+) -> Result<Vec<EntryReport>, AllocError> {
+    let mut reports = Vec::new(alloc);
+    for text_checked in checked {
+        let number = reports.len();
+        if let (Some(entry), Some(place)) = (entries.get(number), places.get(number)) {
+            reports.push(report_of(alloc, text, entry, *place, text_checked)?)?;
+        }
+    }
+    Ok(reports)
+}
+
+// Adds the faults of the entries to their reports.
+fn add_faults(
+    alloc: Global,
+    text: &str,
+    file: &ProjectFile,
+    places: &[EntryPlace],
+    reports: &mut [EntryReport],
+) -> Result<(), AllocError> {
+    for fault in file.faults.iter() {
+        let number = fault.entry;
+        if let (Some(entry), Some(place)) = (file.entries.get(number), places.get(number)) {
+            let finding = fault_finding(alloc, text, entry, *place, fault.kind)?;
+            add_finding(reports, number, finding)?;
+        }
+    }
+    Ok(())
+}
+
 // The reports of the entries of a project, in their order.
 pub(crate) fn reports_of(
     alloc: Global,
@@ -72,20 +108,9 @@ pub(crate) fn reports_of(
         places,
         checked,
     } = project;
-    let mut reports = Vec::new(alloc);
-    for text_checked in checked {
-        let number = reports.len();
-        if let (Some(entry), Some(place)) = (file.entries.get(number), places.get(number)) {
-            reports.push(report_of(alloc, text, entry, *place, text_checked)?)?;
-        }
-    }
-    for fault in file.faults.iter() {
-        let number = fault.entry;
-        if let (Some(entry), Some(place)) = (file.entries.get(number), places.get(number)) {
-            let finding = fault_finding(alloc, text, entry, *place, fault.kind)?;
-            add_finding(reports.as_mut_slice(), number, finding)?;
-        }
-    }
+    let places = places.as_slice();
+    let mut reports = checked_reports(alloc, text, file.entries.as_slice(), places, checked)?;
+    add_faults(alloc, text, &file, places, reports.as_mut_slice())?;
     Ok(reports)
 }
 

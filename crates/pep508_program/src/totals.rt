@@ -3,6 +3,8 @@
 ghost use Rattle.std.specs.Prelude.{◌≡◌, ◌<◌, ◌↔◌, ◌≤◌};
 ghost use Rattle.pep508_program.specs.Status.{HasFailed, HasFindings, IsFinished};
 
+use std::alloc::{AllocError, Global};
+
 /// How much was reported.
 #[derive(Clone, Copy)]
 pub struct Tally {
@@ -43,6 +45,32 @@ impl Tally {
         warnings: 0,
         failures: 0,
     };
+
+    // The counts for people, with how many requirements and files were read.
+    pub(crate) fn summary(
+        self,
+        alloc: Global,
+        requirements: u64,
+        files: u64,
+    ) -> Result<String, AllocError> {
+        let Tally {
+            errors,
+            warnings,
+            ..
+        } = self;
+        format!(in alloc;
+            "{errors} error{}, {warnings} warning{} in {requirements} requirement{} of {files} \
+file{}\n",
+            plural(errors),
+            plural(warnings),
+            plural(requirements),
+            plural(files)
+        )
+    }
+}
+
+fn plural(count: u64) -> &'static str {
+    if count == 1 { "" } else { "s" }
 }
 
 /// Returns the status of a command with these counts and this ending.

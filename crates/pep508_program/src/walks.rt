@@ -137,7 +137,7 @@ fn has_requirement(line: &FileLine<'_>) -> bool {
 fn include_of(
     alloc: Global,
     line: &FileLine<'_>,
-    marks: &[Mark],
+    marks: &[Mark<'_>],
 ) -> Result<Option<Include>, AllocError> {
     let Some(path) = included_path(line) else {
         return Ok(None);
@@ -160,10 +160,6 @@ fn error_at<'a>(name: &'a str, message: &'a str, span: Span) -> Notice<'a> {
         message,
         span,
     }
-}
-
-fn plural(count: u64) -> &'static str {
-    if count == 1 { "" } else { "s" }
 }
 
 impl<'s, H: Host, C: CheckLines> Walk<'s, H, C> {
@@ -240,14 +236,14 @@ impl<'s, H: Host, C: CheckLines> Walk<'s, H, C> {
     fn report_marks(
         &mut self,
         page: &Page<'_>,
-        marks: &[Mark],
+        marks: &[Mark<'_>],
         hints: bool,
         key: Option<&str>,
     ) -> Result<(), AllocError>
         ensures { Grows self.old.report.tally self.new.report.tally }
     {
         for mark in marks {
-            if let Some(finding) = &mark.finding {
+            if let Some(finding) = mark.finding {
                 if is_hint(finding) == hints {
                     self.report_finding(page, finding, mark.span, key)?;
                 }
@@ -365,7 +361,7 @@ impl<'s, H: Host, C: CheckLines> Walk<'s, H, C> {
         line: &[Piece<'_>],
         span: Span,
         key: Option<&str>,
-        marks: &[Mark],
+        marks: &[Mark<'_>],
         listed: Option<&Listed>,
     ) -> Result<(), AllocError>
         ensures { Grows self.old.report.tally self.new.report.tally }
@@ -375,53 +371,25 @@ impl<'s, H: Host, C: CheckLines> Walk<'s, H, C> {
         self.list_line(sheet, line, span, key, listed)
     }
 
-    // Reports the findings of a line, and lists its requirement. Returns the file that the line
-    // includes.
-    fn report_content(
-        &mut self,
-        sheet: &Sheet,
-        line: &[Piece<'_>],
-        span: Span,
-        content: &FileLine<'_>,
-        marks: &[Mark],
-        listed: Option<&Listed>,
-    ) -> Result<Option<Include>, AllocError>
-        ensures { Grows self.old.report.tally self.new.report.tally }
-    {
-        self.report_marked(sheet, line, span, None, marks, listed)?;
-        include_of(self.alloc, content, marks)
-    }
-
-    // Counts the requirement of a line that was checked, and reports what was found.
+    // Reports the findings of a line that was checked, and lists its requirement. Returns the file
+    // that the line includes.
     fn report_line(
         &mut self,
         reading: &mut Reading<'_>,
         line: &[Piece<'_>],
         span: Span,
-        checked: CheckedLine<'_>,
+        checked: &CheckedLine<'_>,
     ) -> Result<Option<Include>, AllocError>
         ensures { Grows self.old.report.tally self.new.report.tally }
     {
-        let CheckedLine {
-            line: content,
-            findings,
-            listed,
-        } = checked;
-        if has_requirement(&content) {
-            self.requirements = self.requirements.saturating_add(1);
-        }
         let sheet = reading.sheet;
-        let path = included_path(&content);
+        let findings = checked.findings.as_slice();
+        let path = included_path(&checked.line);
         let positions = &mut reading.positions;
         let marks = marks_of(self.alloc, sheet.text(), findings, path, positions)?;
-        self.report_content(
-            sheet,
-            line,
-            span,
-            &content,
-            marks.as_slice(),
-            listed.as_ref(),
-        )
+        let listed = checked.listed.as_ref();
+        self.report_marked(sheet, line, span, None, marks.as_slice(), listed)?;
+        include_of(self.alloc, &checked.line, marks.as_slice())
     }
 
     // Checks a line, whose variables are replaced, and reports the findings.
@@ -434,6 +402,10 @@ impl<'s, H: Host, C: CheckLines> Walk<'s, H, C> {
     ) -> Result<Option<Include>, AllocError>
         ensures { Grows self.old.report.tally self.new.report.tally }
     {
+        self.spots.push(Spot {
+            file: reading.file,
+            line: span.position.line,
+        })?;
         let sheet = reading.sheet;
         let replaced = replace_variables(self.alloc, line, variables)?;
         let checked = self.checker.check_line(
@@ -442,12 +414,10 @@ impl<'s, H: Host, C: CheckLines> Walk<'s, H, C> {
             replaced.as_slice(),
             sheet.is_constraint,
         )?;
-        let spot = Spot {
-            file: reading.file,
-            line: span.position.line,
-        };
-        self.spots.push(spot)?;
-        self.report_line(reading, line, span, checked)
+        if has_requirement(&checked.line) {
+            self.requirements = self.requirements.saturating_add(1);
+        }
+        self.report_line(reading, line, span, &checked)
     }
 
     // Processes a line: from the rest of the file before it to the rest after it.
@@ -673,19 +643,19 @@ impl<'s, H: Host, C: CheckLines> Walk<'s, H, C> {
                 let kind = self.request.kind.unwrap_or(FileKind::Requirements);
                 self.walk_sheet(&sheet, kind, variables)
             }
-            Err(error) => self.report_unread("<stdin>", error),
+            Err(error) => self.report_unread("<stdin>", &error),
         }
     }
 
     // Reports a file of the command line that cannot be read.
-    fn report_unread(&mut self, path: &str, error: io::Error) -> Result<(), Failure>
+    fn report_unread(&mut self, path: &str, error: &io::Error) -> Result<(), Failure>
         ensures { Grows self.old.report.tally self.new.report.tally }
     {
         if error.kind() == io::ErrorKind::OutOfMemory {
             return Err(Failure::OutOfMemory);
         }
         let shown = visible(self.alloc, path)?;
-        self.report.unread(self.alloc, shown.as_str(), &error)?;
+        self.report.unread(self.alloc, shown.as_str(), error)?;
         self.flush()
     }
 
@@ -705,7 +675,7 @@ impl<'s, H: Host, C: CheckLines> Walk<'s, H, C> {
                 self.flush()
             }
             Opening::Cycle | Opening::Known => Ok(()),
-            Opening::Unreadable(error) => self.report_unread(path, error),
+            Opening::Unreadable(error) => self.report_unread(path, &error),
         }
     }
 
@@ -745,20 +715,12 @@ impl<'s, H: Host, C: CheckLines> Walk<'s, H, C> {
     fn summarize(&mut self) -> Result<(), AllocError>
         ensures { Grows self.old.report.tally self.new.report.tally }
     {
-        let tally = self.report.tally;
         let files = u64::try_from(self.names.len()).unwrap_or(u64::MAX);
-        let count = self.requirements;
-        let mut text = String::new(self.alloc);
-        write!(text, "{} error{}, ", tally.errors, plural(tally.errors))?;
-        write!(
-            text,
-            "{} warning{} in ",
-            tally.warnings,
-            plural(tally.warnings)
-        )?;
-        write!(text, "{count} requirement{} of ", plural(count))?;
-        writeln!(text, "{files} file{}", plural(files))?;
-        self.report.tell(text.as_str())
+        let summary = self
+            .report
+            .tally
+            .summary(self.alloc, self.requirements, files)?;
+        self.report.tell(summary.as_str())
     }
 
     /// Reports the findings of a file that was read, and of the files that it includes.

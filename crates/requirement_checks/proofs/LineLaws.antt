@@ -47,16 +47,30 @@ adds_weaker P Q faults weaker a = record {
   added = a.added;
 }
 
--- what the readers find, what is wrong with the options, and hints
-pub adds_all : (Own : List FindingName → Type 0) (own : List FindingName) (faults : List OptionFault) (old judged faulty new : List Finding)
-    → Own own → AddsNames own old judged → AddsNames (fault_names faults) judged faulty → AddsHints faulty new → Adds Own faults old new
-adds_all Own own faults old judged faulty new is_own a b c = record {
-  own = own;
+-- what is wrong with the options, and hints
+pub adds_others : (faults : List OptionFault) (judged faulty new : List Finding)
+    → AddsNames (fault_names faults) judged faulty → AddsHints faulty new → Adds (λ own. own ≡ []) faults judged new
+adds_others faults judged faulty new b c = record {
+  own = [];
   hints = c.hints;
-  judged = is_own;
+  judged = refl;
   hinted = c.hinted;
-  added = names_more own (fault_names faults ++ c.hints) old judged new a (names_more (fault_names faults) c.hints judged faulty new b c.added);
+  added = names_more (fault_names faults) c.hints judged faulty new b c.added;
 }
+
+-- what the readers find comes before what is wrong with the options, and hints
+pub adds_all : (Own : List FindingName → Type 0) (own : List FindingName) (faults : List OptionFault) (old judged new : List Finding)
+    → Own own → AddsNames own old judged → Adds (λ own. own ≡ []) faults judged new → Adds Own faults old new
+adds_all Own own faults old judged new is_own a b =
+    let others : AddsNames (fault_names faults ++ b.hints) judged new =
+    subst (λ (x : List FindingName). AddsNames (x ++ (fault_names faults ++ b.hints)) judged new) b.judged b.added in
+    record {
+      own = own;
+      hints = b.hints;
+      judged = is_own;
+      hinted = b.hinted;
+      added = names_more own (fault_names faults ++ b.hints) old judged new a others;
+    }
 
 -- what is found in surroundings that start from the folder
 pub adds_from : {old new : List Finding} (folder : List ℕ) (surroundings : Surroundings) (form : Form) (text : List ℕ) (faults : List OptionFault)

@@ -87,6 +87,10 @@ pub record AddsHints (old new : List Finding) : Type 0 where
   pub hinted : All IsHint hints
   pub added : AddsNames hints old new
 
+-- the faults of the options of a line are added, and then hints
+abbrev pub AddsOthers : Job → Vec Finding Global → Vec Finding Global → Type 0
+AddsOthers job old new = Adds (λ own. own ≡ []) job.line.now.faults.items old.items new.items
+
 -- the findings of the requirement of a line are added, in these surroundings
 abbrev pub AddsIn : Surroundings → Job → Vec Finding Global → Vec Finding Global → Type 0
 AddsIn surroundings job old new = Adds (IsJudgedIn surroundings job.form job.text.now)

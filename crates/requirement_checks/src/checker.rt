@@ -4,7 +4,7 @@ ghost use Rattle.std.specs.Prelude.{◌≡◌, IfSome, OnOk};
 ghost use Rattle.requirement_checks.specs.Findings.{names_of, HoldsMarker};
 ghost use Rattle.requirement_lines.specs.Reports.{text_of};
 ghost use Rattle.requirement_checks.specs.Lines as spec;
-ghost use Rattle.requirement_checks.specs.Lines.{requirement_in, AddsFrom, AddsHints, AddsIn, AddsLine, IsChecked, IsCheckedText};
+ghost use Rattle.requirement_checks.specs.Lines.{requirement_in, AddsFrom, AddsHints, AddsIn, AddsLine, AddsOthers, IsChecked, IsCheckedText};
 ghost use Rattle.requirement_checks.specs.Specifiers.{FindsInSpecifiers};
 ghost use Rattle.requirement_options.specs.Content.{said_in};
 
@@ -108,6 +108,24 @@ fn finish(
     Ok(listed)
 }
 
+// Appends what comes behind the errors of a requirement: the faults of its options, and hints if it
+// was read. Lists it then.
+fn add_others(
+    alloc: Global,
+    job: Job<'_, '_, '_>,
+    read: &Option<Reading<VerbatimUrl>>,
+    surroundings: &Surroundings<'_>,
+    interner: &Interner,
+    earlier: &mut Earlier,
+    findings: &mut Vec<Finding>,
+) -> Result<Option<Listed>, AllocError>
+    requires { IfSome read.now (HoldsMarker interner.now) }
+    ensures { OnOk result (AddsOthers job.entry findings.old findings.new) }
+{
+    add_faults(alloc, job.page.file, job.line.faults.as_slice(), findings)?;
+    finish(alloc, job, read, surroundings, interner, earlier, findings)
+}
+
 // Checks a requirement, whose marker is put into the interner.
 fn check_within(
     alloc: Global,
@@ -127,9 +145,7 @@ fn check_within(
         interner,
         findings,
     )?;
-    add_faults(alloc, job.page.file, job.line.faults.as_slice(), findings)?;
-    let listed = finish(alloc, job, &read, surroundings, interner, earlier, findings)?;
-    Ok(listed)
+    add_others(alloc, job, &read, surroundings, interner, earlier, findings)
 }
 
 // An interner with more pieces is not kept for the next requirement.
@@ -199,9 +215,9 @@ impl<'s> Checker<'s> {
         let mut interner = self.take_interner(alloc);
         let mark = interner.mark();
         let earlier = &mut self.earlier;
-        let listed = check_within(alloc, job, &surroundings, &mut interner, earlier, findings)?;
+        let listed = check_within(alloc, job, &surroundings, &mut interner, earlier, findings);
         self.put_back(interner, mark);
-        Ok(listed)
+        listed
     }
 
     // Checks the content of a line.

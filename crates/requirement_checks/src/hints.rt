@@ -5,10 +5,12 @@ ghost use Rattle.requirement_checks.specs.Findings.{HasName};
 ghost use Rattle.requirement_checks.specs.Lines.{AddsHints, IsHint};
 ghost use Rattle.requirement_findings.specs.declared.name.FindingName.TheVariants.{RepeatedRequirement};
 
-use crate::messages::fixed_at;
+use crate::messages::{fixed_at, hint_message};
 use crate::part::Page;
 use crate::reading::Reading;
 use crate::repeated::{Earlier, Repeat};
+use crate::texts::{ExtraRequest, TextHint, extra_requests, text_hints};
+use crate::url_and_marker::{marker_start, url_of};
 use marker_graph::MarkerTree;
 use pep508_errors::Surroundings;
 use pep508_names::ExtraName;
@@ -16,9 +18,6 @@ use pep508_requirements::VersionOrUrl;
 use pep508_urls::VerbatimUrl;
 use refusal::unless_fault;
 use requirement_findings::{Finding, FindingName, Origin, Severity};
-use requirement_hints::{
-    ExtraRequest, TextHint, extra_requests, hint_message, marker_start, text_hints, url_of,
-};
 use std::alloc::{AllocError, Global};
 use std::collections::BTreeSet;
 

@@ -1,6 +1,6 @@
 //! Checking the requirement of a line by the library's parsers.
 
-ghost use Rattle.std.specs.Prelude.{IfOk, IfSome};
+ghost use Rattle.std.specs.Prelude.{IfOk, IfSome, OnOk};
 ghost use Rattle.requirement_checks.specs.Findings.{names_told, Gains, HoldsMarker};
 ghost use Rattle.requirement_checks.specs.Reading.{ReadsWithin};
 
@@ -11,7 +11,7 @@ use marker_graph::Interner;
 use pep508_errors::Surroundings;
 use pep508_urls::UnnamedRequirementUrl;
 use requirement_findings::Finding;
-use std::alloc::AllocError;
+use std::alloc::{AllocError, Global};
 
 // Parses the text. `None` if the interner has no room for its marker.
 fn read_within<T: UnnamedRequirementUrl>(
@@ -36,6 +36,23 @@ fn read_within<T: UnnamedRequirementUrl>(
     }
 }
 
+// Appends what is found in a parsed requirement: that its marker is too complex, if the interner
+// had no room for it.
+fn add_told<T: UnnamedRequirementUrl>(
+    alloc: Global,
+    page: &Page<'_, '_>,
+    text: &str,
+    read: &Option<Reading<T>>,
+    findings: &mut Vec<Finding>,
+) -> Result<(), AllocError>
+    ensures { OnOk result (Gains (names_told read.now) findings.old findings.new) }
+{
+    match read {
+        Some(reading) => add_findings(alloc, page, reading, findings),
+        None => add_too_complex(alloc, page.marker(text), findings),
+    }
+}
+
 // Checks the text of a requirement by the library's parsers, and appends the findings: each warning
 // of its marker, or its error. `None` if the interner has no room for the marker, which is then the
 // finding.
@@ -53,14 +70,7 @@ pub(crate) fn judge<T: UnnamedRequirementUrl>(
     ensures told { IfOk result (λ read. Gains (names_told read) findings.old findings.new) }
 {
     let alloc = interner.allocator();
-    match read_within(text, form, surroundings, interner)? {
-        Some(reading) => {
-            add_findings(alloc, page, &reading, findings)?;
-            Ok(Some(reading))
-        }
-        None => {
-            add_too_complex(alloc, page.marker(text), findings)?;
-            Ok(None)
-        }
-    }
+    let read = read_within(text, form, surroundings, interner)?;
+    add_told(alloc, page, text, &read, findings)?;
+    Ok(read)
 }

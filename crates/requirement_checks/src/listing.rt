@@ -6,6 +6,7 @@ ghost use Rattle.requirement_checks.specs.Findings.{HoldsMarker};
 use crate::part::Page;
 use crate::reading::Reading;
 use crate::secrets::without_passwords;
+use crate::url_and_marker::{marker_start, url_of};
 use marker_graph::{Interner, MarkerTree};
 use pep440_specifier::VersionSpecifiers;
 use pep508_markers::MarkerText;
@@ -13,7 +14,6 @@ use pep508_names::ExtraName;
 use pep508_requirements::{Requirement, UnnamedRequirement, VersionOrUrl};
 use pep508_urls::VerbatimUrl;
 use requirement_findings::Listed;
-use requirement_hints::{marker_start, url_of};
 use requirement_lines::{Piece, Source, text_of};
 use requirement_options::{Content, FileLine, LineOption, OptionKind};
 use std::alloc::{AllocError, Global};
@@ -301,6 +301,26 @@ fn list_unnamed(
     Ok(())
 }
 
+// Lists what was read of a requirement. Returns whether there is something to list: an invalid one
+// has nothing.
+fn list_reading(
+    alloc: Global,
+    view: &View<'_, '_, '_>,
+    text: &str,
+    reading: &Reading<VerbatimUrl>,
+    interner: &Interner,
+    listed: &mut Listed,
+) -> Result<bool, AllocError>
+    requires { HoldsMarker interner.now reading.now }
+{
+    match reading {
+        Reading::Named(named, _) => list_named(alloc, view, text, named, interner, listed)?,
+        Reading::Unnamed(unnamed, _) => list_unnamed(alloc, view, text, unnamed, interner, listed)?,
+        Reading::Invalid(_) | Reading::NumberTooLarge => return Ok(false),
+    }
+    Ok(true)
+}
+
 // The list entry of a requirement; `None` for an invalid one.
 pub(crate) fn listed_of(
     alloc: Global,
@@ -316,14 +336,6 @@ pub(crate) fn listed_of(
     let text = text_of(alloc, page.pieces)?;
     let mut listed = rest_of(alloc, page.file, line, is_constraint, shows_values)?;
     let view = View { page, shows_values };
-    match reading {
-        Reading::Named(named, _) => {
-            list_named(alloc, &view, text.as_str(), named, interner, &mut listed)?;
-        }
-        Reading::Unnamed(unnamed, _) => {
-            list_unnamed(alloc, &view, text.as_str(), unnamed, interner, &mut listed)?;
-        }
-        Reading::Invalid(_) | Reading::NumberTooLarge => return Ok(None),
-    }
-    Ok(Some(listed))
+    let is_listed = list_reading(alloc, &view, text.as_str(), reading, interner, &mut listed)?;
+    Ok(is_listed.then_some(listed))
 }

@@ -1,7 +1,7 @@
 //! Parts of the requirement of a line, and where they are in the file.
 
 use crate::secrets::{from_byte, up_to_byte};
-use requirement_hints::{marker_start, may_have_url};
+use crate::url_and_marker::{marker_start, may_have_url};
 use requirement_lines::{Piece, Place, Source, place_at};
 
 // The requirement of a line of a file.

@@ -135,6 +135,13 @@ impl Member {
     }
 }
 
+// The set of this marker alone.
+fn only(alloc: Global, marker: MarkerTree) -> Result<IndexSet<MarkerTree>, AllocError> {
+    let mut markers = IndexSet::new(alloc);
+    markers.insert(marker)?;
+    Ok(markers)
+}
+
 impl Members {
     fn new(alloc: Global) -> Members {
         Members {
@@ -176,9 +183,8 @@ impl Members {
             markers.insert(new.marker)?;
             return Ok(());
         }
-        let mut markers = IndexSet::new(alloc);
-        markers.insert(new.marker)?;
-        self.markers.insert(new.text.clone()?, markers)?;
+        let text = new.text.clone()?;
+        self.markers.insert(text, only(alloc, new.marker)?)?;
         Ok(())
     }
 
@@ -206,24 +212,47 @@ impl Members {
     }
 }
 
-// The requirements of a name, each read, if the interner has room for their markers.
-fn members_of(
-    alloc: Global,
-    interner: &mut Interner,
-    surroundings: &Surroundings<'_>,
-    looks: usize,
-    group: Group,
-) -> Result<Option<Members>, AllocError> {
-    match group {
-        Group::Several(members) => Ok(Some(members)),
-        Group::One(number, text) => {
-            let Some(one) = member_of(interner, surroundings, number, text.as_str())? else {
-                return Ok(None);
-            };
-            let mut members = Members::new(alloc);
-            members.keep(alloc, interner, looks, one)?;
-            Ok(Some(members))
+impl Group {
+    // Reads the first requirement, if it was not needed before and the interner has room for its
+    // marker.
+    fn read_first(
+        &mut self,
+        alloc: Global,
+        interner: &mut Interner,
+        surroundings: &Surroundings<'_>,
+        looks: usize,
+    ) -> Result<(), AllocError> {
+        if let Group::One(number, text) = self {
+            if let Some(one) = member_of(interner, surroundings, *number, text.as_str())? {
+                let mut members = Members::new(alloc);
+                members.keep(alloc, interner, looks, one)?;
+                *self = Group::Several(members);
+            }
         }
+        Ok(())
+    }
+
+    // Adds a further requirement. Tells whether it may hold together with one of the others: never,
+    // if there is no room for the markers.
+    fn join(
+        &mut self,
+        alloc: Global,
+        interner: &mut Interner,
+        surroundings: &Surroundings<'_>,
+        looks: usize,
+        number: usize,
+        text: &str,
+    ) -> Result<Option<Repeat>, AllocError> {
+        self.read_first(alloc, interner, surroundings, looks)?;
+        let Group::Several(members) = self else {
+            return Ok(None);
+        };
+        let Some(new) = member_of(interner, surroundings, number, text)? else {
+            return Ok(None);
+        };
+        let repeat = members.repeat_of(interner, looks, &new);
+        members.keep(alloc, interner, looks, new)?;
+        Ok(repeat)
     }
 }
 
@@ -250,41 +279,13 @@ impl Earlier {
         if self.interner.has_met_room() {
             return Ok(None);
         }
-        let key = String::from_str(alloc, name)?;
-        let Some(group) = self.groups.remove(name) else {
-            let one = Group::One(number, String::from_str(alloc, text)?);
-            self.groups.insert(key, one)?;
-            return Ok(None);
-        };
-        match self.join(alloc, surroundings, group, number, text)? {
-            Some((members, repeat)) => {
-                self.groups.insert(key, Group::Several(members))?;
-                Ok(repeat)
-            }
-            None => Ok(None),
+        if let Some(group) = self.groups.get_mut(name) {
+            let interner = &mut self.interner;
+            return group.join(alloc, interner, surroundings, self.looks, number, text);
         }
-    }
-
-    // The requirements of a name and a further one, and whether that may hold together with one of
-    // the others. `None` if there is no room for the markers.
-    fn join(
-        &mut self,
-        alloc: Global,
-        surroundings: &Surroundings<'_>,
-        group: Group,
-        number: usize,
-        text: &str,
-    ) -> Result<Option<(Members, Option<Repeat>)>, AllocError> {
-        let looks = self.looks;
-        let interner = &mut self.interner;
-        let Some(mut members) = members_of(alloc, interner, surroundings, looks, group)? else {
-            return Ok(None);
-        };
-        let Some(new) = member_of(interner, surroundings, number, text)? else {
-            return Ok(None);
-        };
-        let repeat = members.repeat_of(interner, looks, &new);
-        members.keep(alloc, interner, looks, new)?;
-        Ok(Some((members, repeat)))
+        let key = String::from_str(alloc, name)?;
+        let text = String::from_str(alloc, text)?;
+        self.groups.insert(key, Group::One(number, text))?;
+        Ok(None)
     }
 }

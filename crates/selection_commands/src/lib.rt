@@ -21,7 +21,6 @@ mod written;
 
 pub use crate::arguments::{
     MatrixWords, SelectWords, SelectionCommand, TableFormat, selection_command,
-    with_selection_commands,
 };
 pub use crate::columns::{Column, columns_of};
 pub use crate::keys::open_keys;

@@ -7,8 +7,7 @@ ghost use Rattle.selection_commands.specs.Markers.{requirement_of};
 
 use marker_walks::EnvironmentKey;
 use pep508_program::visible;
-use requirement_checks::{Finding, FindingName};
-use requirement_hints::{marker_start, may_have_url};
+use requirement_checks::{Finding, FindingName, marker_start, may_have_url};
 use requirement_lines::{Piece, Place, Source, place_at, text_of};
 use requirement_options::{Content, FileLine};
 use std::alloc::{AllocError, Global};

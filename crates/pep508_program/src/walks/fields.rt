@@ -10,7 +10,7 @@ use crate::notices::Span;
 use crate::sheets::Sheet;
 use metadata_files::{Field, FieldKind};
 use requirement_findings::{
-    CheckLines, CheckedField, CheckedText, Finding, Listed, check_metadata,
+    CheckLines, CheckedField, CheckedMetadata, CheckedText, Finding, Listed, check_metadata,
 };
 use requirement_lines::Piece;
 use std::alloc::AllocError;
@@ -23,7 +23,7 @@ impl<H: Host, C: CheckLines> Walk<'_, H, C> {
         reading: &mut Reading<'_>,
         part: Piece<'_>,
         key: Option<&str>,
-        findings: Vec<Finding>,
+        findings: &[Finding],
         listed: Option<&Listed>,
     ) -> Result<(), AllocError>
         ensures { Grows self.old.report.tally self.new.report.tally }
@@ -45,7 +45,7 @@ impl<H: Host, C: CheckLines> Walk<'_, H, C> {
         &mut self,
         reading: &mut Reading<'_>,
         field: &Field<'_>,
-        checked: CheckedText,
+        checked: &CheckedText,
     ) -> Result<(), AllocError>
         ensures { Grows self.old.report.tally self.new.report.tally }
     {
@@ -55,8 +55,14 @@ impl<H: Host, C: CheckLines> Walk<'_, H, C> {
         if field.kind == FieldKind::RequiresDist {
             self.requirements = self.requirements.saturating_add(1);
         }
-        let CheckedText { findings, listed } = checked;
-        self.report_part(reading, field.value, None, findings, listed.as_ref())
+        let findings = checked.findings.as_slice();
+        self.report_part(
+            reading,
+            field.value,
+            None,
+            findings,
+            checked.listed.as_ref(),
+        )
     }
 
     // Processes a field of metadata, and the bytes before it from one on. Returns the byte after
@@ -65,17 +71,17 @@ impl<H: Host, C: CheckLines> Walk<'_, H, C> {
         &mut self,
         reading: &mut Reading<'_>,
         from: usize,
-        checked: CheckedField<'_>,
+        checked: &CheckedField<'_>,
     ) -> Result<usize, Failure>
         ensures { Grows self.old.report.tally self.new.report.tally }
     {
-        let CheckedField { field, checked } = checked;
+        let field = &checked.field;
         let sheet = reading.sheet;
         let value = field.value;
         let start = offset_of(sheet, field.name.place.to_end);
         let end = offset_of(sheet, value.place.to_end).saturating_add(value.text.len());
         self.report_invalid(reading, from, start)?;
-        self.report_field(reading, &field, checked)?;
+        self.report_field(reading, field, &checked.checked)?;
         self.report_invalid(reading, start, end)?;
         self.progress.step(self.alloc, self.host)?;
         if self.report.is_full() {
@@ -92,9 +98,8 @@ impl<H: Host, C: CheckLines> Walk<'_, H, C> {
     ) -> Result<(), AllocError>
         ensures { Grows self.old.report.tally self.new.report.tally }
     {
-        let findings = vec![in self.alloc; finding]?;
         let whole = Piece::whole(reading.sheet.text());
-        self.report_part(reading, whole, None, findings, None)
+        self.report_part(reading, whole, None, &[finding], None)
     }
 
     // Reads a file of metadata.
@@ -103,11 +108,12 @@ impl<H: Host, C: CheckLines> Walk<'_, H, C> {
     {
         let mut reading = self.begin(sheet)?;
         let checked = check_metadata(self.alloc, sheet.text(), self.checker)?;
+        let CheckedMetadata { fields, stray } = checked;
         let mut from = 0;
-        for field in checked.fields {
+        for field in fields.iter() {
             from = self.take_field(&mut reading, from, field)?;
         }
-        if let Some(finding) = checked.stray {
+        if let Some(finding) = stray {
             self.report_stray(&mut reading, finding)?;
         }
         self.report_invalid(&mut reading, from, sheet.text().len())?;

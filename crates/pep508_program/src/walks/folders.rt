@@ -22,7 +22,7 @@ fn path_in(alloc: Global, folder: &str, name: &str) -> Result<String, AllocError
 fn take_entry(
     alloc: Global,
     folder: &str,
-    entry: FolderEntry,
+    entry: &FolderEntry,
     pending: &mut Vec<String>,
     found: &mut Vec<String>,
 ) -> Result<(), AllocError> {
@@ -47,9 +47,9 @@ impl<H: Host, C: CheckLines> Walk<'_, H, C> {
     {
         let entries = match self.host.entries(self.alloc, folder) {
             Ok(entries) => entries,
-            Err(error) => return self.report_unread(folder, error),
+            Err(error) => return self.report_unread(folder, &error),
         };
-        for entry in entries {
+        for entry in entries.iter() {
             match entry {
                 Ok(entry) => take_entry(self.alloc, folder, entry, pending, found)?,
                 Err(error) => self.report_unread(folder, error)?,

@@ -91,7 +91,8 @@ impl<H: Host, C: CheckLines> Walk<'_, H, C> {
                 }
                 let place = piece_at(reading.sheet, report.start);
                 let key = Some(report.key.as_str());
-                self.report_part(reading, place, key, findings, report.listed.as_ref())?;
+                let listed = report.listed.as_ref();
+                self.report_part(reading, place, key, findings.as_slice(), listed)?;
                 self.progress.step(self.alloc, self.host)?;
                 if self.report.is_full() {
                     self.flush()?;

@@ -4,7 +4,7 @@ use crate::comparisons::{
     Found, after_keyword, first_comparison, has_commas, has_three_numbers, is_version_as_text,
     requested_extra,
 };
-use crate::parts::{marker_of, url_of};
+use crate::url_and_marker::{marker_of, url_of};
 use marker_words::MarkerValueRef;
 use requirement_findings::FindingName;
 use std::alloc::{AllocError, Global};
