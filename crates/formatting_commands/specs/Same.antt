@@ -71,7 +71,7 @@ pub record IsSameText (surroundings : Surroundings) (old new : List ℕ) : Type 
 abbrev pub IsSameString : {A : Type 0} → Surroundings → List ℕ → String A → Type 0
 IsSameString surroundings old new = IsSameText surroundings old (string_bytes new)
 
--- if this is told, each text that parses as the requirement and the new text parse as the same
+-- if it is told so, the new text parses as the same as each text that parses as the requirement
 abbrev pub TellsSame : Surroundings → Contents → Requirement Verbatim VerbatimUrlError → List ℕ
     → Bool → Type 0
 TellsSame surroundings c r new told = told ≡ true

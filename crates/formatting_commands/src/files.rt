@@ -129,7 +129,7 @@ fn deliver<H: Host, O: Outputs>(
     }
 }
 
-// Formats a file that was read, with these bytes.
+// Formats a decoded file, which has these bytes.
 fn format_sheet<H: Host, O: Outputs, C: CheckLines>(
     alloc: Global,
     host: &mut H,
@@ -153,7 +153,7 @@ fn format_sheet<H: Host, O: Outputs, C: CheckLines>(
     Ok(())
 }
 
-// Formats a file with these bytes.
+// Decodes a file with these bytes, and formats it.
 fn format_bytes<H: Host, O: Outputs, C: CheckLines>(
     alloc: Global,
     host: &mut H,

@@ -70,8 +70,8 @@ fn parses_as(
     }
 }
 
-// The normal text of the requirement that a text was parsed as, if it is another one that parses
-// back.
+// The normal text of the requirement that `text` was parsed as, if it differs from `text` and parses
+// back to the same requirement.
 fn changed_text(
     text: &str,
     requirement: &Requirement<VerbatimUrl>,

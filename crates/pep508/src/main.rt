@@ -28,8 +28,8 @@ fn words(rt: &HostRuntime) -> io::Result<Vec<String>> {
     Ok(words)
 }
 
-// A random word, so that the author of a file cannot know how names are hashed. Zero if the system
-// has none.
+// A random word of the key of the tables of nodes, so that nobody can choose texts that collide in
+// them. Zero if the system has none.
 fn random_word(rt: &HostRuntime) -> u64 {
     let mut bytes = [0u8; 8];
     match rt.fill_bytes(&mut bytes) {

@@ -1,5 +1,5 @@
-//! The program `pep508`, for any machine and any disk: each of its commands, from the words of the
-//! command line to the status.
+//! The program `pep508`, for any machine and any disk: it runs the command of a command line, and
+//! returns the status.
 #![tactic(auto)]
 
 mod running;

@@ -30,53 +30,60 @@ fn run_format<H: Host, O: Outputs>(
     alloc: Global,
     host: &mut H,
     outputs: &mut O,
-    settings: CheckSettings<'_>,
+    key: [u64; 2],
+    folder: &str,
     command: &FormatCommand<'_>,
 ) -> u8 {
     let room = room_of(command.limit);
-    let mut checker = Checker::new(alloc, CheckSettings { room, ..settings });
-    let settings = FormatSettings {
-        folder: settings.folder,
-        key: settings.key,
+    let checks = CheckSettings {
+        folder,
+        key,
         room,
+        lists: false,
+        shows_values: false,
     };
+    let mut checker = Checker::new(alloc, checks);
+    let settings = FormatSettings { folder, key, room };
     run_format_command(alloc, host, outputs, &mut checker, command, settings)
 }
 
+// Runs `check`, `list`, `select` or `matrix`.
 fn run_request<H: Host>(
     alloc: Global,
     host: &mut H,
-    settings: CheckSettings<'_>,
+    key: [u64; 2],
+    folder: &str,
     matches: &ArgMatches<'_>,
     request: Request<'_>,
 ) -> u8 {
     let settings = CheckSettings {
+        folder,
+        key,
         room: room_of(request.limit),
         lists: request.task == Task::List,
         shows_values: request.shows_values,
-        ..settings
     };
     if let Some(command) = selection_command(matches) {
         return run_selection_command(alloc, host, &command, request, settings);
     }
     let mut checker = Checker::new(alloc, settings);
-    execute(alloc, host, &mut checker, request, settings.folder).status
+    execute(alloc, host, &mut checker, request, folder).status
 }
 
-// Runs a command that reads files. Requirements are checked as `settings` says, with what the
-// command says.
+// Runs a command that reads files.
 fn run_on_files<H: Host, O: Outputs>(
     alloc: Global,
     host: &mut H,
     outputs: &mut O,
-    settings: CheckSettings<'_>,
+    key: [u64; 2],
+    folder: &str,
     matches: &ArgMatches<'_>,
 ) -> u8 {
     if let Some(command) = format_command(matches) {
-        return run_format(alloc, host, outputs, settings, &command);
+        return run_format(alloc, host, outputs, key, folder, &command);
     }
     match read_request(alloc, host, matches) {
-        Ok(request) => run_request(alloc, host, settings, matches, request),
+        Ok(request) => run_request(alloc, host, key, folder, matches, request),
         Err(status) => status,
     }
 }
@@ -95,23 +102,14 @@ fn run_matches<H: Host, O: Outputs>(
         return run_draw_command(alloc, host, &command, key);
     }
     match current_folder(alloc, host) {
-        Ok(folder) => {
-            let settings = CheckSettings {
-                folder: folder.as_str(),
-                key,
-                room: usize::MAX,
-                lists: false,
-                shows_values: false,
-            };
-            run_on_files(alloc, host, outputs, settings, matches)
-        }
+        Ok(folder) => run_on_files(alloc, host, outputs, key, folder.as_str(), matches),
         Err(status) => status,
     }
 }
 
-/// Runs the command that these words name, of which the first is the name of the program, and
-/// returns the status of the program. Formatted files go to `outputs`. `key` are two random words,
-/// so that the author of a file cannot know how names are hashed.
+/// Runs the command of a command line, whose first word is the name of the program, and returns
+/// the status of the program. `fmt` writes to `outputs`. `key` is the key of the tables of nodes:
+/// two random words, so that nobody can choose texts that collide in them.
 pub fn run_words<H: Host, O: Outputs>(
     alloc: Global,
     host: &mut H,

@@ -1,4 +1,5 @@
-//! The program `pep508`, for any machine: its command line, its commands and its output.
+//! What the commands of the program `pep508` share: its command line, the machine and the output;
+//! and the commands `check` and `list`.
 #![tactic(auto)]
 
 mod arguments;

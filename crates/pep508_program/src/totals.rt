@@ -46,7 +46,7 @@ impl Tally {
         failures: 0,
     };
 
-    // The counts for people, with how many requirements and files were read.
+    // The summary, such as `1 error, 0 warnings in 1 requirement of 1 file`.
     pub(crate) fn summary(
         self,
         alloc: Global,

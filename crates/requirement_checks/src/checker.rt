@@ -108,8 +108,8 @@ fn finish(
     Ok(listed)
 }
 
-// Appends what comes behind the errors of a requirement: the faults of its options, and hints if it
-// was read. Lists it then.
+// Appends what follows the warnings or the error of a requirement: the faults of its options, and
+// hints if it was parsed. Returns its entry of the list.
 fn add_others(
     alloc: Global,
     job: Job<'_, '_, '_>,
@@ -123,7 +123,8 @@ fn add_others(
     ensures { OnOk result (AddsOthers job.entry findings.old findings.new) }
 {
     add_faults(alloc, job.page.file, job.line.faults.as_slice(), findings)?;
-    finish(alloc, job, read, surroundings, interner, earlier, findings)
+    let listed = finish(alloc, job, read, surroundings, interner, earlier, findings)?;
+    Ok(listed)
 }
 
 // Checks a requirement, whose marker is put into the interner.

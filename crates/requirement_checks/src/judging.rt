@@ -36,9 +36,8 @@ fn read_within<T: UnnamedRequirementUrl>(
     }
 }
 
-// Appends what is found in a parsed requirement: that its marker is too complex, if the interner
-// had no room for it.
-fn add_told<T: UnnamedRequirementUrl>(
+// Appends the findings of a reading. If there is none, the marker is too complex.
+fn add_reading<T: UnnamedRequirementUrl>(
     alloc: Global,
     page: &Page<'_, '_>,
     text: &str,
@@ -71,6 +70,6 @@ pub(crate) fn judge<T: UnnamedRequirementUrl>(
 {
     let alloc = interner.allocator();
     let read = read_within(text, form, surroundings, interner)?;
-    add_told(alloc, page, text, &read, findings)?;
+    add_reading(alloc, page, text, &read, findings)?;
     Ok(read)
 }

@@ -213,7 +213,7 @@ impl Members {
 }
 
 impl Group {
-    // Reads the first requirement, if it was not needed before and the interner has room for its
+    // Parses the first requirement, unless that was done before or the interner has no room for its
     // marker.
     fn read_first(
         &mut self,
@@ -232,8 +232,8 @@ impl Group {
         Ok(())
     }
 
-    // Adds a further requirement. Tells whether it may hold together with one of the others: never,
-    // if there is no room for the markers.
+    // Adds a further requirement. Returns an earlier one that may hold together with it, and `None`
+    // too if there is no room for the markers.
     fn join(
         &mut self,
         alloc: Global,
@@ -266,8 +266,8 @@ impl Earlier {
         }
     }
 
-    // Keeps a requirement with this name and text. Tells whether it may hold together with an
-    // earlier one: never, once there was no room for the marker of one.
+    // Keeps a requirement with this name and text. Returns an earlier one that may hold together with
+    // it, and `None` too once there was no room for the marker of one.
     pub(crate) fn meet(
         &mut self,
         alloc: Global,

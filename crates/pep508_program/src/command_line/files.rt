@@ -1,6 +1,6 @@
 //! The commands that read files.
 
-use super::described::{Argument, Described, Form, Value};
+use super::command_spec::{ArgumentSpec, CommandSpec, Form, Value};
 use super::shared::{
     COLOR, ENV, ENV_FILE, EXTRA, IMPLEMENTATION, PLATFORM, PYTHON, ROOM, VALUE_OF_KEY,
 };
@@ -28,13 +28,13 @@ pub const WARNINGS: [&str; 19] = [
     "not-fetched",
 ];
 
-const FILES: Argument = Argument {
+const FILES: ArgumentSpec = ArgumentSpec {
     name: "file",
     help: "The files to read; `-`, or none, is standard input",
-    form: Form::Places("FILE"),
+    form: Form::Positionals("FILE"),
 };
 
-const KIND: Argument = Argument {
+const KIND: ArgumentSpec = ArgumentSpec {
     name: "kind",
     help: "Read the named files as this, and not by their names",
     form: Form::Option(
@@ -43,38 +43,38 @@ const KIND: Argument = Argument {
     ),
 };
 
-const RECURSIVE: Argument = Argument {
+const RECURSIVE: ArgumentSpec = ArgumentSpec {
     name: "recursive",
     help: "Search folders, the current one if there is no FILE",
     form: Form::Flag,
 };
 
-const FORMAT: Argument = Argument {
+const FORMAT: ArgumentSpec = ArgumentSpec {
     name: "format",
     help: "Write text, or an object of JSON on each line",
-    form: Form::Option("FORMAT", Value::WordOrFirst(&["text", "json"])),
+    form: Form::Option("FORMAT", Value::WordWithDefault(&["text", "json"])),
 };
 
-const VARIABLE: Argument = Argument {
+const VARIABLE: ArgumentSpec = ArgumentSpec {
     name: "var",
     help: "Set a variable, which goes before the environment's",
     form: Form::Option("NAME=VALUE", Value::Texts),
 };
 
-const LIMIT: Argument = Argument {
+const LIMIT: ArgumentSpec = ArgumentSpec {
     name: "limit",
     help: "The room of each requirement; one that needs more is too complex",
     form: ROOM,
 };
 
-const SHOWS_VALUES: Argument = Argument {
+const SHOWS_VALUES: ArgumentSpec = ArgumentSpec {
     name: "show-values",
     help: "Show what the values of variables went into",
     form: Form::Flag,
 };
 
 /// `check`.
-pub(crate) const CHECK: Described = Described {
+pub(crate) const CHECK: CommandSpec = CommandSpec {
     name: "check",
     about: "Reports the errors and warnings of requirements files, metadata and projects",
     example: "Example: pep508 check --strict requirements.txt",
@@ -86,12 +86,12 @@ pub(crate) const CHECK: Described = Described {
         COLOR,
         VARIABLE,
         LIMIT,
-        Argument {
+        ArgumentSpec {
             name: "strict",
             help: "Fail on warnings too",
             form: Form::Flag,
         },
-        Argument {
+        ArgumentSpec {
             name: "ignore",
             help: "Do not report the warnings of this name",
             form: Form::Option("NAME", Value::Words(&WARNINGS)),
@@ -100,7 +100,7 @@ pub(crate) const CHECK: Described = Described {
 };
 
 /// `list`.
-pub(crate) const LIST: Described = Described {
+pub(crate) const LIST: CommandSpec = CommandSpec {
     name: "list",
     about: "Lists the requirements of requirements files, metadata and projects",
     example: "Example: pep508 list --format json requirements.txt",
@@ -113,7 +113,7 @@ pub(crate) const LIST: Described = Described {
         VARIABLE,
         LIMIT,
         SHOWS_VALUES,
-        Argument {
+        ArgumentSpec {
             name: "group",
             help: "List only this dependency group of a project, with the groups that it includes",
             form: Form::Option("NAME", Value::Text),
@@ -122,28 +122,28 @@ pub(crate) const LIST: Described = Described {
 };
 
 /// `fmt`.
-pub(crate) const FMT: Described = Described {
+pub(crate) const FMT: CommandSpec = CommandSpec {
     name: "fmt",
     about: "Writes each requirement of a requirements file in its normal text",
     example: "Example: pep508 fmt --check requirements.txt",
     arguments: &[
-        Argument {
+        ArgumentSpec {
             name: "file",
             help: "The requirements files to format; `-`, or none, is standard input",
-            form: Form::Places("FILE"),
+            form: Form::Positionals("FILE"),
         },
-        Argument {
+        ArgumentSpec {
             name: "check",
             help: "Name the lines that would change, and fail if there are some",
-            form: Form::FlagWithout("write"),
+            form: Form::FlagConflictingWith("write"),
         },
-        Argument {
+        ArgumentSpec {
             name: "write",
             help: "Replace each file that changes by its new text",
             form: Form::Flag,
         },
         COLOR,
-        Argument {
+        ArgumentSpec {
             name: "limit",
             help: "The room of each requirement; one that needs more is too complex, and stays",
             form: ROOM,
@@ -152,7 +152,7 @@ pub(crate) const FMT: Described = Described {
 };
 
 /// `select`.
-pub(crate) const SELECT: Described = Described {
+pub(crate) const SELECT: CommandSpec = CommandSpec {
     name: "select",
     about: "Lists the requirements that apply in an environment",
     example: "Example: pep508 select --python 3.12 --platform linux requirements.txt",
@@ -175,7 +175,7 @@ pub(crate) const SELECT: Described = Described {
 };
 
 /// `matrix`.
-pub(crate) const MATRIX: Described = Described {
+pub(crate) const MATRIX: CommandSpec = CommandSpec {
     name: "matrix",
     about: "Tells in which of several environments requirements apply",
     example: "Example: pep508 matrix --python 3.9,3.12 --platform linux,windows requirements.txt",
@@ -183,25 +183,25 @@ pub(crate) const MATRIX: Described = Described {
         FILES,
         KIND,
         RECURSIVE,
-        Argument {
+        ArgumentSpec {
             name: "format",
             help: "Write columns, an object of JSON on each line, or comma-separated values",
-            form: Form::Option("FORMAT", Value::WordOrFirst(&["text", "json", "csv"])),
+            form: Form::Option("FORMAT", Value::WordWithDefault(&["text", "json", "csv"])),
         },
         COLOR,
         VARIABLE,
         LIMIT,
-        Argument {
+        ArgumentSpec {
             name: "python",
             help: "Versions of Python, such as 3.9,3.10",
             form: Form::Option("VERSIONS", Value::Text),
         },
-        Argument {
+        ArgumentSpec {
             name: "platform",
             help: "Platforms: some of linux,macos,windows",
             form: Form::Option("NAMES", Value::Text),
         },
-        Argument {
+        ArgumentSpec {
             name: "env",
             help: "The value of a key in all environments",
             form: VALUE_OF_KEY,
