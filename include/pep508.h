@@ -7,7 +7,7 @@
    bytes of a struct pep508_text are never NULL, so an empty one is
    PEP508_TEXT(""). A text that is invalid UTF-8 is answered by PEP508_NOT_UTF8.
 
-   Every call returns a number of enum pep508_answer.
+   Every call except pep508_interner_free returns a number of enum pep508_answer.
    A call writes its results only if it answers PEP508_DONE, unless its comment
    says more.
 
@@ -15,15 +15,18 @@
    `needed` how many bytes there are. It writes all of them to the start of the
    buffer, without a NUL, or none if the buffer is too small, and then answers
    PEP508_BUFFER_TOO_SMALL: call again with a buffer of `needed` bytes. A buffer
-   of length 0 may be NULL. With any other answer `needed` is 0.
+   of length 0 may be NULL. With any other answer `needed` is 0. Only
+   pep508_requirement_check differs, as its comment says.
 
    Options are NULL with the count 0 for the defaults, or a pointer to one
    struct pep508_options with the count 1.
 
    Pointers to other parameters are not NULL, and what a call writes does not
    overlap what it reads or other results. A call reads and writes nothing else,
-   keeps no pointer to its parameters, and does not print, read the environment or end the process
-   (a build by `build_library --now` stops at an overflow or a bad access).
+   keeps no pointer to its parameters, and does not print or read the
+   environment. A marker of many thousand variables can exhaust the stack (8 MB
+   at some 13,700). A build by `build_library --now` stops at an overflow or a
+   bad access.
    Memory comes from malloc, and each refusal is answered by
    PEP508_OUT_OF_MEMORY. Calls may run in any number of threads at a time, but
    only one at a time with the same struct pep508_interner. */
@@ -47,18 +50,20 @@ enum pep508_answer {
     PEP508_NUMBER_TOO_LARGE = 5, /* a version in the marker has the number
                                     18446744073709551615 where the next one
                                     is needed */
-    PEP508_INVALID_ARGUMENT = 6, /* a value or a bound is no version, an extra
-                                    is no name, or the options are not one
-                                    struct of this size */
+    PEP508_INVALID_ARGUMENT = 6, /* a value or a bound is invalid, an extra is
+                                    no name, or the options are not one struct
+                                    of this size */
     PEP508_TOO_COMPLEX = 7,      /* more nodes or looks than the options allow */
     PEP508_NO_SUCH_MARKER = 8,   /* no marker of the interner has this number */
     PEP508_SHUT = 9,             /* the interner is shut */
     PEP508_NO_ENVIRONMENT = 10   /* no environment was set */
 };
 
-/* How two markers relate: the first of the list that is true. */
+/* How two markers relate: the first of the list that is true. Keys, substring
+   tests and extras are taken to be independent of one another, and no range
+   between two different values is taken to be empty. */
 enum pep508_relation {
-    PEP508_EQUAL = 0,                /* true in the same environments */
+    PEP508_EQUAL = 0,                /* true for the same values */
     PEP508_DISJOINT = 1,             /* never true together */
     PEP508_FIRST_IMPLIES_SECOND = 2, /* where the first is true, so is the second */
     PEP508_SECOND_IMPLIES_FIRST = 3, /* where the second is true, so is the first */
@@ -80,7 +85,8 @@ struct pep508_options {
     size_t pieces;   /* room for nodes: how many edges the nodes of an interner
                         may have, or 0 for 1,000,000 */
     size_t looks;    /* how many pairs of nodes a question of disjointness may
-                        look at, or 0 for 10,000,000 */
+                        look at, or 0 for 10,000,000; lines of pep508_serve
+                        have no such limit */
     struct pep508_text working_folder; /* the folder that relative paths in
                         requirements start from and that ${PROJECT_ROOT} stands
                         for, or an empty text for none */
@@ -242,11 +248,11 @@ int32_t pep508_marker_or(struct pep508_interner *handle, size_t a, size_t b,
 int32_t pep508_marker_not(struct pep508_interner *handle, size_t a,
                           size_t *number);
 
-/* Writes whether two markers are true in the same environments. */
+/* Writes whether two markers are equal, as PEP508_EQUAL has it. */
 int32_t pep508_marker_equal(struct pep508_interner *handle, size_t a, size_t b,
                             bool *value);
 
-/* Writes whether two markers are never true together. */
+/* Writes whether two markers are disjoint, as PEP508_DISJOINT has it. */
 int32_t pep508_marker_disjoint(struct pep508_interner *handle, size_t a, size_t b,
                                bool *value);
 
