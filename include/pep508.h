@@ -53,7 +53,8 @@ enum pep508_answer {
     PEP508_INVALID_ARGUMENT = 6, /* a value or a bound is invalid, an extra is
                                     no name, or the options are not one struct
                                     of this size */
-    PEP508_TOO_COMPLEX = 7,      /* more nodes or looks than the options allow */
+    PEP508_TOO_COMPLEX = 7,      /* more nodes, terms or looks than the options
+                                    allow */
     PEP508_NO_SUCH_MARKER = 8,   /* no marker of the interner has this number */
     PEP508_SHUT = 9,             /* the interner is shut */
     PEP508_NO_ENVIRONMENT = 10   /* no environment was set */
@@ -82,8 +83,9 @@ struct pep508_options {
     uint64_t key[2]; /* the key of the hash tables: whoever takes texts from
                         strangers fills it from a source of random bytes, such
                         as getrandom; two zeros are a fixed key */
-    size_t pieces;   /* room for nodes: how many edges the nodes of an interner
-                        may have, or 0 for 1,000,000 */
+    size_t pieces;   /* room: how many edges the nodes of an interner may have,
+                        and how many terms the clauses of a text, redundant ones
+                        included; or 0 for 1,000,000 */
     size_t looks;    /* how many pairs of nodes a question of disjointness may
                         look at, or 0 for 10,000,000; lines of pep508_serve
                         have no such limit */
@@ -212,8 +214,8 @@ int32_t pep508_serve(const char *script, size_t length,
    before.
 
    `pieces` of the options limits the nodes of all markers of an interner together.
-   Once that has made it answer PEP508_TOO_COMPLEX, it answers so too when malloc
-   returns NULL for a node. */
+   Once there was no room for a node, it answers PEP508_TOO_COMPLEX also when
+   malloc returns NULL for one. */
 
 /* Opens an interner without markers. One that is open is freed before, if the call
    answers PEP508_DONE. */

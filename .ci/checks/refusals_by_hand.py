@@ -34,6 +34,7 @@ HANDED_ON = {
     "crates/foreign_markers/src/markers.rt": 2,
     "crates/foreign_markers/src/script.rt": 1,
     "crates/line_server/src/serving.rt": 2,
+    "crates/marker_answers/src/simplifying.rt": 2,
     "crates/marker_commands/src/environments.rt": 2,
     "crates/marker_commands/src/files.rt": 1,
     "crates/marker_commands/src/outcome.rt": 2,

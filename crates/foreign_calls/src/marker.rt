@@ -43,6 +43,18 @@ pub fn out_of_memory(interner: &Interner) -> Answer
     }
 }
 
+/// The answer where the text of a marker could not be made: `TooComplex` if the interner has no
+/// room for it, else `OutOfMemory`.
+pub(crate) fn no_text(tree: MarkerTree, interner: &Interner) -> Answer
+    requires { IsHeld interner.now tree }
+    ensures { IsOutOfMemory result }
+{
+    match tree.has_room_for_text(interner) {
+        Ok(false) => Answer::TooComplex,
+        _ => Answer::OutOfMemory,
+    }
+}
+
 /// Parses a marker into the interner.
 #[tactic(auto, using(crate::proofs::MarkerLaws::refused, crate::proofs::MarkerLaws::said))]
 pub fn parse_marker(text: &str, interner: &mut Interner) -> Result<MarkerTree, Answer>
@@ -68,7 +80,7 @@ pub fn marker_text(tree: MarkerTree, interner: &Interner) -> Result<String, Answ
     match tree.try_to_string(interner) {
         Ok(Some(text)) => Ok(text),
         Ok(None) => Ok(String::new(interner.allocator())),
-        Err(_) => Err(Answer::OutOfMemory),
+        Err(_) => Err(no_text(tree, interner)),
     }
 }
 

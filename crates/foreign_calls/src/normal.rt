@@ -7,6 +7,7 @@ ghost use Rattle.foreign_calls.specs.declared.answer.Answer.TheVariants.{BufferT
 ghost use Rattle.foreign_calls.specs.Reading.{IsNoRequirement, IsRequirementRefusal, Overflows};
 ghost use Rattle.foreign_calls.specs.Requirement.{IsNormal};
 
+use crate::marker::no_text;
 use crate::reading::parse_or_answer;
 use crate::{Answer, Options, Settings, hand_over, read_text};
 use marker_graph::Interner;
@@ -22,7 +23,7 @@ fn normal_text(text: &str, folder: &str, interner: &mut Interner) -> Result<Stri
     let requirement = parse_or_answer(text, folder, interner)?;
     match requirement.try_to_string(interner) {
         Ok(normal) => Ok(normal),
-        Err(AllocError) => Err(Answer::OutOfMemory),
+        Err(AllocError) => Err(no_text(requirement.marker, interner)),
     }
 }
 

@@ -11,6 +11,7 @@ ghost use Rattle.foreign_calls.specs.Reading.{IsNoRequirement, IsRequirementRefu
 ghost use Rattle.foreign_calls.specs.Requirement.{ArePartsIn, ArePartsOf, specifiers_of, url_of};
 
 use crate::json::Parts;
+use crate::marker::no_text;
 use crate::reading::parse_or_answer;
 use crate::{Answer, Options, Settings, hand_over, read_text};
 use marker_graph::Interner;
@@ -69,7 +70,7 @@ fn parts_json(text: &str, folder: &str, interner: &mut Interner) -> Result<Strin
     let requirement = parse_or_answer(text, folder, interner)?;
     match parts_in(&requirement, interner) {
         Ok(json) => Ok(json),
-        Err(AllocError) => Err(Answer::OutOfMemory),
+        Err(AllocError) => Err(no_text(requirement.marker, interner)),
     }
 }
 

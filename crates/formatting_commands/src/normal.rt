@@ -52,6 +52,28 @@ fn print(requirement: &Requirement<VerbatimUrl>, interner: &Interner) -> Result<
     }
 }
 
+// Whether the interner has no room for the text of the requirement.
+fn lacks_room(requirement: &Requirement<VerbatimUrl>, interner: &Interner) -> bool
+    requires { IsHeld interner.now requirement.now.marker }
+{
+    matches!(requirement.marker.has_room_for_text(interner), Ok(false))
+}
+
+// Prints the requirement with its URL as it was given. `None` if the interner has no room for its
+// text.
+fn print_within(
+    requirement: &Requirement<VerbatimUrl>,
+    interner: &Interner,
+) -> Result<Option<String>, AllocError>
+    requires { IsHeld interner.now requirement.now.marker }
+{
+    match print(requirement, interner) {
+        Ok(text) => Ok(Some(text)),
+        Err(_) if lacks_room(requirement, interner) => Ok(None),
+        Err(error) => Err(error),
+    }
+}
+
 // Whether a new text parses as the same requirement.
 fn parses_as(
     new: &str,
@@ -70,8 +92,8 @@ fn parses_as(
     }
 }
 
-// The normal text of the requirement that `text` was parsed as, if it differs from `text` and parses
-// back to the same requirement.
+// The normal text of the requirement that `text` was parsed as, if it differs from `text` and
+// parses back to the same requirement.
 fn changed_text(
     text: &str,
     requirement: &Requirement<VerbatimUrl>,
@@ -82,7 +104,9 @@ fn changed_text(
     requires parsed { IsParsedIn surroundings.now interner.old text.now requirement.now }
     ensures { IfOk result (λ new. IfSome new (IsSameString surroundings.now text.now)) }
 {
-    let new = print(requirement, interner)?;
+    let Some(new) = print_within(requirement, interner)? else {
+        return Ok(None);
+    };
     if new.as_str() != text && parses_as(new.as_str(), requirement, surroundings, interner)? {
         Ok(Some(new))
     } else {
@@ -93,8 +117,9 @@ fn changed_text(
 /// Returns the normal text of a requirement with a name, with its URL as it is given, if that is
 /// another text that parses back to the same requirement.
 ///
-/// `None` also if the text is not such a requirement, its marker needs more room than the interner
-/// has, a comparison of the marker is dropped with a warning, or a variable is outside of the URL.
+/// `None` also if the text is not such a requirement, its marker or the new text needs more room
+/// than the interner has, a comparison of the marker is dropped with a warning, or a variable is
+/// outside of the URL.
 pub fn normal_text(
     text: &str,
     surroundings: &Surroundings<'_>,

@@ -34,22 +34,56 @@ pub enum MarkerAnswer {
     Text(String),
 }
 
+/// What a call ran out of.
+#[derive(Clone, Copy, Debug, PartialEq, Eq)]
+pub enum Shortage {
+    /// Memory.
+    Memory,
+    /// Room of the interner: for nodes, or for the clauses of a text.
+    Room,
+}
+
 /// What is left of a marker where something is granted. In the range it means what the marker
 /// means with the extras; with `requires_python` it is false outside of the range.
 ///
 /// # Errors
-/// `AllocError` if memory runs out or the interner has no room.
+/// A [`Shortage`] if memory runs out or the interner has no room.
 pub fn simplify(
     interner: &mut Interner,
     marker: MarkerTree,
     granted: Granted<'_>,
-) -> Result<MarkerAnswer, AllocError>
+) -> Result<MarkerAnswer, Shortage>
     requires { IsHeld interner.old marker }
     ensures kept { IsKept interner.old interner.new }
     ensures answer { IfOk result (IsSimplified (truth interner.new marker) granted.entry) }
 {
-    let left = grant(interner, marker, granted)?;
-    answer_of(interner, left)
+    let left = match grant(interner, marker, granted) {
+        Ok(left) => left,
+        Err(AllocError) => return Err(shortage_of(interner)),
+    };
+    match answer_of(interner, left) {
+        Ok(answer) => Ok(answer),
+        Err(AllocError) => Err(shortage_of_text(interner, left)),
+    }
+}
+
+// Why there was no memory for a node.
+fn shortage_of(interner: &Interner) -> Shortage {
+    if interner.has_met_room() {
+        Shortage::Room
+    } else {
+        Shortage::Memory
+    }
+}
+
+// Why there was no memory for the text of a marker.
+fn shortage_of_text(interner: &Interner, marker: MarkerTree) -> Shortage
+    requires { IsHeld interner.now marker }
+{
+    match marker.has_room_for_text(interner) {
+        Ok(false) => Shortage::Room,
+        _ => Shortage::Memory,
+    }
 }
 
 // The marker where something is granted.

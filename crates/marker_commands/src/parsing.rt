@@ -46,9 +46,21 @@ pub fn refuse(
 pub fn out_of_memory(interner: &Interner, given: &GivenMarker<'_>, messages: &mut String) -> Outcome
     ensures { IsShort result }
 {
-    if !interner.has_met_room() {
-        return Outcome::OutOfMemory;
+    if interner.has_met_room() {
+        too_complex(interner, given, messages)
+    } else {
+        Outcome::OutOfMemory
     }
+}
+
+/// Appends that a marker is too complex, and returns how the command ends.
+pub(crate) fn too_complex(
+    interner: &Interner,
+    given: &GivenMarker<'_>,
+    messages: &mut String,
+) -> Outcome
+    ensures { IsShort result }
+{
     told(
         Outcome::TooComplex,
         given.add_too_complex(interner.allocator(), messages),

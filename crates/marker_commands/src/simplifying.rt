@@ -6,10 +6,10 @@ ghost use Rattle.marker_commands.specs.Outcome.{IsRefusalOf};
 
 use crate::messages::GivenMarker;
 use crate::outcome::{Outcome, Reply};
-use crate::parsing::{out_of_memory, parse_marker};
+use crate::parsing::{parse_marker, too_complex};
 use crate::ranges::PythonRange;
 use crate::settings::Settings;
-use marker_answers::{Granted, MarkerAnswer, simplify};
+use marker_answers::{Granted, MarkerAnswer, Shortage, simplify};
 use marker_graph::Interner;
 use pep508_names::ExtraName;
 use std::alloc::Global;
@@ -46,7 +46,8 @@ fn rest_of(
     };
     match simplify(interner, tree, granted) {
         Ok(answer) => Ok(answer),
-        Err(_) => Err(out_of_memory(interner, given, messages)),
+        Err(Shortage::Room) => Err(too_complex(interner, given, messages)),
+        Err(Shortage::Memory) => Err(Outcome::OutOfMemory),
     }
 }
 

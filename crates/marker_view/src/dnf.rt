@@ -22,7 +22,7 @@ use std::alloc::AllocError;
 /// They are the paths of the marker in the order of its edges, without redundant terms and clauses.
 /// There may be as many clauses as the marker has paths. All paths together may have as many terms
 /// as the interner has room for pieces of nodes; beyond that the call fails as when memory runs
-/// out.
+/// out, and [`has_room_for_text`](crate::has_room_for_text) returns `false`.
 pub fn to_dnf(
     interner: &Interner,
     tree: MarkerTree,

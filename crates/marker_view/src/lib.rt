@@ -9,10 +9,12 @@
 mod branch;
 mod dnf;
 pub mod laws;
+mod room;
 mod text;
 mod view;
 mod walk;
 
 pub use dnf::{to_dnf, top_level_extra};
+pub use room::has_room_for_text;
 pub use text::try_to_string;
 pub use view::MarkerTreeView;

@@ -39,6 +39,7 @@ fn run_format<H: Host, O: Outputs>(
         folder,
         key,
         room,
+        prints: true,
         lists: false,
         shows_values: false,
     };
@@ -60,6 +61,7 @@ fn run_request<H: Host>(
         folder,
         key,
         room: room_of(request.limit),
+        prints: request.task == Task::List,
         lists: request.task == Task::List,
         shows_values: request.shows_values,
     };

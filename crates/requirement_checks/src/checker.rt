@@ -35,6 +35,8 @@ pub struct CheckSettings<'s> {
     /// How many pieces the nodes of a marker may have. Hints have as much room again for what they
     /// remember.
     pub room: usize,
+    /// Whether requirements are printed. Then one whose text needs more room is too complex.
+    pub prints: bool,
     /// Whether `listed` is needed.
     pub lists: bool,
     /// Whether values of variables may be listed.
@@ -53,6 +55,7 @@ struct Job<'a, 'f, 'o> {
     origin: Option<Origin<'o>>,
     // The number of the line.
     number: usize,
+    prints: bool,
     lists: bool,
     shows_values: bool,
 }
@@ -142,6 +145,7 @@ fn check_within(
         &job.page,
         job.text,
         job.form,
+        job.prints,
         surroundings,
         interner,
         findings,
@@ -253,6 +257,7 @@ impl<'s> Checker<'s> {
             is_constraint,
             origin: None,
             number,
+            prints: self.settings.prints,
             lists: self.settings.lists,
             shows_values: self.settings.shows_values,
         };
@@ -312,6 +317,7 @@ impl CheckLines for Checker<'_> {
             is_constraint: false,
             origin: Some(origin),
             number: 0,
+            prints: self.settings.prints,
             lists: self.settings.lists,
             shows_values: self.settings.shows_values,
         };

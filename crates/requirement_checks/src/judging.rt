@@ -9,14 +9,31 @@ use crate::part::Page;
 use crate::reading::{Form, Reading, read_named, read_requirement, read_unnamed};
 use marker_graph::Interner;
 use pep508_errors::Surroundings;
+use pep508_markers::MarkerText;
 use pep508_urls::UnnamedRequirementUrl;
 use requirement_findings::Finding;
 use std::alloc::{AllocError, Global};
 
-// Parses the text. `None` if the interner has no room for its marker.
+// Whether the interner has room for the text of what was parsed.
+fn has_room_for_text<T: UnnamedRequirementUrl>(
+    reading: &Reading<T>,
+    interner: &Interner,
+) -> Result<bool, AllocError>
+    requires { HoldsMarker interner.now reading.now }
+{
+    match reading {
+        Reading::Named(named, _) => named.marker.has_room_for_text(interner),
+        Reading::Unnamed(unnamed, _) => unnamed.marker.has_room_for_text(interner),
+        Reading::Invalid(_) | Reading::NumberTooLarge => Ok(true),
+    }
+}
+
+// Parses the text. `None` if the interner has no room for its marker, or for a text that is to be
+// printed.
 fn read_within<T: UnnamedRequirementUrl>(
     text: &str,
     form: Form,
+    prints: bool,
     surroundings: &Surroundings<'_>,
     interner: &mut Interner,
 ) -> Result<Option<Reading<T>>, AllocError>
@@ -30,7 +47,12 @@ fn read_within<T: UnnamedRequirementUrl>(
         Form::Unnamed => read_unnamed(text, surroundings, interner),
     };
     match read {
-        Ok(reading) => Ok(Some(reading)),
+        Ok(reading) => {
+            if prints && !has_room_for_text(&reading, interner)? {
+                return Ok(None);
+            }
+            Ok(Some(reading))
+        }
         Err(_) if interner.has_met_room() => Ok(None),
         Err(error) => Err(error),
     }
@@ -53,12 +75,13 @@ fn add_reading<T: UnnamedRequirementUrl>(
 }
 
 // Checks the text of a requirement by the library's parsers, and appends the findings: each warning
-// of its marker, or its error. `None` if the interner has no room for the marker, which is then the
-// finding.
+// of its marker, or its error. `None` if the interner has no room for the marker, or for a text
+// that is to be printed, which is then the finding.
 pub(crate) fn judge<T: UnnamedRequirementUrl>(
     page: &Page<'_, '_>,
     text: &str,
     form: Form,
+    prints: bool,
     surroundings: &Surroundings<'_>,
     interner: &mut Interner,
     findings: &mut Vec<Finding>,
@@ -69,7 +92,7 @@ pub(crate) fn judge<T: UnnamedRequirementUrl>(
     ensures told { IfOk result (λ read. Gains (names_told read) findings.old findings.new) }
 {
     let alloc = interner.allocator();
-    let read = read_within(text, form, surroundings, interner)?;
+    let read = read_within(text, form, prints, surroundings, interner)?;
     add_reading(alloc, page, text, &read, findings)?;
     Ok(read)
 }

@@ -266,8 +266,8 @@ impl Earlier {
         }
     }
 
-    // Keeps a requirement with this name and text. Returns an earlier one that may hold together with
-    // it, and `None` too once there was no room for the marker of one.
+    // Keeps a requirement with this name and text. Returns an earlier one that may hold together
+    // with it, and `None` too once there was no room for the marker of one.
     pub(crate) fn meet(
         &mut self,
         alloc: Global,
