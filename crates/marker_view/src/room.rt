@@ -48,7 +48,8 @@ fn paths_of(
         return Ok(*paths);
     }
     let mut paths = Paths::NONE;
-    for branch in branches(interner, tree)? {
+    let found = branches(interner, tree)?;
+    for branch in found {
         let below = paths_of(interner, branch.child, known)?;
         for clause in &branch.clauses {
             paths = paths.and(clause.len(), below);
