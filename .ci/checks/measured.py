@@ -1,4 +1,4 @@
-"""Programs as they are measured, and what they are measured on.
+"""Programs as they are measured, what they are measured on, and how slow a processor is.
 
 A proof takes long, so a program is measured as `rt try` compiles it, but at `-O2`, without the
 checks of memory, and with nothing in place of each other check: so it is near a proved one.
@@ -9,6 +9,7 @@ from __future__ import annotations
 import random
 import re
 import subprocess
+import time
 from collections.abc import Iterator
 from pathlib import Path
 
@@ -37,6 +38,9 @@ AS_PROVED = {
 }
 ATTRIBUTES = {"never": "noinline", "always": "alwaysinline"}
 TOTAL = re.compile(r"Collected : (\d+)")
+# The seconds of a processor that the work of `slowness` takes where the text of 800 extras joined by
+# `or` takes 0.17, as docs/SPEED.md has it. All limits of seconds were set there.
+THERE = 0.095
 
 
 def compiled(repository: Repository, program: str, room: Path) -> Path | None:
@@ -216,3 +220,15 @@ def read(text: str) -> dict[str, int]:
     """The counts that are kept, by their names."""
     found = (line.rpartition(": ") for line in text.splitlines() if not line.startswith("#"))
     return {name: int(count) for name, _, count in found}
+
+
+def slowness() -> float:
+    """How many times as long a fixed work takes a processor now as one for which the limits of
+    seconds were set, or 1 where it takes less. Processors differ by more than twice, and what runs
+    beside a program slows it, on this machine or on another that shares its processors. The work
+    makes texts and sorts them, so it reads all over the memory, as a program does that looks up
+    nodes."""
+    begun = time.process_time()
+    texts = {f"{number * 7_919 % 100_003:x}": number for number in range(100_003)}
+    sorted(texts, reverse=True)
+    return max(1.0, (time.process_time() - begun) / THERE)

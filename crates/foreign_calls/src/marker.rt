@@ -15,6 +15,7 @@ use crate::environment::{Environment, read_environment, read_names};
 use crate::options::{Options, Settings, read_text};
 use marker_environment::MarkerEnvironment;
 use marker_graph::{Interner, MarkerTree};
+use marker_view::has_room_for_text;
 use pep508_markers::MarkerText;
 use pep508_names::ExtraName;
 use refusal::Refusal;
@@ -49,7 +50,7 @@ pub(crate) fn no_text(tree: MarkerTree, interner: &Interner) -> Answer
     requires { IsHeld interner.now tree }
     ensures { IsOutOfMemory result }
 {
-    match tree.has_room_for_text(interner) {
+    match has_room_for_text(interner, tree) {
         Ok(false) => Answer::TooComplex,
         _ => Answer::OutOfMemory,
     }

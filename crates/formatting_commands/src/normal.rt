@@ -7,6 +7,7 @@ ghost use Rattle.formatting_commands.specs.Same.{IsParsedIn, IsSameString, Tells
 use crate::parsing::{given_url, parse_whole};
 use crate::same::is_same;
 use marker_graph::{Interner, MarkerTree};
+use marker_view::has_room_for_text;
 use pep508_errors::Surroundings;
 use pep508_markers::MarkerText;
 use pep508_requirements::Requirement;
@@ -56,7 +57,7 @@ fn print(requirement: &Requirement<VerbatimUrl>, interner: &Interner) -> Result<
 fn lacks_room(requirement: &Requirement<VerbatimUrl>, interner: &Interner) -> bool
     requires { IsHeld interner.now requirement.now.marker }
 {
-    matches!(requirement.marker.has_room_for_text(interner), Ok(false))
+    matches!(has_room_for_text(interner, requirement.marker), Ok(false))
 }
 
 // Prints the requirement with its URL as it was given. `None` if the interner has no room for its

@@ -5,6 +5,7 @@ ghost use Rattle.marker_graph.specs.Contents.{IsHeld, IsKept, truth};
 ghost use Rattle.marker_answers.specs.Simplified.{IsGranted, IsSimplified, Shows};
 
 use marker_graph::{Interner, MarkerTree};
+use marker_view::has_room_for_text;
 use pep440_version::Version;
 use pep508_markers::MarkerText;
 use pep508_names::ExtraName;
@@ -80,7 +81,7 @@ fn shortage_of(interner: &Interner) -> Shortage {
 fn shortage_of_text(interner: &Interner, marker: MarkerTree) -> Shortage
     requires { IsHeld interner.now marker }
 {
-    match marker.has_room_for_text(interner) {
+    match has_room_for_text(interner, marker) {
         Ok(false) => Shortage::Room,
         _ => Shortage::Memory,
     }

@@ -108,13 +108,6 @@ pub trait MarkerText: Sized {
         requires { IsHeld interner.now (tree self) }
         ensures { IfOk result (TellsTree interner.now (tree self)) };
 
-    /// Returns whether the interner has room for as many pieces of nodes as the clauses of the
-    /// marker have terms, redundant ones included. If not, [`MarkerText::to_dnf`] and
-    /// [`MarkerText::try_to_string`] fail as when memory runs out. This takes time and memory for
-    /// each node of the marker, and not for each clause.
-    fn has_room_for_text(self, interner: &Interner) -> Result<bool, AllocError>
-        requires { IsHeld interner.now (tree self) };
-
     /// Returns the first `extra == '..'` of each clause of [`MarkerText::to_dnf`], if there is a
     /// clause and all have the same.
     final fn top_level_extra(
@@ -173,10 +166,6 @@ impl MarkerText for MarkerTree {
 
     fn try_to_string(self, interner: &Interner) -> Result<Option<String>, AllocError> {
         marker_view::try_to_string(interner, self)
-    }
-
-    fn has_room_for_text(self, interner: &Interner) -> Result<bool, AllocError> {
-        marker_view::has_room_for_text(interner, self)
     }
 }
 

@@ -44,7 +44,7 @@ pub use crate::marker::{
     MarkerWarningKind, PackageName, Pep508Error, Pep508ErrorSource, Pep508Url, Reason, Refusal,
     Reply, ReportTo, Reporter, Session, StringEdges, StringMarkerTree, StringVersion, Surroundings,
     TextVariable, TracingReporter, TruthVariable, Version, VersionEdges, VersionMarkerTree,
-    VersionSpecifier, VersionVariable, ser,
+    VersionSpecifier, VersionVariable, has_room_for_text, ser,
 };
 pub use pep440_rs;
 pub use pep508_requirements::{

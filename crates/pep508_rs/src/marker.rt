@@ -12,4 +12,5 @@ pub use marker_parts::{
     Pep508ErrorSource, Pep508Url, Refusal, ReportTo, Reporter, StringVersion, Surroundings,
     TextVariable, TracingReporter, Version, VersionSpecifier, VersionVariable,
 };
+pub use marker_view::has_room_for_text;
 pub use pep508_markers::{Command, MarkerText, MarkerTreeView, Reason, Reply, Session, ser};

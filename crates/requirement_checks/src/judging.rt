@@ -8,22 +8,22 @@ use crate::messages::{add_findings, add_too_complex};
 use crate::part::Page;
 use crate::reading::{Form, Reading, read_named, read_requirement, read_unnamed};
 use marker_graph::Interner;
+use marker_view::has_room_for_text;
 use pep508_errors::Surroundings;
-use pep508_markers::MarkerText;
 use pep508_urls::UnnamedRequirementUrl;
 use requirement_findings::Finding;
 use std::alloc::{AllocError, Global};
 
 // Whether the interner has room for the text of what was parsed.
-fn has_room_for_text<T: UnnamedRequirementUrl>(
+fn can_be_printed<T: UnnamedRequirementUrl>(
     reading: &Reading<T>,
     interner: &Interner,
 ) -> Result<bool, AllocError>
     requires { HoldsMarker interner.now reading.now }
 {
     match reading {
-        Reading::Named(named, _) => named.marker.has_room_for_text(interner),
-        Reading::Unnamed(unnamed, _) => unnamed.marker.has_room_for_text(interner),
+        Reading::Named(named, _) => has_room_for_text(interner, named.marker),
+        Reading::Unnamed(unnamed, _) => has_room_for_text(interner, unnamed.marker),
         Reading::Invalid(_) | Reading::NumberTooLarge => Ok(true),
     }
 }
@@ -48,7 +48,7 @@ fn read_within<T: UnnamedRequirementUrl>(
     };
     match read {
         Ok(reading) => {
-            if prints && !has_room_for_text(&reading, interner)? {
+            if prints && !can_be_printed(&reading, interner)? {
                 return Ok(None);
             }
             Ok(Some(reading))
