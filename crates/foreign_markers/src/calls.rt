@@ -182,7 +182,7 @@ impl Handle {
 
 // Questions about markers.
 impl Handle {
-    /// Writes whether two markers are true in the same environments.
+    /// Writes whether two markers agree at every valuation.
     #[tactic(auto, using(crate::proofs::HandleLaws::laws))]
     pub fn equal(&mut self, a: usize, b: usize, value: &mut bool) -> Answer
         ensures done { result ≡ Done → HasAnswer (machine.equal a b) value.new self.old }
@@ -202,7 +202,7 @@ impl Handle {
         }
     }
 
-    /// Writes whether two markers are never true together.
+    /// Writes whether two markers are disjoint: no valuation satisfies both.
     #[tactic(auto, using(crate::proofs::HandleLaws::laws))]
     pub fn disjoint(&mut self, a: usize, b: usize, value: &mut bool) -> Answer
         ensures done { result ≡ Done → HasAnswer (machine.disjoint a b) value.new self.old }

@@ -34,7 +34,7 @@ fn read_again(
 }
 
 impl Markers {
-    /// Returns whether two markers are true in the same environments.
+    /// Returns whether two markers agree at every valuation.
     #[tactic(auto, using(crate::proofs::NumberLaws::missing_two))]
     pub fn equal(&self, a: usize, b: usize) -> Result<bool, Answer>
         ensures told { IfOk result (Tells (truths_of self.now) (machine.equal a b)) }

@@ -113,7 +113,7 @@ pub extern "C" fn pep508_marker_not(handle: &mut Handle, a: usize, number: &mut 
     handle.not(a, number).code()
 }
 
-/// Writes whether two markers are true in the same environments.
+/// Writes whether two markers agree at every valuation.
 #[unsafe(no_mangle)]
 pub extern "C" fn pep508_marker_equal(
     handle: &mut Handle,
@@ -129,7 +129,7 @@ pub extern "C" fn pep508_marker_equal(
     handle.equal(a, b, value).code()
 }
 
-/// Writes whether two markers are never true together.
+/// Writes whether two markers are disjoint: no valuation satisfies both.
 #[unsafe(no_mangle)]
 pub extern "C" fn pep508_marker_disjoint(
     handle: &mut Handle,
